@@ -1,0 +1,15 @@
+use borrow.Author.Needs.{needs}
+use Rattle.primitive.proofs.table.output_width.Statement.{statement}
+use Rattle.primitive.proofs.table.output_width.Tie as tie
+use Rattle.primitive.proofs.table.output_width.Reads as reads
+use Rattle.primitive.proofs.table.output_width.Lts as lts
+use Rattle.primitive.proofs.table.row_of.Reads as row-of-reads
+
+row-of-requires : tie.Need-row-of-requires
+row-of-requires c κs = search needs
+
+returns : tie.Need-returns
+returns c = rw (c .row-of .ensures)
+
+pub output-width-spec : {M : Type 1} → statement M
+output-width-spec = tie.close (tie.spec row-of-requires returns)

@@ -1,0 +1,15 @@
+use borrow.Author.Needs.{needs}
+use Rattle.primitive.proofs.table.values.Statement.{statement}
+use Rattle.primitive.proofs.table.values.Tie as tie
+use Rattle.primitive.proofs.table.values.Reads as reads
+use Rattle.primitive.proofs.table.values.Lts as lts
+use Rattle.value.proofs.largest.Reads as largest-reads
+
+largest-requires : tie.Need-largest-requires
+largest-requires c κs = search needs
+
+returns : tie.Need-returns
+returns c = rw (c .largest .ensures)
+
+pub values-spec : {M : Type 1} → statement M
+values-spec = tie.close (tie.spec largest-requires returns)

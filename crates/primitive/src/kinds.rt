@@ -1,0 +1,76 @@
+// The kinds of component and their numbers. Rule: docs/SPECIFICATION.md, "The drawing file". Source: primitive.rs, `Primitive`.
+ghost use mathlib.Core.Path.{_≡_};
+ghost use Rattle.primitive.specs.Kinds.{numberOf, seenAs};
+
+// To whoever adds a kind: append yours after the last, never between two. A kind's number is saved in the drawing files of every
+// gate, and all of them are read by this table: a kind put in before Nand would make each Nand drawn so far another gate, and
+// a screen would light a closed run. 14 is kept for the Rust's `Custom`, so the next number is 15.
+pub enum Kind {
+    Composite,
+    And,
+    Or,
+    Not,
+    Nand,
+    Nor,
+    Xor,
+    Switch,
+    Input,
+    Output,
+    Splitter,
+    Joiner,
+    Clock,
+    Const,
+}
+
+// What a number is read as: a kind, the number kept for Custom, or no kind.
+pub enum Seen {
+    Known(Kind),
+    Kept,
+    Unknown,
+}
+
+// The number of a kind, as saved in files.
+pub fn number_of(kind: Kind) -> u8
+    ensures { λ r. ⌜ r ≡ numberOf kind ⌝ }
+{
+    match kind {
+        Kind::Composite => 0,
+        Kind::And => 1,
+        Kind::Or => 2,
+        Kind::Not => 3,
+        Kind::Nand => 4,
+        Kind::Nor => 5,
+        Kind::Xor => 6,
+        Kind::Switch => 7,
+        Kind::Input => 8,
+        Kind::Output => 9,
+        Kind::Splitter => 10,
+        Kind::Joiner => 11,
+        Kind::Clock => 12,
+        Kind::Const => 13,
+    }
+}
+
+// What a number is read as, the other way round.
+pub fn kind_of(number: u8) -> Seen
+    ensures { λ r. ⌜ r ≡ seenAs number ⌝ }
+{
+    match number {
+        0 => Seen::Known(Kind::Composite),
+        1 => Seen::Known(Kind::And),
+        2 => Seen::Known(Kind::Or),
+        3 => Seen::Known(Kind::Not),
+        4 => Seen::Known(Kind::Nand),
+        5 => Seen::Known(Kind::Nor),
+        6 => Seen::Known(Kind::Xor),
+        7 => Seen::Known(Kind::Switch),
+        8 => Seen::Known(Kind::Input),
+        9 => Seen::Known(Kind::Output),
+        10 => Seen::Known(Kind::Splitter),
+        11 => Seen::Known(Kind::Joiner),
+        12 => Seen::Known(Kind::Clock),
+        13 => Seen::Known(Kind::Const),
+        14 => Seen::Kept,
+        _ => Seen::Unknown,
+    }
+}
