@@ -1,0 +1,46 @@
+// The records of a drawing file. Rules: docs/SPECIFICATION.md, "The drawing file" and "Numbers given back". Source: component.rs.
+use primitive::Fields;
+use primitive::Refusal;
+
+// An id as drawn.
+pub struct Id(pub u32);
+
+// A child, counted below one owner.
+pub struct ChildNo(pub u16);
+
+// A primitive's place in the flat tables.
+pub struct FlatIdx(pub usize);
+
+// What a record says; Refused where check 3 refuses it.
+pub enum Record {
+    Component {
+        owner: u16,
+        id: Id,
+        fields: Fields,
+    },
+    Connection {
+        owner: u16,
+        from: ChildNo,
+        output: u16,
+        to: ChildNo,
+        input: u16,
+    },
+    InputMap {
+        owner: u16,
+        port: u16,
+        to: ChildNo,
+        input: u16,
+    },
+    OutputMap {
+        owner: u16,
+        from: ChildNo,
+        output: u16,
+    },
+    Refused,
+}
+
+// What a file's bytes are judged to be.
+pub enum Verdict {
+    Accepted,
+    Refused(Refusal),
+}

@@ -1,0 +1,3 @@
+pub mod Descent
+pub mod Leads
+pub mod Verdict

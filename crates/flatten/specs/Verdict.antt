@@ -1,0 +1,59 @@
+-- The judgement of a file's bytes. docs/SPECIFICATION.md, "Numbers given back" and the host's call.
+use Prim.Native.Nat.{ℕ, _+_, _*_, _%_}
+use mathlib.Core.Bool.{Bool, true, false, cond, not, _&&_}
+use mathlib.Core.List.{List, [], _∷_}
+use mathlib.Core.Option.{Option, none, some}
+use lib.ListN.{length, getD}
+use lib.Dec.{eqb, leb}
+use Rattle.lists.specs.Lists.{from, first}
+use Rattle.primitive.specs.Kinds.{obeys}
+use Rattle.component.specs.declared.Record.{Record}
+use Rattle.primitive.specs.declared.evaluate.Refusal.{Refusal}
+use Rattle.component.specs.declared.Verdict.{Verdict}
+use Rattle.component.specs.declared.Verdict.the-variants.{Accepted, Refused}
+use Rattle.component.specs.Record.{recordAt, recordCount}
+use Rattle.component.specs.Drawing.{deepest, fails3, fails4, fails5, fails6, fails7, fails8, fails9, fails10, fails11, fails12, fails13, fails14}
+use Rattle.flatten.specs.Descent.{sourceOf, targetsOf, fails15}
+
+-- A check: its number, and the positions that fail it.
+pub record Check : Type 0 where
+  pub number : ℕ
+  pub fails : ℕ → Bool
+
+-- A check from its number and its test.
+abbrev pub check : ℕ → (ℕ → Bool) → Check
+check k f = record { number = k; fails = f }
+
+-- The checks of a drawing, in number order.
+abbrev pub checks : (ℕ → Record) → ℕ → List Check
+checks at n =
+    check 3 (fails3 at n) ∷ check 4 (fails4 at n) ∷ check 5 (fails5 at n) ∷ check 6 (fails6 at n) ∷ check 7 (fails7 at n)
+    ∷ check 8 (fails8 at n) ∷ check 9 (fails9 at n) ∷ check 10 (fails10 at n) ∷ check 11 (fails11 at n) ∷ check 12 (fails12 at n)
+    ∷ check 13 (fails13 at n) ∷ check 14 (fails14 at n) ∷ check 15 (fails15 at n) ∷ []
+
+-- Refused with number k at position p.
+abbrev pub refused : ℕ → ℕ → Verdict
+refused k p = Refused (record { number = k; position = p })
+
+-- Refused by check k at the position found, or else what the later checks say.
+abbrev pub said : ℕ → Option ℕ → Verdict → Verdict
+said k (some p) later = refused k p
+said k none later = later
+
+-- Each check over all n records in file order before the next begins; the first that fails decides.
+abbrev pub judged : ℕ → List Check → Verdict
+judged n [] = Accepted
+judged n (k ∷ ks) = said (k .number) (first (k .fails) (from 0 n)) (judged n ks)
+
+-- Not 1: the file is not empty, a multiple of 24, and of at most 1,024 records.
+abbrev pub sized : List ℕ → Bool
+sized file = not (eqb (length file) 0) && eqb (length file % 24) 0 && leb (recordCount file) 1024
+
+-- What a file's bytes are judged to be; check 2 is not made.
+unfoldable pub verdict : List ℕ → Verdict
+verdict file = cond (sized file) (judged (recordCount file) (checks (recordAt file) (recordCount file))) (refused 1 0)
+
+-- The host's number: number times 65,536 plus position.
+abbrev pub spoken : Verdict → ℕ
+spoken Accepted = 0
+spoken (Refused r) = 65536 * r .number + r .position

@@ -1,0 +1,123 @@
+-- Evaluating a single component. docs/SPECIFICATION.md, "Rounds" and "Numbers given back".
+--   functionOf f xs t        "its function of its inputs", at a time
+--   outputsAfter f xs ys t   its outputs after an evaluation
+--   evaluateAnswer, evaluateOutputs   the public call, on any fields and values
+-- Ports' numbers are lists; xs and ys are a component's own inputs and outputs.
+-- Assumes nothing.
+use Prim.Native.Nat.{ℕ, _+_, _*_, _%_}
+use mathlib.Core.Bool.{Bool, true, false, cond, not, _&&_, _||_}
+use mathlib.Core.List.{List, [], _∷_, map}
+use lib.ListN.{length, getD, take, replicate}
+use lib.Seq.{sets}
+use lib.Dec.{eqb, ltb}
+use Rattle.lists.specs.Lists.{from, every, total, refusal, _if_}
+use Rattle.value.specs.Value.{level, below, bitOf, complement}
+use Rattle.primitive.specs.declared.kinds.Kind.{Kind}
+use Rattle.primitive.specs.declared.kinds.Kind.the-variants.{Composite, And, Or, Not, Nand, Nor, Xor, Switch, Input, Output, Splitter, Joiner, Clock, Const}
+use Rattle.primitive.specs.declared.table.Fields.{Fields}
+use Rattle.primitive.specs.declared.evaluate.Refusal.{Refusal}
+use Rattle.primitive.specs.declared.evaluate.Evaluated.{Evaluated}
+use Rattle.primitive.specs.declared.evaluate.Evaluated.the-variants.{Done, Refused}
+use Rattle.primitive.specs.Kinds.{kindOf, kept, unknown, is, primitive, obeys, inputWidth, outputWidth}
+
+-- A port is high.
+abbrev pub high : ℕ → Bool
+high x = ltb 0 x
+
+-- How many ports are high.
+abbrev pub highs : List ℕ → ℕ
+highs xs = total (λ x. level (high x)) xs
+
+-- "Joiner bit i is input i"
+abbrev pub join : List ℕ → ℕ
+join [] = 0
+join (x ∷ xs) = level (high x) + 2 * join xs
+
+-- "Splitter output i is bit i", of n outputs.
+abbrev pub split : ℕ → ℕ → List ℕ
+split x n = map (bitOf x) (from 0 n)
+
+-- "Clock is high when time mod (2 * period) > period"
+abbrev pub clockHigh : ℕ → ℕ → Bool
+clockHigh p t = ltb p (t % (2 * p))
+
+-- All inputs are high; one is; an odd number of them is.
+abbrev pub allHigh : List ℕ → Bool
+allHigh xs = eqb (highs xs) (length xs)
+
+abbrev pub anyHigh : List ℕ → Bool
+anyHigh xs = ltb 0 (highs xs)
+
+abbrev pub oddHigh : List ℕ → Bool
+oddHigh xs = eqb (highs xs % 2) 1
+
+-- The one output of a gate.
+abbrev pub one : Bool → List ℕ
+one b = level b ∷ []
+
+-- The function of a kind, at its parameter p, of its inputs and the time. A Switch has none: its output is free.
+abbrev pub rule : Kind → ℕ → List ℕ → ℕ → List ℕ
+rule Composite p xs t = []
+rule And p xs t = one (allHigh xs)
+rule Or p xs t = one (anyHigh xs)
+rule Not p xs t = complement (record { number = getD xs 0 0; width = 1 }) .number ∷ []
+rule Nand p xs t = one (not (allHigh xs))
+rule Nor p xs t = one (not (anyHigh xs))
+rule Xor p xs t = one (oddHigh xs)
+rule Switch p xs t = []
+rule Input p xs t = getD xs 0 0 ∷ []
+rule Output p xs t = getD xs 0 0 ∷ []
+rule Splitter p xs t = split (getD xs 0 0) p
+rule Joiner p xs t = join xs ∷ []
+rule Clock p xs t = one (clockHigh p t)
+rule Const p xs t = p ∷ []
+
+-- "its function of its inputs", at a time.
+unfoldable pub functionOf : Fields → List ℕ → ℕ → List ℕ
+functionOf f xs t = rule (kindOf (f .kind)) (f .parameter) xs t
+
+-- "Const and Switch leave their outputs"; all else takes its function of its inputs.
+unfoldable pub outputsAfter : Fields → List ℕ → List ℕ → ℕ → List ℕ
+outputsAfter f xs ys t = cond (is Switch f || is Const f) ys (functionOf f xs t)
+
+-- "At load all ports are 0, a Const's output its value."
+abbrev pub starting : Fields → List ℕ
+starting f = cond (is Const f) (f .parameter ∷ []) (replicate (f .outputs) 0)
+
+-- The first k of these numbers, with these widths, fit ports of w bits: 19 is "another width, or not below 2^width".
+unfoldable pub fitting : ℕ → ℕ → List ℕ → List ℕ → Bool
+fitting w k ns ws = every (λ i. eqb (getD ws i 0) w && below (getD ns i 0) w) (from 0 k)
+
+-- "Evaluating a single component .. checks 7, 8, 9 (kind 0 gives 9), 2 (fewer values than its ports), 19":
+-- input numbers xs of widths vs, output numbers ys of widths ws.
+unfoldable pub evaluateNumber : Fields → List ℕ → List ℕ → List ℕ → List ℕ → ℕ
+evaluateNumber f xs vs ys ws =
+    refusal
+    ((7 if kept (f .kind))
+    ∷ (8 if unknown (f .kind))
+    ∷ (9 if not (primitive f && obeys f))
+    ∷ (2 if ltb (length xs) (f .inputs) || ltb (length vs) (f .inputs) || ltb (length ys) (f .outputs) || ltb (length ws) (f .outputs))
+    ∷ (19 if not (fitting (inputWidth f) (f .inputs) xs vs && fitting (outputWidth f) (f .outputs) ys ws))
+    ∷ [])
+
+-- A refusal "at position 0".
+abbrev pub refusedBy : ℕ → Refusal
+refusedBy k = record { number = k; position = 0 }
+
+-- The answer of a call that gives a number back: done at 0, else refused.
+abbrev pub evaluatedBy : ℕ → Evaluated
+evaluatedBy k = cond (eqb k 0) Done (Refused (refusedBy k))
+
+-- The answer.
+unfoldable pub evaluateAnswer : Fields → List ℕ → List ℕ → List ℕ → List ℕ → Evaluated
+evaluateAnswer f xs vs ys ws = evaluatedBy (evaluateNumber f xs vs ys ws)
+
+-- The document's number of each answer.
+abbrev pub evaluateGives : Evaluated → ℕ
+evaluateGives Done = 0
+evaluateGives (Refused r) = r .number
+
+-- The output numbers after the call: a refusal changes none, and numbers past the component's own are kept.
+unfoldable pub evaluateOutputs : Fields → List ℕ → List ℕ → List ℕ → List ℕ → ℕ → List ℕ
+evaluateOutputs f xs vs ys ws t =
+    cond (eqb (evaluateNumber f xs vs ys ws) 0) (sets ys 0 (outputsAfter f (take (f .inputs) xs) (take (f .outputs) ys) t)) ys
