@@ -8,7 +8,7 @@ use lib.Dec.{eqb, leb}
 use Rattle.lists.specs.Lists.{from, first}
 use Rattle.primitive.specs.Kinds.{obeys}
 use Rattle.component.specs.declared.Record.{Record}
-use Rattle.primitive.specs.declared.evaluate.Refusal.{Refusal}
+use Rattle.primitive.specs.declared.answers.Refusal.{Refusal}
 use Rattle.component.specs.declared.Verdict.{Verdict}
 use Rattle.component.specs.declared.Verdict.the-variants.{Accepted, Refused}
 use Rattle.component.specs.Record.{recordAt, recordCount}

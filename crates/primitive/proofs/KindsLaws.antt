@@ -62,6 +62,10 @@ seenAs-cases n = by-kept (kept n) refl
     by-kept true q = inl (eqb-true n 14 q, rw q)
     by-kept false q = inr (by-unknown (unknown n) q refl)
 
+pub seenAs-kind : (n : ℕ) → n < 14 → seenAs n ≡ Known (kindOf n)
+seenAs-kind n h =
+    ⊎-elim (λ u. absurd (omega (arith, u .0))) (⊎-elim (λ u. absurd (omega (arith, u .0))) (λ u. u .1)) (seenAs-cases n)
+
 -- What is read as a kind is that kind's number.
 pub seenAs-known : (n : ℕ) (k : Kind) → seenAs n ≡ Known k → n ≡ numberOf k
 seenAs-known n k e =

@@ -1,1 +1,6 @@
 pub mod KindsLaws
+pub mod RulesLaws
+pub mod FoldLaws
+pub mod UpdateLaws
+pub mod FitLaws
+pub mod EvaluateLaws

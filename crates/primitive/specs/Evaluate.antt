@@ -5,6 +5,7 @@
 -- Ports' numbers are lists; xs and ys are a component's own inputs and outputs.
 -- Assumes nothing.
 use Prim.Native.Nat.{ℕ, _+_, _*_, _%_}
+use mathlib.Core.Path.{_≡_}
 use mathlib.Core.Bool.{Bool, true, false, cond, not, _&&_, _||_}
 use mathlib.Core.List.{List, [], _∷_, map}
 use lib.ListN.{length, getD, take, replicate}
@@ -15,9 +16,9 @@ use Rattle.value.specs.Value.{level, below, bitOf, complement}
 use Rattle.primitive.specs.declared.kinds.Kind.{Kind}
 use Rattle.primitive.specs.declared.kinds.Kind.the-variants.{Composite, And, Or, Not, Nand, Nor, Xor, Switch, Input, Output, Splitter, Joiner, Clock, Const}
 use Rattle.primitive.specs.declared.table.Fields.{Fields}
-use Rattle.primitive.specs.declared.evaluate.Refusal.{Refusal}
-use Rattle.primitive.specs.declared.evaluate.Evaluated.{Evaluated}
-use Rattle.primitive.specs.declared.evaluate.Evaluated.the-variants.{Done, Refused}
+use Rattle.primitive.specs.declared.answers.Refusal.{Refusal}
+use Rattle.primitive.specs.declared.answers.Evaluated.{Evaluated}
+use Rattle.primitive.specs.declared.answers.Evaluated.the-variants.{Done, Refused}
 use Rattle.primitive.specs.Kinds.{kindOf, kept, unknown, is, primitive, obeys, inputWidth, outputWidth}
 
 -- A port is high.
@@ -79,6 +80,12 @@ functionOf f xs t = rule (kindOf (f .kind)) (f .parameter) xs t
 -- "Const and Switch leave their outputs"; all else takes its function of its inputs.
 unfoldable pub outputsAfter : Fields → List ℕ → List ℕ → ℕ → List ℕ
 outputsAfter f xs ys t = cond (is Switch f || is Const f) ys (functionOf f xs t)
+
+-- What an evaluation is handed: a primitive that obeys the table of kinds, with its own inputs xs and outputs ys and no others.
+pub record Own (f : Fields) (xs ys : List ℕ) : Type 0 where
+  pub obeyed : (primitive f && obeys f) ≡ true
+  pub all-inputs : length xs ≡ f .inputs
+  pub all-outputs : length ys ≡ f .outputs
 
 -- "At load all ports are 0, a Const's output its value."
 abbrev pub starting : Fields → List ℕ

@@ -2,7 +2,7 @@
 ghost use mathlib.Core.Path.{_≡_};
 ghost use Prim.Native.Nat.{min};
 ghost use Rattle.value.specs.Value.{widest, ones};
-ghost use Rattle.primitive.specs.Kinds.{row, rowOf, line, only, spans, obeys, inputWidth, outputWidth};
+ghost use Rattle.primitive.specs.Kinds.{row, rowOf, line, only, spans, primitive, obeys, inputWidth, outputWidth};
 use crate::kinds::Kind;
 use crate::kinds::Seen;
 use crate::kinds::kind_of;
@@ -138,6 +138,13 @@ fn row_of(f: Fields) -> Row
         Seen::Kept => table_row(Kind::Composite, f.width as u64, f.parameter),
         Seen::Unknown => table_row(Kind::Composite, f.width as u64, f.parameter),
     }
+}
+
+// Whether a component is of one of the kinds 1 to 13.
+pub fn is_primitive(f: Fields) -> bool
+    ensures { λ r. ⌜ r ≡ primitive f ⌝ }
+{
+    (1 <= f.kind) & (f.kind <= 13)
 }
 
 // Whether a component obeys the table of kinds.

@@ -1,7 +1,7 @@
 -- Laws of a value, over every width: shifts and powers of two, what fits, the complement's bits.
 -- Not here: laws of 2 ^ k alone (lib.Pow).
 -- Assumes nothing.
-use mathlib.Core.Path.{_≡_, _∙_, sym, ap, subst}
+use mathlib.Core.Path.{_≡_, _∙_, refl, sym, ap, subst}
 use mathlib.Core.Bool.{Bool, true, false}
 use Prim.Native.Nat.{ℕ, zero, suc, _+_, _-_, _*_, _/_, _%_, _^_, _≤_, _<_}
 use native.Mathlib.Nat.{one-mul, mod-eq-of-lt, div-eq-of-lt, div-lt-iff-lt-mul, lt-of-lt-of-le, add-mul, mod-lt, pow-suc, sub-add-cancel}
@@ -14,7 +14,7 @@ use lib.Arith.{digits-div}
 use Rattle.lists.specs.Lists.{within}
 use Rattle.lists.proofs.ListsLaws.{and-left, and-right, within-least, within-most}
 use Rattle.value.specs.declared.Value.{Value}
-use Rattle.value.specs.Value.{widest, level, ones, below, fits, bitOf, flipped}
+use Rattle.value.specs.Value.{widest, level, ones, below, fits, bitOf, flipped, complement}
 
 -- One moved up k places is the power, where that fits a word.
 pub one-shl : (k : ℕ) → k < 64 → 1 * 2 ^ k % 2 ^ 64 ≡ 2 ^ k
@@ -69,6 +69,14 @@ module _ (v : Value) (e : fits v ≡ true) where
 
   pub flipped-twice : flipped (flipped v) .number ≡ v .number
   flipped-twice = omega (arith, fits-below)
+
+-- The complement of a number that lies below 2^width lies below it too.
+pub complement-fits : (v : Value) → below (v .number) (v .width) ≡ true → below (complement v .number) (v .width) ≡ true
+complement-fits v b = by-fit (fits v) refl
+  where
+    by-fit : (q : Bool) → fits v ≡ q → below (complement v .number) (v .width) ≡ true
+    by-fit true q = rw q (lt-ltb (flipped v .number) (2 ^ v .width) (flipped-fits v q))
+    by-fit false q = rw q b
 
 -- One less than an even number, less a number below it, is odd where that is even.
 odd : (m q p : ℕ) → p ≡ m * 2 → q < p → (p - 1 - q) % 2 ≡ 1 - q % 2

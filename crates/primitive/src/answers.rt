@@ -1,4 +1,4 @@
-// Evaluating a single component. Rules: docs/SPECIFICATION.md, "Rounds" and "Numbers given back". Source: primitive.rs, `update`.
+// What a call answers that may be refused. Rule: docs/SPECIFICATION.md, "Numbers given back".
 
 // A number given back, and the position of the record that it is about: 0 where it is about none.
 pub struct Refusal {

@@ -1,0 +1,82 @@
+-- Laws of the rules of the kinds: loops over a component's ports, and the Rust's folds.
+-- Not here: that outputs fit their widths (FitLaws).
+-- Assumes nothing.
+use mathlib.Core.Path.{_≡_, refl, sym, ap, _∙_}
+use mathlib.Core.Bool.{Bool, true, false, cond}
+use mathlib.Core.List.{List, [], _∷_, _++_, map, map-append}
+use Prim.Native.Nat.{ℕ, zero, suc, _+_, _-_, _*_, _^_, _≤_, _<_}
+use native.Mathlib.Nat.{add-zero, zero-add, two-pow-succ, lt-of-lt-of-le}
+use native.Mathlib.Numerals.{add-one}
+use native.Mathlib.Omega.{arith}
+use borrow.Author.Tests.{lt-ltb, le-ltb}
+use lib.ListN.{length, getD, set, take, drop, length-drop}
+use lib.Pow.{pow-mono}
+use lib.Seq.{drop-cons, drop-length, take-suc-set, take-length}
+use Rattle.lists.specs.Lists.{from}
+use Rattle.value.specs.Value.{level, bitOf}
+use Rattle.value.proofs.ValueLaws.{level-le}
+use Rattle.primitive.specs.Evaluate.{high, highs, join, split}
+
+drop-end : (xs : List ℕ) (i : ℕ) → i ≤ length xs → length xs ≤ i → drop i xs ≡ []
+drop-end xs i h l = let e : i ≡ length xs = omega arith in ap (λ (k : ℕ). drop k xs) e ∙ drop-length xs
+
+-- The loop of `count_high`: what was counted, and the high ports still to come, are all high ports.
+module _ (xs : List ℕ) (n i h : ℕ) (inside : i < length xs) (so-far : n + highs (drop i xs) ≡ h) where
+  highs-drop : highs (drop i xs) ≡ level (high (getD xs i 0)) + highs (drop (i + 1) xs)
+  highs-drop = rw (add-one, drop-cons xs i 0 inside)
+
+  pub highs-high : 0 < getD xs i 0 → (n + 1) + highs (drop (i + 1) xs) ≡ h
+  highs-high p = let e : level (high (getD xs i 0)) ≡ 1 = rw (lt-ltb 0 (getD xs i 0) p) in omega (arith, highs-drop)
+
+  pub highs-low : getD xs i 0 ≤ 0 → n + highs (drop (i + 1) xs) ≡ h
+  highs-low p = let e : level (high (getD xs i 0)) ≡ 0 = rw (le-ltb 0 (getD xs i 0) p) in omega (arith, highs-drop)
+
+pub highs-end : (xs : List ℕ) (n i h : ℕ) → i ≤ length xs → length xs ≤ i → n + highs (drop i xs) ≡ h → n ≡ h
+highs-end xs n i h a b e = let z : highs (drop i xs) ≡ 0 = ap highs (drop-end xs i a b) in omega arith
+
+pub join-lt : (xs : List ℕ) → join xs < 2 ^ length xs
+join-lt [] = omega arith
+join-lt (x ∷ xs) = rw two-pow-succ (omega (arith, join-lt xs, level-le (high x)))
+
+-- The loop of `join`: the number of the ports from i on, and of those from the port before.
+pub join-step : (xs : List ℕ) (i : ℕ) → 0 < i → i ≤ length xs
+    → level (high (getD xs (i - 1) 0)) + 2 * join (drop i xs) ≡ join (drop (i - 1) xs)
+join-step xs i p h =
+    let e : i ≡ suc (i - 1) = omega arith in
+    let d : drop i xs ≡ drop (suc (i - 1)) xs = ap (λ (k : ℕ). drop k xs) e in
+    rw (d, drop-cons xs (i - 1) 0 (omega arith))
+
+-- A number of at most 63 bits has room for one more.
+pub join-room : (xs : List ℕ) (i : ℕ) → 0 < i → length xs ≤ 64 → join (drop i xs) < 2 ^ 63
+join-room xs i p h =
+    lt-of-lt-of-le (join-lt (drop i xs)) (pow-mono {i = length (drop i xs)} {j = 63} (simp length-drop (omega arith)))
+
+from-snoc : (q k : ℕ) → from q (suc k) ≡ from q k ++ ((q + k) ∷ [])
+from-snoc q zero = rw add-zero
+from-snoc q (suc k) =
+    let e : suc q + k ≡ q + suc k = omega arith in
+    ap (λ (l : List ℕ). q ∷ l) (from-snoc (suc q) k ∙ ap (λ (j : ℕ). from (suc q) k ++ (j ∷ [])) e)
+
+split-snoc : (x i : ℕ) → split x (suc i) ≡ split x i ++ (bitOf x i ∷ [])
+split-snoc x i =
+    ap (map (bitOf x)) (from-snoc 0 i) ∙ map-append (bitOf x) (from 0 i) ((0 + i) ∷ [])
+    ∙ ap (λ (j : ℕ). split x i ++ (bitOf x j ∷ [])) (zero-add i)
+
+-- The loop of `split`: one more output is written.
+pub split-step : (x i v : ℕ) (ys : List ℕ) → i < length ys → v ≡ bitOf x i → take i ys ≡ split x i
+    → take (i + 1) (set ys i v) ≡ split x (i + 1)
+split-step x i v ys h e s =
+    let k : i + 1 ≡ suc i = add-one i in
+    ap (λ (j : ℕ). take j (set ys i v)) k ∙ take-suc-set ys i v h
+    ∙ ap (λ (l : List ℕ). l ++ (v ∷ [])) s ∙ ap (λ (b : ℕ). split x i ++ (b ∷ [])) e
+    ∙ sym (split-snoc x i) ∙ ap (split x) (sym k)
+
+pub split-end : (x i : ℕ) (ys : List ℕ) → i ≤ length ys → length ys ≤ i → take i ys ≡ split x i → ys ≡ split x (length ys)
+split-end x i ys a b s =
+    let e : i ≡ length ys = omega arith in
+    sym (take-length ys) ∙ ap (λ (j : ℕ). take j ys) (sym e) ∙ s ∙ ap (split x) e
+
+pub set-only : (ys : List ℕ) (v : ℕ) → length ys ≡ 1 → set ys 0 v ≡ v ∷ []
+set-only [] v e = absurd (omega arith)
+set-only (y ∷ []) v e = refl
+set-only (y ∷ (z ∷ zs)) v e = absurd (omega arith)

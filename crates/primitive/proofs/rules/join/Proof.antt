@@ -1,0 +1,80 @@
+use mathlib.Core.Path.{_≡_, sym, ap, _∙_}
+use Prim.Native.Nat.{ℕ, _+_, _-_, _≤_}
+use native.Mathlib.Omega.{arith}
+use lib.ListN.{length, getD, drop}
+use lib.Seq.{drop-length}
+use Rattle.value.proofs.ValueLaws.{level-le}
+use Rattle.primitive.specs.Evaluate.{high, join}
+use Rattle.primitive.proofs.RulesLaws.{join-step, join-room}
+use borrow.Author.Needs.{needs}
+use Rattle.primitive.proofs.rules.join.Statement.{statement}
+use Rattle.primitive.proofs.rules.join.Tie as tie
+use Rattle.primitive.proofs.rules.join.Reads as reads
+use Rattle.primitive.proofs.rules.join.Lts as lts
+use Rattle.primitive.proofs.rules.level_of.Reads as level-of-reads
+
+abbrev Inv-loop : tie.InvT-loop
+Inv-loop ports number₀ i₀ number i = (i ≤ length ports) × (number ≡ join (drop i ports))
+
+abbrev μ-loop : tie.MeasureT-loop
+μ-loop ports number₀ i₀ number i = i
+
+loop-holds : tie.Need-loop-holds Inv-loop μ-loop
+loop-holds c = (omega arith, sym (ap join (drop-length (c .before .args .ports .now))))
+
+sub-i : tie.Need-sub-i Inv-loop μ-loop
+sub-i c = search needs
+
+mul-level-of : tie.Need-mul-level-of Inv-loop μ-loop
+mul-level-of c = search needs
+
+shared-slice-read-level-of : tie.Need-shared-slice-read-level-of Inv-loop μ-loop
+shared-slice-read-level-of c = search needs
+
+level-of-requires : tie.Need-level-of-requires Inv-loop μ-loop
+level-of-requires c κs = search needs
+
+mul-number : tie.Need-mul-number Inv-loop μ-loop
+mul-number c =
+    let s = c .before .before .before .loop in
+    let xs = c .before .before .before .before .before .args .ports .now in
+    omega (arith, s .inv .1, join-room xs (s .i) (omega arith) (omega arith))
+
+add-number : tie.Need-add-number Inv-loop μ-loop
+add-number c =
+    let s = c .before .before .before .loop in
+    let xs = c .before .before .before .before .before .args .ports .now in
+    omega (arith, s .inv .1, join-room xs (s .i) (omega arith) (omega arith), c .level-of .ensures, level-le (high (getD xs (s .i - 1) 0)))
+
+loop-less : tie.Need-loop-less Inv-loop μ-loop
+loop-less c = search needs
+
+loop-again : tie.Need-loop-again Inv-loop μ-loop
+loop-again c =
+    let s = c .before .before .before .loop in
+    let xs = c .before .before .before .before .before .args .ports .now in
+    (omega arith, rw (c .level-of .ensures, s .inv .1) (join-step xs (s .i) (omega arith) (s .inv .0)))
+
+returns : tie.Need-returns Inv-loop μ-loop
+returns c =
+    let s = c .before .loop in
+    let xs = c .before .before .before .args .ports .now in
+    let e : s .i ≡ 0 = omega arith in
+    s .inv .1 ∙ ap (λ (k : ℕ). join (drop k xs)) e
+
+pub join-spec : {M : Type 1} → statement M
+join-spec =
+    tie.close
+    (tie.spec
+    Inv-loop
+    μ-loop
+    loop-holds
+    sub-i
+    mul-level-of
+    shared-slice-read-level-of
+    level-of-requires
+    mul-number
+    add-number
+    loop-less
+    loop-again
+    returns)

@@ -1,0 +1,17 @@
+use borrow.Author.Needs.{needs}
+use mathlib.Core.Path.{ap}
+use Rattle.value.specs.declared.Value.{Value}
+use Rattle.primitive.proofs.rules.not_gate.Statement.{statement}
+use Rattle.primitive.proofs.rules.not_gate.Tie as tie
+use Rattle.primitive.proofs.rules.not_gate.Reads as reads
+use Rattle.primitive.proofs.rules.not_gate.Lts as lts
+use Rattle.value.proofs.Value.complement.Reads as complement-reads
+
+complement-requires : tie.Need-complement-requires
+complement-requires c κs = search needs
+
+returns : tie.Need-returns
+returns c = ap (λ (v : Value). v .number) (c .complement .ensures)
+
+pub not-gate-spec : {M : Type 1} → statement M
+not-gate-spec = tie.close (tie.spec complement-requires returns)

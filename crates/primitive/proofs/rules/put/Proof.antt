@@ -1,0 +1,18 @@
+use borrow.Author.Needs.{needs}
+use Rattle.primitive.proofs.RulesLaws.{set-only}
+use Rattle.primitive.proofs.rules.put.Statement.{statement}
+use Rattle.primitive.proofs.rules.put.Tie as tie
+use Rattle.primitive.proofs.rules.put.Reads as reads
+use Rattle.primitive.proofs.rules.put.Lts as lts
+
+slice-write-outputs : tie.Need-slice-write-outputs
+slice-write-outputs c = search needs
+
+same-length : tie.Need-same-length
+same-length c = search needs
+
+returns : tie.Need-returns
+returns c = set-only (c .args .outputs .now) (c .args .number) (c .pre)
+
+pub put-spec : {M : Type 1} → statement M
+put-spec = tie.close (tie.spec slice-write-outputs same-length returns)

@@ -1,0 +1,70 @@
+use mathlib.Core.Path.{_≡_, ap, _∙_}
+use Prim.Native.Nat.{_-_, _≤_}
+use native.Mathlib.Omega.{arith}
+use lib.ListN.{length, take, length-set}
+use Rattle.value.specs.declared.Value.{Value}
+use Rattle.primitive.specs.Evaluate.{split}
+use Rattle.primitive.proofs.RulesLaws.{split-step, split-end}
+use borrow.Author.Needs.{needs}
+use Rattle.primitive.proofs.rules.split.Statement.{statement}
+use Rattle.primitive.proofs.rules.split.Tie as tie
+use Rattle.primitive.proofs.rules.split.Reads as reads
+use Rattle.primitive.proofs.rules.split.Lts as lts
+use Rattle.value.proofs.Value.bit.Reads as bit-reads
+
+abbrev Inv-loop : tie.InvT-loop
+Inv-loop input outputs₀ value i₀ outputs i = (i ≤ length outputs) × (length outputs ≡ length outputs₀) × (take i outputs ≡ split input i)
+
+abbrev μ-loop : tie.MeasureT-loop
+μ-loop input outputs₀ value i₀ outputs i = length outputs₀ - i
+
+loop-holds : tie.Need-loop-holds Inv-loop μ-loop
+loop-holds c = search needs
+
+bit-requires : tie.Need-bit-requires Inv-loop μ-loop
+bit-requires c κs = search needs
+
+mul-outputs : tie.Need-mul-outputs Inv-loop μ-loop
+mul-outputs c = search needs
+
+slice-write-outputs : tie.Need-slice-write-outputs Inv-loop μ-loop
+slice-write-outputs c = search needs
+
+add-i : tie.Need-add-i Inv-loop μ-loop
+add-i c = search needs
+
+loop-less : tie.Need-loop-less Inv-loop μ-loop
+loop-less c = search needs
+
+loop-again : tie.Need-loop-again Inv-loop μ-loop
+loop-again c =
+    let s = c .before .before .loop in
+    let x = c .before .before .before .before .args .input in (
+      simp length-set (omega arith),
+      simp length-set (s .inv .1),
+      split-step x (s .i) (c .bit .result .number) (s .outputs) (omega arith) (ap (λ (v : Value). v .number) (c .bit .ensures)) (s .inv .2),
+    )
+
+same-length : tie.Need-same-length Inv-loop μ-loop
+same-length c = search needs
+
+returns : tie.Need-returns Inv-loop μ-loop
+returns c =
+    let s = c .before .loop in
+    split-end (c .before .before .before .args .input) (s .i) (s .outputs) (s .inv .0) (omega arith) (s .inv .2) ∙ ap (split _) (s .inv .1)
+
+pub split-spec : {M : Type 1} → statement M
+split-spec =
+    tie.close
+    (tie.spec
+    Inv-loop
+    μ-loop
+    loop-holds
+    bit-requires
+    mul-outputs
+    slice-write-outputs
+    add-i
+    loop-less
+    loop-again
+    same-length
+    returns)

@@ -1,0 +1,62 @@
+-- `update`: a primitive's number is read as a kind, so the last two arms are never taken.
+-- Assumes nothing.
+use borrow.Author.Needs.{needs}
+use mathlib.Core.Path.{_≡_, sym, _∙_}
+use Rattle.primitive.specs.declared.kinds.Seen.the-variants.{Known}
+use Rattle.primitive.specs.Kinds.{seenAs}
+use Rattle.primitive.proofs.KindsLaws.{seenAs-known}
+use Rattle.primitive.proofs.UpdateLaws.{obeyed-unkept, obeyed-known}
+use Rattle.primitive.proofs.rules.update.Statement.{statement}
+use Rattle.primitive.proofs.rules.update.Tie as tie
+
+kind-of-requires : tie.Need-kind-of-requires
+kind-of-requires c κs = search needs
+
+enum-known-kind : tie.Need-enum-known-kind
+enum-known-kind c = search needs
+
+update-as-requires : tie.Need-update-as-requires
+update-as-requires c κs =
+    let s = c .before .before .before .before .before .before .before in
+    let k = c .before .before .kind .given .0 .0 in
+    let e : seenAs (s .args .f .kind) ≡ Known k =
+    sym (c .before .before .before .before .kind-of .ensures) ∙ c .before .before .kind .given .1 in
+    (seenAs-known (s .args .f .kind) k e, s .pre)
+
+enum-told : tie.Need-enum-told
+enum-told c = search needs
+
+enum-told-2 : tie.Need-enum-told-2
+enum-told-2 c = search needs
+
+same-length : tie.Need-same-length
+same-length c = search needs
+
+returns : tie.Need-returns
+returns c = c .before .before .update-as .ensures
+
+-- kept for Custom: no primitive
+returns-2 : tie.Need-returns-2
+returns-2 c =
+    let s = c .before .before .before .before .before in
+    absurd (obeyed-unkept (s .args .f) (c .before .before .kind-of .result) (s .pre .obeyed) (c .before .before .kind-of .ensures) (c .enum-told .given .1))
+
+-- no kind: no primitive
+returns-3 : tie.Need-returns-3
+returns-3 c =
+    let s = c .before .before .before .before .before in
+    absurd (obeyed-known (s .args .f) (c .before .before .kind-of .result) (s .pre .obeyed) (c .before .before .kind-of .ensures) (c .enum-told2 .given .1))
+
+pub update-spec : {M : Type 1} → statement M
+update-spec =
+    tie.close
+    (tie.spec
+    kind-of-requires
+    enum-known-kind
+    update-as-requires
+    enum-told
+    enum-told-2
+    same-length
+    returns
+    returns-2
+    returns-3)

@@ -1,0 +1,347 @@
+-- `update_as`: each arm leaves the rule of its kind. What a kind's ports are comes from its row of the table of kinds.
+-- Assumes nothing.
+use borrow.Author.Needs.{needs}
+use mathlib.Core.Path.{_≡_, refl, ap, _∙_}
+use mathlib.Core.Bool.{Bool, true, false, not}
+use mathlib.Core.List.{List, [], _∷_}
+use Prim.Native.Nat.{ℕ, _<_}
+use native.Mathlib.Omega.{arith}
+use lib.ListN.{length, getD}
+use Rattle.primitive.specs.declared.kinds.Kind.{Kind}
+use Rattle.primitive.specs.declared.kinds.Kind.the-variants.{Composite, And, Or, Not, Nand, Nor, Xor, Switch, Input, Output, Splitter, Joiner, Clock, Const}
+use Rattle.primitive.specs.declared.table.Span.{Span}
+use Rattle.primitive.specs.Kinds.{numberOf, row, only}
+use Rattle.primitive.specs.Evaluate.{one, split, rule, outputsAfter}
+use Rattle.primitive.proofs.UpdateLaws.{Inside, InRow, obeyed-row, obeyed-primitive, leaves, outputsAfter-rule, outputsAfter-left}
+use Rattle.primitive.proofs.rules.update_as.Statement.{statement}
+use Rattle.primitive.proofs.rules.update_as.Tie as tie
+
+-- What is known of a component whose kind is K.
+module _ (s : tie.Start) (K : Kind) where
+  of-kind : s .args .kind ≡ K → s .args .f .kind ≡ numberOf K
+  of-kind q = s .pre .0 ∙ ap numberOf q
+
+  in-row : s .args .kind ≡ K → InRow (row K (s .args .f .width) (s .args .f .parameter)) (s .args .f)
+  in-row q = obeyed-row (s .args .f) K (s .pre .1 .obeyed) (of-kind q)
+
+  one-output : row K (s .args .f .width) (s .args .f .parameter) .outputs ≡ only 1 → s .args .kind ≡ K
+      → length (s .args .outputs .now) ≡ 1
+  one-output r q =
+      let i : Inside (only 1) (s .args .f .outputs) = rw r at (in-row q .outputs) in
+      omega (arith, i .least, i .most, s .pre .1 .all-outputs)
+
+  first-input : row K (s .args .f .width) (s .args .f .parameter) .inputs ≡ only 1 → s .args .kind ≡ K
+      → 0 < length (s .args .inputs .now)
+  first-input r q =
+      let i : Inside (only 1) (s .args .f .inputs) = rw r at (in-row q .inputs) in
+      omega (arith, i .least, s .pre .1 .all-inputs)
+
+  after : (zs : List ℕ) → s .args .kind ≡ K
+      → leaves K ≡ false
+      → zs ≡ rule K (s .args .f .parameter) (s .args .inputs .now) (s .args .time)
+      → zs ≡ outputsAfter (s .args .f) (s .args .inputs .now) (s .args .outputs .now) (s .args .time)
+  after zs q l h = outputsAfter-rule (s .args .f) K (s .args .inputs .now) (s .args .outputs .now) zs (s .args .time) (of-kind q) l h
+
+  left : s .args .kind ≡ K
+      → leaves K ≡ true → s .args .outputs .now ≡ outputsAfter (s .args .f) (s .args .inputs .now) (s .args .outputs .now) (s .args .time)
+  left q l = outputsAfter-left (s .args .f) K (s .args .inputs .now) (s .args .outputs .now) (s .args .outputs .now) (s .args .time) (of-kind q) l
+
+enum-told : tie.Need-enum-told
+enum-told c = search needs
+
+enum-told-2 : tie.Need-enum-told-2
+enum-told-2 c = search needs
+
+all-high-requires : tie.Need-all-high-requires
+all-high-requires c κs = search needs
+
+put-level-requires : tie.Need-put-level-requires
+put-level-requires c κs = one-output (c .before .before .before .before .before .before) And refl (c .before .before .enum-told2 .given .1)
+
+enum-told-3 : tie.Need-enum-told-3
+enum-told-3 c = search needs
+
+any-high-requires : tie.Need-any-high-requires
+any-high-requires c κs = search needs
+
+put-level-requires-2 : tie.Need-put-level-requires-2
+put-level-requires-2 c κs = one-output (c .before .before .before .before .before .before) Or refl (c .before .before .enum-told3 .given .1)
+
+enum-told-4 : tie.Need-enum-told-4
+enum-told-4 c = search needs
+
+shared-slice-read-not-gate : tie.Need-shared-slice-read-not-gate
+shared-slice-read-not-gate c = first-input (c .before .before .before .before .before .before) Not refl (c .before .before .enum-told4 .given .1)
+
+not-gate-requires : tie.Need-not-gate-requires
+not-gate-requires c κs = search needs
+
+put-requires : tie.Need-put-requires
+put-requires c κs = one-output (c .before .before .before .before .before .before .before) Not refl (c .before .before .before .enum-told4 .given .1)
+
+enum-told-5 : tie.Need-enum-told-5
+enum-told-5 c = search needs
+
+all-high-requires-2 : tie.Need-all-high-requires-2
+all-high-requires-2 c κs = search needs
+
+put-level-requires-3 : tie.Need-put-level-requires-3
+put-level-requires-3 c κs = one-output (c .before .before .before .before .before .before) Nand refl (c .before .before .enum-told5 .given .1)
+
+enum-told-6 : tie.Need-enum-told-6
+enum-told-6 c = search needs
+
+any-high-requires-2 : tie.Need-any-high-requires-2
+any-high-requires-2 c κs = search needs
+
+put-level-requires-4 : tie.Need-put-level-requires-4
+put-level-requires-4 c κs = one-output (c .before .before .before .before .before .before) Nor refl (c .before .before .enum-told6 .given .1)
+
+enum-told-7 : tie.Need-enum-told-7
+enum-told-7 c = search needs
+
+odd-high-requires : tie.Need-odd-high-requires
+odd-high-requires c κs = search needs
+
+put-level-requires-5 : tie.Need-put-level-requires-5
+put-level-requires-5 c κs = one-output (c .before .before .before .before .before .before) Xor refl (c .before .before .enum-told7 .given .1)
+
+enum-told-8 : tie.Need-enum-told-8
+enum-told-8 c = search needs
+
+enum-told-9 : tie.Need-enum-told-9
+enum-told-9 c = search needs
+
+shared-slice-read-put : tie.Need-shared-slice-read-put
+shared-slice-read-put c = first-input (c .before .before .before .before .before .before) Input refl (c .before .before .enum-told9 .given .1)
+
+put-requires-2 : tie.Need-put-requires-2
+put-requires-2 c κs = one-output (c .before .before .before .before .before .before) Input refl (c .before .before .enum-told9 .given .1)
+
+enum-told-10 : tie.Need-enum-told-10
+enum-told-10 c = search needs
+
+shared-slice-read-put-2 : tie.Need-shared-slice-read-put-2
+shared-slice-read-put-2 c = first-input (c .before .before .before .before .before .before) Output refl (c .before .before .enum-told10 .given .1)
+
+put-requires-3 : tie.Need-put-requires-3
+put-requires-3 c κs = one-output (c .before .before .before .before .before .before) Output refl (c .before .before .enum-told10 .given .1)
+
+enum-told-11 : tie.Need-enum-told-11
+enum-told-11 c = search needs
+
+shared-slice-read-split : tie.Need-shared-slice-read-split
+shared-slice-read-split c = first-input (c .before .before .before .before .before) Splitter refl (c .before .enum-told11 .given .1)
+
+split-requires : tie.Need-split-requires
+split-requires c κs = search needs
+
+enum-told-12 : tie.Need-enum-told-12
+enum-told-12 c = search needs
+
+join-requires : tie.Need-join-requires
+join-requires c κs =
+    let s = c .before .before .before .before .before in
+    let r = in-row s Joiner (c .before .enum-told12 .given .1) in
+    omega (arith, r .inputs .most, r .parameter .most, s .pre .1 .all-inputs)
+
+put-requires-4 : tie.Need-put-requires-4
+put-requires-4 c κs = one-output (c .before .before .before .before .before .before) Joiner refl (c .before .before .enum-told12 .given .1)
+
+enum-told-13 : tie.Need-enum-told-13
+enum-told-13 c = search needs
+
+clock-high-requires : tie.Need-clock-high-requires
+clock-high-requires c κs =
+    let r = in-row (c .before .before .before .before .before) Clock (c .before .enum-told13 .given .1) in
+    (r .parameter .least, r .parameter .most)
+
+put-level-requires-6 : tie.Need-put-level-requires-6
+put-level-requires-6 c κs = one-output (c .before .before .before .before .before .before) Clock refl (c .before .before .enum-told13 .given .1)
+
+enum-told-14 : tie.Need-enum-told-14
+enum-told-14 c = search needs
+
+-- Composite: no primitive
+returns : tie.Need-returns
+returns c =
+    let s = c .before .before .before .before in
+    absurd (omega (arith, obeyed-primitive (s .args .f) (s .pre .1 .obeyed), of-kind s Composite (c .enum-told .given .1)))
+
+same-length : tie.Need-same-length
+same-length c = search needs
+
+-- And
+returns-2 : tie.Need-returns-2
+returns-2 c =
+    after (c .before .before .before .before .before .before .before .before .before) And _ (c .before .before .before .before .before .enum-told2 .given .1) refl
+    (c .before .before .put-level .ensures ∙ ap (one) (c .before .before .before .all-high .ensures))
+
+same-length-2 : tie.Need-same-length-2
+same-length-2 c = search needs
+
+-- Or
+returns-3 : tie.Need-returns-3
+returns-3 c =
+    after (c .before .before .before .before .before .before .before .before .before) Or _ (c .before .before .before .before .before .enum-told3 .given .1) refl
+    (c .before .before .put-level2 .ensures ∙ ap (one) (c .before .before .before .any-high .ensures))
+
+same-length-3 : tie.Need-same-length-3
+same-length-3 c = search needs
+
+-- Not
+returns-4 : tie.Need-returns-4
+returns-4 c =
+    after (c .before .before .before .before .before .before .before .before .before .before) Not _ (c .before .before .before .before .before .before .enum-told4 .given .1) refl
+    (c .before .before .put .ensures ∙ ap (λ (x : ℕ). x ∷ []) (c .before .before .before .not-gate .ensures))
+
+same-length-4 : tie.Need-same-length-4
+same-length-4 c = search needs
+
+-- Nand
+returns-5 : tie.Need-returns-5
+returns-5 c =
+    after (c .before .before .before .before .before .before .before .before .before) Nand _ (c .before .before .before .before .before .enum-told5 .given .1) refl
+    (c .before .before .put-level3 .ensures ∙ ap (λ (b : Bool). one (not b)) (c .before .before .before .all-high2 .ensures))
+
+same-length-5 : tie.Need-same-length-5
+same-length-5 c = search needs
+
+-- Nor
+returns-6 : tie.Need-returns-6
+returns-6 c =
+    after (c .before .before .before .before .before .before .before .before .before) Nor _ (c .before .before .before .before .before .enum-told6 .given .1) refl
+    (c .before .before .put-level4 .ensures ∙ ap (λ (b : Bool). one (not b)) (c .before .before .before .any-high2 .ensures))
+
+same-length-6 : tie.Need-same-length-6
+same-length-6 c = search needs
+
+-- Xor
+returns-7 : tie.Need-returns-7
+returns-7 c =
+    after (c .before .before .before .before .before .before .before .before .before) Xor _ (c .before .before .before .before .before .enum-told7 .given .1) refl
+    (c .before .before .put-level5 .ensures ∙ ap (one) (c .before .before .before .odd-high .ensures))
+
+-- Switch
+returns-8 : tie.Need-returns-8
+returns-8 c = left (c .before .before .before .before) Switch (c .enum-told8 .given .1) refl
+
+same-length-7 : tie.Need-same-length-7
+same-length-7 c = search needs
+
+-- Input
+returns-9 : tie.Need-returns-9
+returns-9 c =
+    after (c .before .before .before .before .before .before .before .before .before) Input _ (c .before .before .before .before .before .enum-told9 .given .1) refl
+    (c .before .before .put2 .ensures)
+
+same-length-8 : tie.Need-same-length-8
+same-length-8 c = search needs
+
+-- Output
+returns-10 : tie.Need-returns-10
+returns-10 c =
+    after (c .before .before .before .before .before .before .before .before .before) Output _ (c .before .before .before .before .before .enum-told10 .given .1) refl
+    (c .before .before .put3 .ensures)
+
+same-length-9 : tie.Need-same-length-9
+same-length-9 c = search needs
+
+-- Splitter
+returns-11 : tie.Need-returns-11
+returns-11 c =
+    let s = c .before .before .before .before .before .before .before .before .before in
+    let q = c .before .before .before .before .before .enum-told11 .given .1 in
+    let r = in-row s Splitter q in
+    let m : length (s .args .outputs .now) ≡ s .args .f .parameter =
+    omega (arith, r .outputs .least, r .outputs .most, s .pre .1 .all-outputs) in
+    after s Splitter _ q refl (c .before .before .split .ensures ∙ ap (split (getD (s .args .inputs .now) 0 0)) m)
+
+same-length-10 : tie.Need-same-length-10
+same-length-10 c = search needs
+
+-- Joiner
+returns-12 : tie.Need-returns-12
+returns-12 c =
+    after (c .before .before .before .before .before .before .before .before .before) Joiner _ (c .before .before .before .before .before .enum-told12 .given .1) refl
+    (c .before .before .put4 .ensures ∙ ap (λ (x : ℕ). x ∷ []) (c .before .before .before .join .ensures))
+
+same-length-11 : tie.Need-same-length-11
+same-length-11 c = search needs
+
+-- Clock
+returns-13 : tie.Need-returns-13
+returns-13 c =
+    after (c .before .before .before .before .before .before .before .before .before) Clock _ (c .before .before .before .before .before .enum-told13 .given .1) refl
+    (c .before .before .put-level6 .ensures ∙ ap (one) (c .before .before .before .clock-high .ensures))
+
+-- Const
+returns-14 : tie.Need-returns-14
+returns-14 c = left (c .before .before .before .before) Const (c .enum-told14 .given .1) refl
+
+pub update-as-spec : {M : Type 1} → statement M
+update-as-spec =
+    tie.close
+    (tie.spec
+    enum-told
+    enum-told-2
+    all-high-requires
+    put-level-requires
+    enum-told-3
+    any-high-requires
+    put-level-requires-2
+    enum-told-4
+    shared-slice-read-not-gate
+    not-gate-requires
+    put-requires
+    enum-told-5
+    all-high-requires-2
+    put-level-requires-3
+    enum-told-6
+    any-high-requires-2
+    put-level-requires-4
+    enum-told-7
+    odd-high-requires
+    put-level-requires-5
+    enum-told-8
+    enum-told-9
+    shared-slice-read-put
+    put-requires-2
+    enum-told-10
+    shared-slice-read-put-2
+    put-requires-3
+    enum-told-11
+    shared-slice-read-split
+    split-requires
+    enum-told-12
+    join-requires
+    put-requires-4
+    enum-told-13
+    clock-high-requires
+    put-level-requires-6
+    enum-told-14
+    returns
+    same-length
+    returns-2
+    same-length-2
+    returns-3
+    same-length-3
+    returns-4
+    same-length-4
+    returns-5
+    same-length-5
+    returns-6
+    same-length-6
+    returns-7
+    returns-8
+    same-length-7
+    returns-9
+    same-length-8
+    returns-10
+    same-length-9
+    returns-11
+    same-length-10
+    returns-12
+    same-length-11
+    returns-13
+    returns-14)

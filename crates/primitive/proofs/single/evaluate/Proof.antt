@@ -1,0 +1,80 @@
+-- `evaluate`: the number decides; where it is 0 the component's ports are there and `update` may have them.
+-- Assumes nothing.
+use borrow.Author.Needs.{needs}
+use mathlib.Core.Path.{_≡_, sym, _∙_}
+use Prim.Native.Nat.{ℕ}
+use Rattle.primitive.specs.Evaluate.{evaluateNumber}
+use Rattle.primitive.proofs.EvaluateLaws.{there-outputs, passed-there, passed-own, refused-answer, refused-outputs, done-answer, done-outputs}
+use Rattle.primitive.proofs.single.evaluate.Statement.{statement}
+use Rattle.primitive.proofs.single.evaluate.Tie as tie
+
+-- What is known once no check has refused.
+zero : (c : tie.Else1) → evaluateNumber (c .before .before .before .before .before .before .before .args .f) (c .before .before .before .before .before .before .before .args .inputs .now) (c .before .before .before .before .before .before .before .args .entering .now) (c .before .before .before .before .before .before .before .args .outputs .now) (c .before .before .before .before .before .before .before .args .leaving .now) ≡ 0
+zero c = sym (c .before .evaluate-number .ensures) ∙ c .if1 .left
+
+evaluate-number-requires : tie.Need-evaluate-number-requires
+evaluate-number-requires c κs = search needs
+
+same-length : tie.Need-same-length
+same-length c = search needs
+
+-- refused
+returns : tie.Need-returns
+returns c =
+    let a = c .before .before .before .before .before .before .before .args in
+    let e = c .before .evaluate-number .ensures in
+    (refused-answer (a .f) (a .inputs .now) (a .entering .now) (a .outputs .now) (a .leaving .now) _ e (c .if1 .taken), refused-outputs (a .f) (a .inputs .now) (a .entering .now) (a .outputs .now) (a .leaving .now) _ e (c .if1 .taken) (a .time))
+
+cast-n : tie.Need-cast-n
+cast-n c = search needs
+
+cast-m : tie.Need-cast-m
+cast-m c = search needs
+
+slice-aggregate-update : tie.Need-slice-aggregate-update
+slice-aggregate-update c =
+    let a = c .before .before .before .before .before .before .before .before .before .before .args in
+    sym (passed-own (a .f) (a .inputs .now) (a .entering .now) (a .outputs .now) (a .leaving .now) (zero (c .before .before .before)) .all-inputs)
+
+slice-relend-prefix-update : tie.Need-slice-relend-prefix-update
+slice-relend-prefix-update c =
+    let a = c .before .before .before .before .before .before .before .before .before .before .args in
+    there-outputs (a .f) (a .inputs .now) (a .entering .now) (a .outputs .now) (a .leaving .now) (passed-there (a .f) (a .inputs .now) (a .entering .now) (a .outputs .now) (a .leaving .now) (zero (c .before .before .before)))
+
+slice-aggregate-update-2 : tie.Need-slice-aggregate-update-2
+slice-aggregate-update-2 c =
+    let a = c .before .before .before .before .before .before .before .before .before .before .before .args in
+    sym (passed-own (a .f) (a .inputs .now) (a .entering .now) (a .outputs .now) (a .leaving .now) (zero (c .before .before .before .before)) .all-outputs)
+
+update-requires : tie.Need-update-requires
+update-requires c κs =
+    let a = c .before .before .before .before .before .before .before .before .before .before .before .args in
+    passed-own (a .f) (a .inputs .now) (a .entering .now) (a .outputs .now) (a .leaving .now) (zero (c .before .before .before .before))
+
+same-length-2 : tie.Need-same-length-2
+same-length-2 c = search needs
+
+-- done
+returns-2 : tie.Need-returns-2
+returns-2 c =
+    let a = c .before .before .before .before .before .before .before .before .before .before .before .before .before .before .args in
+    let z = zero (c .before .before .before .before .before .before .before) in
+    (done-answer (a .f) (a .inputs .now) (a .entering .now) (a .outputs .now) (a .leaving .now) z,
+    done-outputs (a .f) (a .inputs .now) (a .entering .now) (a .outputs .now) (a .leaving .now) z (c .before .before .update .last .1 .1 .0) (a .time) (c .before .before .update .ensures)
+    (c .before .before .update .kept .1 .1 .0 ∙ passed-own (a .f) (a .inputs .now) (a .entering .now) (a .outputs .now) (a .leaving .now) z .all-outputs))
+
+pub evaluate-spec : {M : Type 1} → statement M
+evaluate-spec =
+    tie.close
+    (tie.spec
+    evaluate-number-requires
+    same-length
+    returns
+    cast-n
+    cast-m
+    slice-aggregate-update
+    slice-relend-prefix-update
+    slice-aggregate-update-2
+    update-requires
+    same-length-2
+    returns-2)

@@ -1,0 +1,118 @@
+-- `evaluate_number`: the tests stand in the order of the definition's checks, so at each return those before did not hold.
+-- Assumes nothing.
+use borrow.Author.Needs.{needs}
+use borrow.Author.Tests.{eq-eqb, ne-eqb, le-leb, lt-leb, not-true, not-false}
+use mathlib.Core.Path.{_≡_, sym, _∙_}
+use mathlib.Core.Bool.{Bool, true, false, not, _&&_}
+use Rattle.primitive.specs.Kinds.{kept, unknown, primitive, obeys}
+use Rattle.primitive.proofs.EvaluateLaws.{allFit, number-7, number-8, number-9, number-2, number-19, number-0, there-inputs, there-entering, there-outputs, there-leaving}
+use Rattle.primitive.proofs.single.evaluate_number.Statement.{statement}
+use Rattle.primitive.proofs.single.evaluate_number.Tie as tie
+
+-- What is known once a test is passed.
+not-14 : (c : tie.Else1) → kept (c .before .before .before .before .before .before .before .before .args .f .kind) ≡ false
+not-14 c = ne-eqb _ 14 (c .if1 .left)
+
+below-15 : (c : tie.Else2) → unknown (c .before .before .before .before .before .before .before .before .before .before .args .f .kind) ≡ false
+below-15 c = lt-leb 15 _ (c .if2 .left)
+
+tested : (c : tie.After-obeys) → (c .before .is-primitive .result && c .obeys .result) ≡ (primitive (c .before .before .before .before .before .before .before .before .before .before .before .before .args .f) && obeys (c .before .before .before .before .before .before .before .before .before .before .before .before .args .f))
+tested c = rw (c .before .is-primitive .ensures, c .obeys .ensures)
+
+obeyed : (c : tie.Else3) → (primitive (c .before .before .before .before .before .before .before .before .before .before .before .before .before .args .f) && obeys (c .before .before .before .before .before .before .before .before .before .before .before .before .before .args .f)) ≡ true
+obeyed c = sym (tested (c .before)) ∙ not-false _ (c .if3 .left)
+
+fitted : (c : tie.After-all-fit2) → (c .before .before .all-fit .result && c .all-fit2 .result)
+    ≡ allFit (c .before .before .before .before .before .before .before .before .before .before .before .before .before .before .before .before .before .before .args .f) (c .before .before .before .before .before .before .before .before .before .before .before .before .before .before .before .before .before .before .args .inputs .now) (c .before .before .before .before .before .before .before .before .before .before .before .before .before .before .before .before .before .before .args .entering .now) (c .before .before .before .before .before .before .before .before .before .before .before .before .before .before .before .before .before .before .args .outputs .now) (c .before .before .before .before .before .before .before .before .before .before .before .before .before .before .before .before .before .before .args .leaving .now)
+fitted c = rw (c .before .before .all-fit .ensures, c .before .before .before .input-width .ensures, c .all-fit2 .ensures, c .before .output-width .ensures)
+
+cast-n : tie.Need-cast-n
+cast-n c = search needs
+
+cast-m : tie.Need-cast-m
+cast-m c = search needs
+
+-- 7
+returns : tie.Need-returns
+returns c =
+    let a = c .before .before .before .before .before .before .before .before .args in
+    number-7 (a .f) (a .inputs .now) (a .entering .now) (a .outputs .now) (a .leaving .now) (eq-eqb _ 14 (c .if1 .taken))
+
+-- 8
+returns-2 : tie.Need-returns-2
+returns-2 c =
+    let a = c .before .before .before .before .before .before .before .before .before .before .args in
+    number-8 (a .f) (a .inputs .now) (a .entering .now) (a .outputs .now) (a .leaving .now) (not-14 (c .before .before)) (le-leb 15 _ (c .if2 .taken))
+
+is-primitive-requires : tie.Need-is-primitive-requires
+is-primitive-requires c κs = search needs
+
+obeys-requires : tie.Need-obeys-requires
+obeys-requires c κs = search needs
+
+-- 9
+returns-3 : tie.Need-returns-3
+returns-3 c =
+    let a = c .before .before .before .before .before .before .before .before .before .before .before .before .before .args in
+    number-9 (a .f) (a .inputs .now) (a .entering .now) (a .outputs .now) (a .leaving .now)
+    (not-14 (c .before .before .before .before .before)) (below-15 (c .before .before .before)) (sym (tested (c .before)) ∙ not-true _ (c .if3 .taken))
+
+-- 2
+returns-4 : tie.Need-returns-4
+returns-4 c =
+    let a = c .before .before .before .before .before .before .before .before .before .before .before .before .before .before .args in
+    number-2 (a .f) (a .inputs .now) (a .entering .now) (a .outputs .now) (a .leaving .now)
+    (not-14 (c .before .before .before .before .before .before)) (below-15 (c .before .before .before .before)) (obeyed (c .before)) (c .if4 .taken)
+
+input-width-requires : tie.Need-input-width-requires
+input-width-requires c κs = search needs
+
+all-fit-requires : tie.Need-all-fit-requires
+all-fit-requires c κs =
+    let a = c .before .before .before .before .before .before .before .before .before .before .before .before .before .before .before .args in
+    let e = c .before .if4 .left in
+    (there-inputs (a .f) (a .inputs .now) (a .entering .now) (a .outputs .now) (a .leaving .now) e,
+    there-entering (a .f) (a .inputs .now) (a .entering .now) (a .outputs .now) (a .leaving .now) e)
+
+output-width-requires : tie.Need-output-width-requires
+output-width-requires c κs = search needs
+
+all-fit-requires-2 : tie.Need-all-fit-requires-2
+all-fit-requires-2 c κs =
+    let a = c .before .before .before .before .before .before .before .before .before .before .before .before .before .before .before .before .before .args in
+    let e = c .before .before .before .if4 .left in
+    (there-outputs (a .f) (a .inputs .now) (a .entering .now) (a .outputs .now) (a .leaving .now) e,
+    there-leaving (a .f) (a .inputs .now) (a .entering .now) (a .outputs .now) (a .leaving .now) e)
+
+-- 19
+returns-5 : tie.Need-returns-5
+returns-5 c =
+    let a = c .before .before .before .before .before .before .before .before .before .before .before .before .before .before .before .before .before .before .before .args in
+    number-19 (a .f) (a .inputs .now) (a .entering .now) (a .outputs .now) (a .leaving .now)
+    (not-14 (c .before .before .before .before .before .before .before .before .before .before .before)) (below-15 (c .before .before .before .before .before .before .before .before .before)) (obeyed (c .before .before .before .before .before .before)) (c .before .before .before .before .before .if4 .left) (sym (fitted (c .before)) ∙ not-true _ (c .if5 .taken))
+
+-- accepted
+returns-6 : tie.Need-returns-6
+returns-6 c =
+    let a = c .before .before .before .before .before .before .before .before .before .before .before .before .before .before .before .before .before .before .before .args in
+    number-0 (a .f) (a .inputs .now) (a .entering .now) (a .outputs .now) (a .leaving .now)
+    (not-14 (c .before .before .before .before .before .before .before .before .before .before .before)) (below-15 (c .before .before .before .before .before .before .before .before .before)) (obeyed (c .before .before .before .before .before .before)) (c .before .before .before .before .before .if4 .left) (sym (fitted (c .before)) ∙ not-false _ (c .if5 .left))
+
+pub evaluate-number-spec : {M : Type 1} → statement M
+evaluate-number-spec =
+    tie.close
+    (tie.spec
+    cast-n
+    cast-m
+    returns
+    returns-2
+    is-primitive-requires
+    obeys-requires
+    returns-3
+    returns-4
+    input-width-requires
+    all-fit-requires
+    output-width-requires
+    all-fit-requires-2
+    returns-5
+    returns-6)

@@ -1,0 +1,161 @@
+// What a kind does with its ports: one named function for a kind or a family of kinds, and `update`, which picks it.
+// Rules: docs/SPECIFICATION.md, "Rounds". Source: primitive.rs, `update`.
+ghost use mathlib.Core.Path.{_≡_};
+ghost use mathlib.Core.List.{[], _∷_};
+ghost use Prim.Native.Nat.{_≤_, _<_};
+ghost use lib.ListN.{length};
+ghost use Rattle.value.specs.Value.{level, complement};
+ghost use Rattle.primitive.specs.Kinds.{numberOf, longest};
+ghost use Rattle.primitive.specs.Evaluate.{highs, allHigh, anyHigh, oddHigh, join, split, one, clockHigh, outputsAfter, Own};
+use crate::kinds::Kind;
+use crate::kinds::Seen;
+use crate::kinds::kind_of;
+use crate::table::Fields;
+use value::Value;
+
+// How many ports are high.
+fn count_high(ports: &[u64]) -> usize
+    ensures { λ r. ⌜ r ≡ highs (now (ports .entry)) ⌝ }
+{
+    let mut count: usize = 0;
+    let mut i: usize = 0;
+    while i < ports.len() {
+        if 0 < ports[i] {
+            count += 1;
+        }
+        i += 1;
+    }
+    count
+}
+
+// And, and its complement Nand. All of no ports are high.
+fn all_high(ports: &[u64]) -> bool
+    ensures { λ r. ⌜ r ≡ allHigh (now (ports .entry)) ⌝ }
+{
+    count_high(ports) == ports.len()
+}
+
+// Or, and its complement Nor. None of no ports is high.
+fn any_high(ports: &[u64]) -> bool
+    ensures { λ r. ⌜ r ≡ anyHigh (now (ports .entry)) ⌝ }
+{
+    0 < count_high(ports)
+}
+
+// Xor.
+fn odd_high(ports: &[u64]) -> bool
+    ensures { λ r. ⌜ r ≡ oddHigh (now (ports .entry)) ⌝ }
+{
+    count_high(ports) % 2 == 1
+}
+
+// Not.
+fn not_gate(input: u64) -> u64
+    ensures { λ r. ⌜ r ≡ complement (record { number = input; width = 1 }) .number ⌝ }
+{
+    let value = Value {
+        number: input,
+        width: 1,
+    };
+    value.complement().number
+}
+
+// The number of a level.
+fn level_of(high: bool) -> u64
+    ensures { λ r. ⌜ r ≡ level high ⌝ }
+{
+    let low = Value {
+        number: 0,
+        width: 1,
+    };
+    low.set_from_level(high).number
+}
+
+// Joiner: bit i of the number is port i. From the last port down, each port before doubles the number and sets its lowest bit.
+fn join(ports: &[u64]) -> u64
+    requires { ⌜ length (now ports) ≤ 64 ⌝ }
+    ensures { λ r. ⌜ r ≡ join (now (ports .entry)) ⌝ }
+{
+    let mut number: u64 = 0;
+    let mut i: usize = ports.len();
+    while 0 < i {
+        i -= 1;
+        number = level_of(0 < ports[i]) + 2 * number;
+    }
+    number
+}
+
+// Splitter: output i is bit i of the input.
+fn split(input: u64, outputs: &mut [u64])
+    ensures { λ _. ⌜ now (outputs .exit) ≡ split input (length (now (outputs .entry))) ⌝ }
+{
+    let value = Value {
+        number: input,
+        width: outputs.len() as u64,
+    };
+    let mut i: usize = 0;
+    while i < outputs.len() {
+        outputs[i] = value.bit(i as u64).number;
+        i += 1;
+    }
+}
+
+// Clock.
+fn clock_high(period: u64, time: u64) -> bool
+    requires { ⌜ (0 < period) × (period ≤ longest) ⌝ }
+    ensures { λ r. ⌜ r ≡ clockHigh period time ⌝ }
+{
+    period < time % (2 * period)
+}
+
+// Writes the one output.
+fn put(outputs: &mut [u64], number: u64)
+    requires { ⌜ length (now outputs) ≡ 1 ⌝ }
+    ensures { λ _. ⌜ now (outputs .exit) ≡ number ∷ [] ⌝ }
+{
+    outputs[0] = number;
+}
+
+// Sets the one output from a level.
+fn put_level(outputs: &mut [u64], high: bool)
+    requires { ⌜ length (now outputs) ≡ 1 ⌝ }
+    ensures { λ _. ⌜ now (outputs .exit) ≡ one high ⌝ }
+{
+    put(outputs, level_of(high));
+}
+
+// Evaluates a component of a known kind over its own ports.
+fn update_as(kind: Kind, f: Fields, inputs: &[u64], outputs: &mut [u64], time: u64)
+    requires { ⌜ (f .kind ≡ numberOf kind) × Own f (now inputs) (now outputs) ⌝ }
+    ensures { λ _. ⌜ now (outputs .exit) ≡ outputsAfter f (now (inputs .entry)) (now (outputs .entry)) time ⌝ }
+{
+    match kind {
+        Kind::Composite => {}
+        Kind::And => put_level(outputs, all_high(inputs)),
+        Kind::Or => put_level(outputs, any_high(inputs)),
+        Kind::Not => put(outputs, not_gate(inputs[0])),
+        Kind::Nand => put_level(outputs, !all_high(inputs)),
+        Kind::Nor => put_level(outputs, !any_high(inputs)),
+        Kind::Xor => put_level(outputs, odd_high(inputs)),
+        Kind::Switch => {}
+        Kind::Input => put(outputs, inputs[0]),
+        Kind::Output => put(outputs, inputs[0]),
+        Kind::Splitter => split(inputs[0], outputs),
+        Kind::Joiner => put(outputs, join(inputs)),
+        Kind::Clock => put_level(outputs, clock_high(f.parameter, time)),
+        Kind::Const => {}
+    }
+}
+
+// Evaluates a component that obeys the table of kinds over its own ports and no others. `evaluate` calls it, and crate simulator
+// does for each component of a round: both have tested what it requires.
+pub fn update(f: Fields, inputs: &[u64], outputs: &mut [u64], time: u64)
+    requires { ⌜ Own f (now inputs) (now outputs) ⌝ }
+    ensures { λ _. ⌜ now (outputs .exit) ≡ outputsAfter f (now (inputs .entry)) (now (outputs .entry)) time ⌝ }
+{
+    match kind_of(f.kind) {
+        Seen::Known(kind) => update_as(kind, f, inputs, outputs, time),
+        Seen::Kept => {}
+        Seen::Unknown => {}
+    }
+}
