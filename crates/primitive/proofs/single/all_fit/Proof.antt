@@ -41,7 +41,7 @@ returns c =
     let a = c .before .before .before .before .before .before .before .before .args in
     let i = c .before .before .before .before .before .loop .i in
     let e : (eqb (getD (a .widths .now) i 0) (a .width) && c .before .lies-below .result) ≡ fitsAt (a .width) (a .numbers .now) (a .widths .now) i =
-        ap (λ (b : Bool). eqb (getD (a .widths .now) i 0) (a .width) && b) (c .before .lies-below .ensures) in
+    ap (λ (b : Bool). eqb (getD (a .widths .now) i 0) (a .width) && b) (c .before .lies-below .ensures) in
     fitFrom-fails (a .width) (a .count) (a .numbers .now) (a .widths .now) i (c .before .before .before .before .before .loop .inv .1) (omega arith) (sym e ∙ not-true _ (c .if1 .taken))
 
 add-i : tie.Need-add-i Inv-loop μ-loop
@@ -55,9 +55,10 @@ loop-again c =
     let a = c .before .before .before .before .before .before .before .before .args in
     let i = c .before .before .before .before .before .loop .i in
     let e : (eqb (getD (a .widths .now) i 0) (a .width) && c .before .lies-below .result) ≡ fitsAt (a .width) (a .numbers .now) (a .widths .now) i =
-        ap (λ (b : Bool). eqb (getD (a .widths .now) i 0) (a .width) && b) (c .before .lies-below .ensures) in
-    (omega arith,
-    fitFrom-step (a .width) (a .count) (a .numbers .now) (a .widths .now) i (c .before .before .before .before .before .loop .inv .1) (omega arith) (sym e ∙ not-false _ (c .if1 .left)))
+    ap (λ (b : Bool). eqb (getD (a .widths .now) i 0) (a .width) && b) (c .before .lies-below .ensures) in (
+      omega arith,
+      fitFrom-step (a .width) (a .count) (a .numbers .now) (a .widths .now) i (c .before .before .before .before .before .loop .inv .1) (omega arith) (sym e ∙ not-false _ (c .if1 .left)),
+    )
 
 returns-2 : tie.Need-returns-2 Inv-loop μ-loop
 returns-2 c =

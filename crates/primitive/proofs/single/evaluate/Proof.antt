@@ -58,10 +58,11 @@ same-length-2 c = search needs
 returns-2 : tie.Need-returns-2
 returns-2 c =
     let a = c .before .before .before .before .before .before .before .before .before .before .before .before .before .before .args in
-    let z = zero (c .before .before .before .before .before .before .before) in
-    (done-answer (a .f) (a .inputs .now) (a .entering .now) (a .outputs .now) (a .leaving .now) z,
-    done-outputs (a .f) (a .inputs .now) (a .entering .now) (a .outputs .now) (a .leaving .now) z (c .before .before .update .last .1 .1 .0) (a .time) (c .before .before .update .ensures)
-    (c .before .before .update .kept .1 .1 .0 ∙ passed-own (a .f) (a .inputs .now) (a .entering .now) (a .outputs .now) (a .leaving .now) z .all-outputs))
+    let z = zero (c .before .before .before .before .before .before .before) in (
+      done-answer (a .f) (a .inputs .now) (a .entering .now) (a .outputs .now) (a .leaving .now) z,
+      done-outputs (a .f) (a .inputs .now) (a .entering .now) (a .outputs .now) (a .leaving .now) z (c .before .before .update .last .1 .1 .0) (a .time) (c .before .before .update .ensures)
+          (c .before .before .update .kept .1 .1 .0 ∙ passed-own (a .f) (a .inputs .now) (a .entering .now) (a .outputs .now) (a .leaving .now) z .all-outputs),
+    )
 
 pub evaluate-spec : {M : Type 1} → statement M
 evaluate-spec =

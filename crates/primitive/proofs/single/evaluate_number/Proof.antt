@@ -70,9 +70,10 @@ input-width-requires c κs = search needs
 all-fit-requires : tie.Need-all-fit-requires
 all-fit-requires c κs =
     let a = c .before .before .before .before .before .before .before .before .before .before .before .before .before .before .before .args in
-    let e = c .before .if4 .left in
-    (there-inputs (a .f) (a .inputs .now) (a .entering .now) (a .outputs .now) (a .leaving .now) e,
-    there-entering (a .f) (a .inputs .now) (a .entering .now) (a .outputs .now) (a .leaving .now) e)
+    let e = c .before .if4 .left in (
+      there-inputs (a .f) (a .inputs .now) (a .entering .now) (a .outputs .now) (a .leaving .now) e,
+      there-entering (a .f) (a .inputs .now) (a .entering .now) (a .outputs .now) (a .leaving .now) e,
+    )
 
 output-width-requires : tie.Need-output-width-requires
 output-width-requires c κs = search needs
@@ -80,9 +81,10 @@ output-width-requires c κs = search needs
 all-fit-requires-2 : tie.Need-all-fit-requires-2
 all-fit-requires-2 c κs =
     let a = c .before .before .before .before .before .before .before .before .before .before .before .before .before .before .before .before .before .args in
-    let e = c .before .before .before .if4 .left in
-    (there-outputs (a .f) (a .inputs .now) (a .entering .now) (a .outputs .now) (a .leaving .now) e,
-    there-leaving (a .f) (a .inputs .now) (a .entering .now) (a .outputs .now) (a .leaving .now) e)
+    let e = c .before .before .before .if4 .left in (
+      there-outputs (a .f) (a .inputs .now) (a .entering .now) (a .outputs .now) (a .leaving .now) e,
+      there-leaving (a .f) (a .inputs .now) (a .entering .now) (a .outputs .now) (a .leaving .now) e,
+    )
 
 -- 19
 returns-5 : tie.Need-returns-5

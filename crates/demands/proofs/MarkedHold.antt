@@ -1,0 +1,11 @@
+-- The marked cases hold: one proof, by computing the definitions.
+-- Assumes nothing.
+use mathlib.Core.Path.{_≡_, refl}
+use mathlib.Core.List.{map}
+use Rattle.primitive.specs.Kinds.{obeys}
+use Rattle.primitive.specs.Evaluate.{functionOf, outputsAfter, fitting, evaluateNumber, evaluateAnswer, evaluateOutputs}
+use Rattle.demands.specs.Marked.{Case, marked}
+
+pub marked-hold : map (λ (c : Case). c .found) marked ≡ map (λ (c : Case). c .wanted) marked
+unfolding evaluateNumber evaluateAnswer evaluateOutputs outputsAfter functionOf fitting obeys
+marked-hold = refl

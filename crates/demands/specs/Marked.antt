@@ -1,0 +1,44 @@
+-- The marked cases: one table. docs/SPECIFICATION.md, "The lamp drawing and marked cases".
+--   marked   what the definitions find in each case, and what the document wants
+-- Assumes nothing.
+use Prim.Native.Nat.{ℕ}
+use mathlib.Core.List.{List, [], _∷_}
+use lib.ListN.{length, replicate}
+use Rattle.primitive.specs.declared.table.Fields.{Fields}
+use Rattle.primitive.specs.declared.kinds.Kind.{Kind}
+use Rattle.primitive.specs.declared.kinds.Kind.the-variants.{And, Or, Nor, Xor, Splitter, Joiner, Clock}
+use Rattle.primitive.specs.Kinds.{numberOf}
+use Rattle.primitive.specs.Evaluate.{evaluateAnswer, evaluateGives, evaluateOutputs}
+
+-- What the definitions find, and what the document wants.
+pub record Case : Type 0 where
+  pub found : List ℕ
+  pub wanted : List ℕ
+
+infix 4 _gives_
+abbrev pub _gives_ : List ℕ → List ℕ → Case
+xs gives ys = record { found = xs; wanted = ys }
+
+-- The number given back by evaluating one component, and its outputs afterwards: its kind, its parameter, its inputs' numbers of
+-- v bits, o outputs of w bits that hold 0, the time.
+abbrev pub evaluating : Kind → ℕ → List ℕ → ℕ → ℕ → ℕ → ℕ → List ℕ
+evaluating k p xs v o w t =
+    let f : Fields = record { kind = numberOf k; inputs = length xs; outputs = o; width = 0; parameter = p } in
+    let vs : List ℕ = replicate (length xs) v in
+    evaluateGives (evaluateAnswer f xs vs (replicate o 0) (replicate o w))
+    ∷ evaluateOutputs f xs vs (replicate o 0) (replicate o w) t
+
+-- The cases (a) to (j), in their order; the leading 0 says that the call is not refused.
+abbrev pub marked : List Case
+marked =
+    (evaluating And 0 [] 1 1 1 0 gives 0 ∷ 1 ∷ [])
+    ∷ (evaluating Nor 0 [] 1 1 1 0 gives 0 ∷ 1 ∷ [])
+    ∷ (evaluating Or 0 [] 1 1 1 0 gives 0 ∷ 0 ∷ [])
+    ∷ (evaluating Xor 0 (1 ∷ 1 ∷ 1 ∷ []) 1 1 1 0 gives 0 ∷ 1 ∷ [])
+    ∷ (evaluating Splitter 3 (5 ∷ []) 3 3 1 0 gives 0 ∷ 1 ∷ 0 ∷ 1 ∷ [])
+    ∷ (evaluating Joiner 3 (0 ∷ 1 ∷ 1 ∷ []) 1 1 3 0 gives 0 ∷ 6 ∷ [])
+    ∷ (evaluating Clock 10 [] 1 1 1 10 gives 0 ∷ 0 ∷ [])
+    ∷ (evaluating Clock 10 [] 1 1 1 11 gives 0 ∷ 1 ∷ [])
+    ∷ (evaluating Clock 10 [] 1 1 1 20 gives 0 ∷ 0 ∷ [])
+    ∷ (evaluating Clock 1 [] 1 1 1 1 gives 0 ∷ 0 ∷ [])
+    ∷ []

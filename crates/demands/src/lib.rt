@@ -1,0 +1,1 @@
+// No code: what the whole program owes, said over the definitions of the crates below, and proved.

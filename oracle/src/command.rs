@@ -1,0 +1,171 @@
+//! The commands of the trace language: reading and writing their bytes.
+
+use crate::io::{Channel, Stop};
+use crate::plain::kinds::Fields;
+use crate::plain::single::PortValue;
+use std::io::{Read, Write};
+
+/// The most bytes of a file that are kept; a longer one is too long already.
+const FILE_KEPT: usize = 30_001;
+/// The most values on one side that `X` takes.
+pub const VALUES_MAX: u64 = 256;
+
+/// One component, handed in with its ports' values and a time.
+#[derive(Clone, Debug)]
+pub struct Single {
+    pub fields: Fields,
+    pub time: u64,
+    pub inputs: Vec<PortValue>,
+    pub outputs: Vec<PortValue>,
+}
+
+#[derive(Clone, Debug)]
+pub enum Command {
+    Judge(Vec<u8>),
+    Load(Vec<u8>),
+    Net,
+    State,
+    All,
+    Round { time: u64 },
+    Edit { index: u16, number: u64 },
+    Run { time: u64, limit: u16 },
+    Calm,
+    Index { id: u32 },
+    Value { side: u8, index: u16, port: u16 },
+    Sources { index: u16 },
+    Targets { index: u16 },
+    Evaluate(Single),
+    WriteWord { table: u8, place: u16, word: u64 },
+    SetCount { which: u8, number: u64 },
+    Lend { table: u8, words: u16 },
+}
+
+impl Command {
+    /// Reads one command. There is at least one byte of input.
+    pub fn read<R: Read, W: Write>(from: &mut Channel<R, W>) -> Result<Command, Stop> {
+        let command = match from.number::<1>()? as u8 {
+            b'J' => Command::Judge(read_file(from)?),
+            b'L' => Command::Load(read_file(from)?),
+            b'N' => Command::Net,
+            b'P' => Command::State,
+            b'A' => Command::All,
+            b'R' => Command::Round { time: from.number::<8>()? },
+            b'E' => Command::Edit { index: from.number::<2>()? as u16, number: from.number::<8>()? },
+            b'U' => Command::Run { time: from.number::<8>()?, limit: from.number::<2>()? as u16 },
+            b'C' => Command::Calm,
+            b'I' => Command::Index { id: from.number::<4>()? as u32 },
+            b'V' => Command::Value {
+                side: from.number::<1>()? as u8,
+                index: from.number::<2>()? as u16,
+                port: from.number::<2>()? as u16,
+            },
+            b'S' => Command::Sources { index: from.number::<2>()? as u16 },
+            b'T' => Command::Targets { index: from.number::<2>()? as u16 },
+            b'X' => Command::Evaluate(read_single(from)?),
+            b'W' => Command::WriteWord {
+                table: from.number::<1>()? as u8,
+                place: from.number::<2>()? as u16,
+                word: from.number::<8>()?,
+            },
+            b'K' => Command::SetCount { which: from.number::<1>()? as u8, number: from.number::<8>()? },
+            b'Z' => Command::Lend { table: from.number::<1>()? as u8, words: from.number::<2>()? as u16 },
+            _ => return Err(Stop::Bad),
+        };
+        Ok(command)
+    }
+
+    /// Appends the command's bytes.
+    pub fn write(&self, to: &mut Vec<u8>) {
+        match self {
+            Command::Judge(file) => write_file(to, b'J', file),
+            Command::Load(file) => write_file(to, b'L', file),
+            Command::Net => to.push(b'N'),
+            Command::State => to.push(b'P'),
+            Command::All => to.push(b'A'),
+            Command::Calm => to.push(b'C'),
+            Command::Round { time } => words(to, b'R', &[(*time, 8)]),
+            Command::Edit { index, number } => words(to, b'E', &[(*index as u64, 2), (*number, 8)]),
+            Command::Run { time, limit } => words(to, b'U', &[(*time, 8), (*limit as u64, 2)]),
+            Command::Index { id } => words(to, b'I', &[(*id as u64, 4)]),
+            Command::Value { side, index, port } => {
+                words(to, b'V', &[(*side as u64, 1), (*index as u64, 2), (*port as u64, 2)])
+            }
+            Command::Sources { index } => words(to, b'S', &[(*index as u64, 2)]),
+            Command::Targets { index } => words(to, b'T', &[(*index as u64, 2)]),
+            Command::Evaluate(single) => write_single(to, single),
+            Command::WriteWord { table, place, word } => {
+                words(to, b'W', &[(*table as u64, 1), (*place as u64, 2), (*word, 8)])
+            }
+            Command::SetCount { which, number } => words(to, b'K', &[(*which as u64, 1), (*number, 8)]),
+            Command::Lend { table, words: lent } => words(to, b'Z', &[(*table as u64, 1), (*lent as u64, 2)]),
+        }
+    }
+}
+
+/// A length and that many bytes.
+fn read_file<R: Read, W: Write>(from: &mut Channel<R, W>) -> Result<Vec<u8>, Stop> {
+    let length = from.number::<4>()? as usize;
+    from.bytes(length, FILE_KEPT)
+}
+
+fn read_single<R: Read, W: Write>(from: &mut Channel<R, W>) -> Result<Single, Stop> {
+    let fields = Fields {
+        kind: from.number::<1>()?,
+        inputs: from.number::<2>()?,
+        outputs: from.number::<2>()?,
+        width: from.number::<2>()?,
+        parameter: from.number::<8>()?,
+    };
+    let time = from.number::<8>()?;
+    let inputs = read_values(from)?;
+    let outputs = read_values(from)?;
+    Ok(Single { fields, time, inputs, outputs })
+}
+
+/// How many, at most 256, and that many values.
+fn read_values<R: Read, W: Write>(from: &mut Channel<R, W>) -> Result<Vec<PortValue>, Stop> {
+    let how_many = from.number::<2>()?;
+    if how_many > VALUES_MAX {
+        return Err(Stop::Bad);
+    }
+    let mut values = Vec::new();
+    for _ in 0..how_many {
+        let number = from.number::<8>()?;
+        let width = from.number::<1>()?;
+        values.push(PortValue { number, width });
+    }
+    Ok(values)
+}
+
+/// A letter, then each number in its bytes, the lowest first.
+fn words(to: &mut Vec<u8>, letter: u8, numbers: &[(u64, usize)]) {
+    to.push(letter);
+    for (number, bytes) in numbers {
+        to.extend_from_slice(&number.to_le_bytes()[..*bytes]);
+    }
+}
+
+fn write_file(to: &mut Vec<u8>, letter: u8, file: &[u8]) {
+    words(to, letter, &[(file.len() as u64, 4)]);
+    to.extend_from_slice(file);
+}
+
+fn write_single(to: &mut Vec<u8>, single: &Single) {
+    let fields = &single.fields;
+    let head = [
+        (fields.kind, 1),
+        (fields.inputs, 2),
+        (fields.outputs, 2),
+        (fields.width, 2),
+        (fields.parameter, 8),
+        (single.time, 8),
+    ];
+    words(to, b'X', &head);
+    for values in [&single.inputs, &single.outputs] {
+        to.extend_from_slice(&(values.len() as u16).to_le_bytes());
+        for value in values {
+            to.extend_from_slice(&value.number.to_le_bytes());
+            to.push(value.width as u8);
+        }
+    }
+}

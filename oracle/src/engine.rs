@@ -1,0 +1,207 @@
+//! logix at work: from a drawing or from the tables to a `Simulator`, and back
+//! into the tables.
+
+use crate::plain::drawing::Drawing;
+use crate::plain::net::{entries, Entry};
+use crate::primitive::{kind_words, primitive};
+use crate::tables::{Tables, COMPONENTS, CURRENT, FOLLOWING, INPUTS, OUTPUTS, STANDING, WIRES};
+use logix::component::{Component, ComponentBuilder, Conn};
+use logix::flatten::FlattenComponent;
+use logix::primitives::primitive::{ExtraInfo, Primitive, PrimitiveComponent};
+use logix::simulator::{SimState, Simulator};
+use logix::Data;
+
+pub struct Engine {
+    simulator: Simulator,
+}
+
+/// The nested component that a drawing's component draws. Where an input is
+/// entered twice, logix's `build` panics.
+pub fn nested(drawing: &Drawing, number: usize) -> Component<ExtraInfo> {
+    let record = &drawing.records[number];
+    let id = record.id as usize;
+    let builder = ComponentBuilder::new(id).port_count(record.a as usize, record.b as usize);
+    if !record.is_composite() {
+        return builder.extra(ExtraInfo::from_primitive(id, primitive(&record.fields()))).build();
+    }
+    let children = drawing.children[number].iter().map(|child| nested(drawing, *child));
+    let connections = drawing.connections[number].iter();
+    let input_maps = drawing.input_maps[number].iter();
+    let output_maps = drawing.output_maps[number].iter();
+    builder
+        .extra(ExtraInfo::new(id))
+        .sub_comps(children.collect())
+        .connections(connections.map(|r| conn(r.a, r.b, r.c, r.d)).collect())
+        .in_addrs(input_maps.map(|r| (r.a as usize, (r.c as usize, r.d as usize))).collect())
+        .out_addrs(output_maps.map(|r| (r.a as usize, r.b as usize)).collect())
+        .build()
+}
+
+fn conn(from: impl Into<u64>, out: impl Into<u64>, to: impl Into<u64>, port: impl Into<u64>) -> Conn {
+    let [from, out, to, port] = [from.into(), out.into(), to.into(), port.into()].map(|n| n as usize);
+    Conn::new(from, out, to, port)
+}
+
+impl Engine {
+    /// logix's simulator of a component, before its first pass.
+    fn start(component: Component<ExtraInfo>) -> Engine {
+        let Ok(flat) = FlattenComponent::new(component);
+        let mut simulator = Simulator::new(flat);
+        simulator.start(true);
+        Engine { simulator }
+    }
+
+    /// The engine of an accepted drawing.
+    pub fn of_drawing(drawing: &Drawing) -> Engine {
+        Engine::start(nested(drawing, 0))
+    }
+
+    /// The engine of tables that are a net: one composite that holds all
+    /// components, with the wires as its connections, then values and lists.
+    pub fn of_tables(tables: &Tables) -> Engine {
+        let entries = entries(tables);
+        let children = entries.iter().map(child).collect();
+        let wires = tables.used(WIRES).chunks_exact(4);
+        let connections = wires.map(|wire| conn(wire[0], wire[1], wire[2], wire[3])).collect();
+        let root = ComponentBuilder::new(usize::MAX).sub_comps(children).connections(connections);
+        let mut engine = Engine::start(root.build());
+        engine.simulator.state(|state| {
+            for (component, entry) in state.comp.components.iter_mut().zip(&entries) {
+                put_values(&mut component.inputs, &tables.used(INPUTS)[entry.first_input as usize..]);
+                put_values(&mut component.outputs, &tables.used(OUTPUTS)[entry.first_output as usize..]);
+            }
+            state.local_upd_list = list(tables, CURRENT);
+            state.local_next_upd_list = list(tables, FOLLOWING);
+            state.to_upd = list(tables, STANDING);
+        });
+        engine
+    }
+
+    /// Writes components, wires, values and lists.
+    pub fn write_net(&mut self, tables: &mut Tables) {
+        self.simulator.state(|state| {
+            tables.put(COMPONENTS, &component_words(&state.comp.components));
+            let wires = state.comp.flat_conns.iter();
+            let words = wires.flat_map(|wire| [wire.from.0, wire.from.1, wire.to.0, wire.to.1]);
+            tables.put(WIRES, &words.map(|word| word as u64).collect::<Vec<u64>>());
+        });
+        self.write_state(tables);
+    }
+
+    /// Writes values and lists.
+    pub fn write_state(&mut self, tables: &mut Tables) {
+        self.simulator.state(|state| {
+            let components = &state.comp.components;
+            let number = |data: &Data| data.value as u64;
+            let inputs: Vec<u64> = components.iter().flat_map(|c| c.inputs.iter().map(number)).collect();
+            let outputs: Vec<u64> = components.iter().flat_map(|c| c.outputs.iter().map(number)).collect();
+            tables.put(INPUTS, &inputs);
+            tables.put(OUTPUTS, &outputs);
+            tables.put(CURRENT, &list_words(&state.local_upd_list));
+            tables.put(FOLLOWING, &list_words(&state.local_next_upd_list));
+            tables.put(STANDING, &list_words(&state.to_upd));
+        });
+    }
+
+    /// One pass of logix's loop.
+    pub fn round(&mut self, time: u64) {
+        self.simulator.pass(time as u128);
+    }
+
+    /// How many components the next round evaluates.
+    pub fn current_length(&mut self) -> u64 {
+        self.simulator.state(|state| state.local_upd_list.len() as u64)
+    }
+
+    /// Added: the current list names only Clocks.
+    pub fn calm(&mut self) -> bool {
+        self.simulator.state(|state| {
+            let clock =
+                |index: &usize| matches!(state.comp.components[*index].prim_type, Primitive::Clock { .. });
+            state.local_upd_list.iter().all(clock)
+        })
+    }
+
+    /// Added: sets a Switch's output, or an Input's input, and appends the
+    /// component to the standing list unless there.
+    pub fn edit(&mut self, index: usize, number: u64) {
+        self.simulator.state(|state| {
+            let component = &mut state.comp.components[index];
+            match component.prim_type {
+                Primitive::Switch => component.outputs[0].set_value(number as usize),
+                _ => component.inputs[0].set_value(number as usize),
+            }
+            if !state.to_upd.contains(&index) {
+                state.to_upd.push(index);
+            }
+        });
+    }
+
+    /// `id_to_idx`, of an id that exists.
+    pub fn index_of(&mut self, id: u32) -> u64 {
+        self.simulator.state(|state| state.comp.id_to_idx[&(id as usize)] as u64)
+    }
+
+    /// Number and width of a port that exists; side 0 is the inputs.
+    pub fn value(&mut self, side: u8, index: usize, port: usize) -> (u64, u64) {
+        let status = |state: &mut SimState| {
+            let id = state.comp.components[index].id;
+            match side {
+                0 => state.comp.get_input_status_at(id, port),
+                _ => state.comp.get_output_status_at(id, port),
+            }
+        };
+        let data = self.simulator.state(status).expect("the port exists");
+        (data.value as u64, data.bits as u64)
+    }
+
+    /// `deps` of a component that exists.
+    pub fn sources(&mut self, index: usize) -> Vec<u64> {
+        self.simulator.state(|state| list_words(&state.comp.deps[index]))
+    }
+
+    /// `inv_deps` of a component that exists.
+    pub fn targets(&mut self, index: usize) -> Vec<u64> {
+        self.simulator.state(|state| list_words(&state.comp.inv_deps[index]))
+    }
+}
+
+/// A primitive below the one composite that holds a table's components.
+fn child(entry: &Entry) -> Component<ExtraInfo> {
+    let id = entry.id as usize;
+    ComponentBuilder::new(id)
+        .port_count(entry.fields.inputs as usize, entry.fields.outputs as usize)
+        .extra(ExtraInfo::from_primitive(id, primitive(&entry.fields)))
+        .build()
+}
+
+/// The ports keep their widths and take the table's numbers.
+fn put_values(ports: &mut [Data], numbers: &[u64]) {
+    for (port, number) in ports.iter_mut().zip(numbers) {
+        port.set_value(*number as usize);
+    }
+}
+
+fn list(tables: &Tables, list: usize) -> Vec<usize> {
+    tables.used(list).iter().map(|index| *index as usize).collect()
+}
+
+fn list_words(list: &[usize]) -> Vec<u64> {
+    list.iter().map(|index| *index as u64).collect()
+}
+
+/// Eight words for each component: kind, id, C, parameter, inputs, outputs,
+/// first input, first output.
+fn component_words(components: &[PrimitiveComponent]) -> Vec<u64> {
+    let (mut first_input, mut first_output) = (0, 0);
+    let mut words = vec![];
+    for component in components {
+        let (kind, width, parameter) = kind_words(&component.prim_type);
+        let (inputs, outputs) = (component.inputs.len() as u64, component.outputs.len() as u64);
+        words.extend([kind, component.id as u64, width, parameter]);
+        words.extend([inputs, outputs, first_input, first_output]);
+        first_input += inputs;
+        first_output += outputs;
+    }
+    words
+}

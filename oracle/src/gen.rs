@@ -1,0 +1,103 @@
+//! `oracle gen WHAT SEED COUNT [--stats]`: command streams for the comparison.
+//!
+//! The same words give the same bytes. With `--stats`, the oracle's own answers
+//! are counted on standard error.
+
+mod damage;
+pub mod drawing;
+mod evaluate;
+mod full;
+pub mod judge;
+mod load;
+pub mod random;
+pub mod rounds;
+mod tables;
+
+use crate::command::Command;
+use crate::plain::net::broken;
+use crate::program::Program;
+use random::Random;
+use std::collections::BTreeMap;
+use std::io::{BufWriter, Error, Result, Write};
+
+const USAGE: &str = "usage: oracle | oracle gen evaluate|judge|load|run|tables SEED COUNT [--stats]";
+
+pub fn usage() -> Result<()> {
+    Err(Error::other(USAGE))
+}
+
+/// Where generated commands go. The oracle answers each of them, so that a
+/// generator knows the tables that its next command meets.
+pub struct Stream<W: Write> {
+    output: BufWriter<W>,
+    program: Program,
+    /// How often each answer was given, by its line's first two words; and how
+    /// often each clause was the first that the tables broke.
+    answers: BTreeMap<String, u64>,
+}
+
+impl<W: Write> Stream<W> {
+    fn new(output: W) -> Stream<W> {
+        Stream { output: BufWriter::new(output), program: Program::new(), answers: BTreeMap::new() }
+    }
+
+    /// Writes a command.
+    pub fn put(&mut self, command: Command) -> Result<()> {
+        let mut bytes = Vec::new();
+        command.write(&mut bytes);
+        let mut lines = String::new();
+        self.program.answer(&command, &mut lines);
+        if lines.starts_with("calm 16") {
+            let clause = broken(&self.program.tables).unwrap_or("");
+            *self.answers.entry(format!("not a net: {clause}")).or_default() += 1;
+        }
+        if let Some(first) = lines.lines().next() {
+            let words: Vec<&str> = first.split(' ').take(2).collect();
+            *self.answers.entry(words.join(" ")).or_default() += 1;
+        }
+        self.output.write_all(&bytes)
+    }
+
+    /// Writes several commands.
+    pub fn put_all(&mut self, commands: impl IntoIterator<Item = Command>) -> Result<()> {
+        commands.into_iter().try_for_each(|command| self.put(command))
+    }
+
+    /// The counted answers, but for `N`, `P` and `A`, which give no number.
+    fn statistics(&self) -> String {
+        let refusable = |answer: &&String| {
+            let word = answer.split(' ').next().unwrap_or("");
+            !["net", "inputs", "components", "counts"].contains(&word)
+        };
+        let counted = self.answers.keys().filter(refusable);
+        counted.map(|answer| format!("{answer}: {}\n", self.answers[answer])).collect()
+    }
+}
+
+/// Writes the stream that the words ask for.
+pub fn run(words: &[String], output: impl Write) -> Result<()> {
+    let stats = words.iter().any(|word| word == "--stats");
+    let plain: Vec<&str> = words.iter().map(String::as_str).filter(|word| *word != "--stats").collect();
+    let [what, seed, count] = plain[..] else {
+        return usage();
+    };
+    let (Ok(seed), Ok(count)) = (seed.parse::<u64>(), count.parse::<u64>()) else {
+        return usage();
+    };
+    let mut stream = Stream::new(output);
+    let mut random = Random::new(seed);
+    for _ in 0..count {
+        match what {
+            "evaluate" => evaluate::one(&mut random, &mut stream)?,
+            "judge" => judge::one(&mut random, &mut stream)?,
+            "load" => load::one(&mut random, &mut stream)?,
+            "run" => rounds::one(&mut random, &mut stream)?,
+            "tables" => tables::one(&mut random, &mut stream)?,
+            _ => return usage(),
+        }
+    }
+    if stats {
+        eprint!("{}", stream.statistics());
+    }
+    stream.output.flush()
+}

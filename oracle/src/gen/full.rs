@@ -1,0 +1,69 @@
+//! A net at every limit at once, which no load can make: 256 components, 1,024
+//! inputs and outputs, 1,024 wires.
+
+use super::random::Random;
+use crate::plain::kinds::Fields;
+use crate::plain::net::{broken, entries};
+use crate::tables::{Tables, COMPONENTS, INPUTS, OUTPUTS, WIRES};
+
+/// The net, its values 0 and its lists empty.
+pub fn full_net(random: &mut Random) -> Tables {
+    let mut tables = Tables::new();
+    put_components(random, &mut tables);
+    put_wires(random, &mut tables);
+    assert_eq!(broken(&tables), None, "a net made here is one");
+    assert_eq!(tables.counts, [256, 1_024, 1_024, 1_024, 0, 0, 0]);
+    tables
+}
+
+/// 25 Splitters with a Const for each width, and gates of four and five inputs.
+fn rows(random: &mut Random) -> Vec<Fields> {
+    let row = |kind, inputs, outputs, width, parameter| Fields { kind, inputs, outputs, width, parameter };
+    let mut rows = vec![row(10, 1, 32, 0, 32); 24];
+    rows.push(row(10, 1, 25, 0, 25));
+    rows.push(row(13, 0, 1, 32, random.below(1 << 32)));
+    rows.push(row(13, 0, 1, 25, random.below(1 << 25)));
+    for gate in 0..229 {
+        let inputs = if gate < 83 { 5 } else { 4 };
+        rows.push(row(random.pick(&[1, 2, 4, 5, 6]), inputs, 1, 0, 0));
+    }
+    rows
+}
+
+/// The components in any order, each with an id of its own.
+fn put_components(random: &mut Random, tables: &mut Tables) {
+    let mut rows = rows(random);
+    let first_id = random.below(1 << 31);
+    let (mut words, mut outputs, mut first_input) = (vec![], vec![], 0);
+    while !rows.is_empty() {
+        let row = rows.swap_remove(random.below(rows.len() as u64) as usize);
+        let id = first_id + rows.len() as u64;
+        words.extend([row.kind, id, row.width, row.parameter]);
+        words.extend([row.inputs, row.outputs, first_input, outputs.len() as u64]);
+        first_input += row.inputs;
+        outputs.extend(vec![row.parameter * (row.kind == 13) as u64; row.outputs as usize]);
+    }
+    tables.put(COMPONENTS, &words);
+    tables.put(INPUTS, &vec![0; first_input as usize]);
+    tables.put(OUTPUTS, &outputs);
+}
+
+/// A wire into every input, from any output of its width, in any order.
+fn put_wires(random: &mut Random, tables: &mut Tables) {
+    let entries = entries(tables);
+    let mut open = vec![];
+    let mut sources = vec![];
+    for (index, entry) in entries.iter().enumerate() {
+        let fields = &entry.fields;
+        open.extend((0..fields.inputs).map(|port| (index as u64, port, fields.input_width())));
+        sources.extend((0..fields.outputs).map(|port| (index as u64, port, fields.output_width())));
+    }
+    let mut wires = vec![];
+    while !open.is_empty() {
+        let (to, port, width) = open.swap_remove(random.below(open.len() as u64) as usize);
+        let equal: Vec<_> = sources.iter().filter(|source| source.2 == width).copied().collect();
+        let (from, out, _) = random.pick(&equal);
+        wires.extend([from, out, to, port]);
+    }
+    tables.put(WIRES, &wires);
+}

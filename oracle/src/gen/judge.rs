@@ -1,0 +1,32 @@
+//! Files to judge: accepted drawings, damaged copies, and noise.
+
+use super::damage::{damaged, noise};
+use super::drawing::{any_profile, drawing, file_of};
+use super::random::Random;
+use super::Stream;
+use crate::command::Command;
+use std::io::{Result, Write};
+
+pub fn one<W: Write>(random: &mut Random, stream: &mut Stream<W>) -> Result<()> {
+    stream.put(Command::Judge(any_file(random)))
+}
+
+/// Three in ten accepted, six damaged, one noise.
+pub fn any_file(random: &mut Random) -> Vec<u8> {
+    match random.below(10) {
+        0 => noise(random),
+        1..=3 => good_file(random),
+        _ => bad_file(random),
+    }
+}
+
+pub fn good_file(random: &mut Random) -> Vec<u8> {
+    let profile = any_profile(random);
+    file_of(&drawing(random, profile))
+}
+
+pub fn bad_file(random: &mut Random) -> Vec<u8> {
+    let profile = any_profile(random);
+    let records = drawing(random, profile);
+    damaged(random, records)
+}

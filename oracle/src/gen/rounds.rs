@@ -1,0 +1,97 @@
+//! Loads, each with rounds, edits, runs until calm and the question of calm.
+
+use super::drawing::{drawing, file_of, running_profile};
+use super::judge::bad_file;
+use super::random::Random;
+use super::Stream;
+use crate::command::Command;
+use crate::plain::net::entries;
+use crate::tables::{Tables, WIRES};
+use std::io::{Result, Write};
+
+pub fn one<W: Write>(random: &mut Random, stream: &mut Stream<W>) -> Result<()> {
+    let profile = running_profile(random);
+    let file = file_of(&drawing(random, profile));
+    stream.put_all([Command::Load(file), Command::State])?;
+    let mut time = first_time(random);
+    for _ in 0..random.between(3, 25) {
+        time = next_time(random, time);
+        let command = step(random, &stream.program.tables, time);
+        stream.put_all([command, Command::State])?;
+        if random.once_in(40) {
+            stream.put(Command::All)?;
+        }
+    }
+    Ok(())
+}
+
+fn first_time(random: &mut Random) -> u64 {
+    match random.below(3) {
+        0 => random.pick(&[u64::MAX, u64::MAX - 5, 1 << 63, 1 << 62]),
+        1 => random.any_size(),
+        _ => 0,
+    }
+}
+
+/// Time mostly goes on by a little; it may stand, go back, leap or wrap.
+fn next_time(random: &mut Random, time: u64) -> u64 {
+    match random.below(8) {
+        0 => time,
+        1 => time.wrapping_sub(random.between(1, 30)),
+        2 => random.any_size(),
+        _ => time.wrapping_add(random.between(1, 9)),
+    }
+}
+
+/// One command; now and then a load that is refused.
+pub fn step(random: &mut Random, tables: &Tables, time: u64) -> Command {
+    match random.below(20) {
+        0..=9 => Command::Round { time },
+        10..=14 => edit(random, tables),
+        15..=17 => Command::Run { time, limit: random.pick(&[0, 1, 2, 3, 16, 40, 300]) },
+        18 => Command::Calm,
+        _ => Command::Load(bad_file(random)),
+    }
+}
+
+/// Mostly an edit that is taken; else of any component, with any number.
+pub fn edit(random: &mut Random, tables: &Tables) -> Command {
+    let open = editable(tables);
+    let (index, width) = match (open.is_empty(), random.below(5)) {
+        (false, 0..=3) => random.pick(&open),
+        _ => (any_index(random, tables), random.pick(&[1, 1, 4, 32])),
+    };
+    let greatest = (1u64 << width) - 1;
+    let number = match random.below(8) {
+        0 => random.pick(&[greatest + 1, greatest + 2, 1 << 32, 1 << 63, u64::MAX]),
+        1 | 2 => greatest,
+        3 | 4 => 0,
+        _ => random.any() & greatest,
+    };
+    Command::Edit { index, number }
+}
+
+fn any_index(random: &mut Random, tables: &Tables) -> u16 {
+    let count = tables.counts[0].min(256);
+    match random.below(6) {
+        0 => random.pick(&[count, 255, 256, 65_535]) as u16,
+        _ => random.between(0, count) as u16,
+    }
+}
+
+/// Switches, and Inputs that no wire enters, with the width of what an edit sets.
+fn editable(tables: &Tables) -> Vec<(u16, u64)> {
+    if !tables.counts_within() {
+        return vec![];
+    }
+    let entered = |index: u64| tables.used(WIRES).chunks_exact(4).any(|wire| wire[2] == index);
+    let mut found = vec![];
+    for (index, entry) in entries(tables).iter().enumerate() {
+        match entry.fields.kind {
+            7 => found.push((index as u16, 1)),
+            8 if !entered(index as u64) => found.push((index as u16, entry.fields.parameter.clamp(1, 32))),
+            _ => {}
+        }
+    }
+    found
+}

@@ -1,0 +1,11 @@
+//! A plain second coding of document 01's numbers, written from its text alone.
+//!
+//! Every function here is total: any bytes, any tables and any counts get an
+//! answer. Nothing here evaluates, builds a net or runs one; that is logix's part.
+
+pub mod calls;
+pub mod drawing;
+pub mod judge;
+pub mod kinds;
+pub mod net;
+pub mod single;

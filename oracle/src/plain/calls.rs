@@ -1,0 +1,100 @@
+//! The numbers of loads, rounds, edits and questions: "2, 16, 17, 18, 19 in that
+//! order, as far as each applies".
+
+use super::judge::{check_1, judge_records};
+use super::kinds::fits;
+use super::net::{entries, is_net, Entry};
+use crate::tables::{Tables, ANSWER, FULL_WORDS, WIRES};
+
+/// A load: checks 1, 2, 3 to 15. Number and position.
+pub fn load_number(tables: &Tables, file: &[u8]) -> (u64, u64) {
+    if check_1(file) {
+        (1, 0)
+    } else if table_short(tables) {
+        (2, 0)
+    } else {
+        judge_records(file)
+    }
+}
+
+/// A round, run until calm, the question of calm: checks 2 and 16.
+pub fn round_number(tables: &Tables) -> u64 {
+    if table_short(tables) {
+        2
+    } else if !is_net(tables) {
+        16
+    } else {
+        0
+    }
+}
+
+/// An edit: checks 2, 16, 17, 18, 19.
+pub fn edit_number(tables: &Tables, index: u16, number: u64) -> u64 {
+    on_component(tables, index, |entry| match entry.fields.kind {
+        7 => number_fits(number, entry.fields.output_width()),
+        8 if !is_entered(tables, index) => number_fits(number, entry.fields.input_width()),
+        _ => 18,
+    })
+}
+
+/// The index of an id: checks 2, 16, 17.
+pub fn index_number(tables: &Tables, id: u32) -> u64 {
+    let refused = round_number(tables);
+    if refused != 0 {
+        return refused;
+    }
+    let known = entries(tables).iter().any(|entry| entry.id == id as u64);
+    if known {
+        0
+    } else {
+        17
+    }
+}
+
+/// A port's value: checks 2, 16, 17. Side 0 is the inputs.
+pub fn value_number(tables: &Tables, side: u8, index: u16, port: u16) -> u64 {
+    on_component(tables, index, |entry| {
+        let ports = if side == 0 { entry.fields.inputs } else { entry.fields.outputs };
+        if (port as u64) < ports {
+            0
+        } else {
+            17
+        }
+    })
+}
+
+/// Sources and targets: checks 2, here with the list for the answer, 16, 17.
+pub fn neighbours_number(tables: &Tables, index: u16) -> u64 {
+    if tables.lent[ANSWER] < FULL_WORDS[ANSWER] {
+        return 2;
+    }
+    on_component(tables, index, |_| 0)
+}
+
+/// Checks 2, 16 and 17 (no component of that index), then what the call asks of it.
+fn on_component(tables: &Tables, index: u16, then: impl Fn(&Entry) -> u64) -> u64 {
+    let refused = round_number(tables);
+    if refused != 0 {
+        return refused;
+    }
+    entries(tables).get(index as usize).map_or(17, then)
+}
+
+/// Check 2: a lent table is shorter than full size.
+fn table_short(tables: &Tables) -> bool {
+    (0..7).any(|table| tables.lent[table] < FULL_WORDS[table])
+}
+
+/// Whether a wire enters an input of the component.
+fn is_entered(tables: &Tables, index: u16) -> bool {
+    tables.used(WIRES).chunks_exact(4).any(|wire| wire[2] == index as u64)
+}
+
+/// Check 19.
+fn number_fits(number: u64, width: u64) -> u64 {
+    if fits(number, width) {
+        0
+    } else {
+        19
+    }
+}

@@ -1,0 +1,228 @@
+//! The program: it owns the tables, takes commands and prints lines.
+//!
+//! The numbers come from `plain`, all else from logix.
+
+use crate::command::{Command, Single};
+use crate::engine::Engine;
+use crate::io::{Channel, Stop};
+use crate::plain::calls::{edit_number, index_number, load_number};
+use crate::plain::calls::{neighbours_number, round_number, value_number};
+use crate::plain::drawing::{records, Drawing};
+use crate::plain::judge::judge;
+use crate::plain::single::single_number;
+use crate::primitive::evaluated;
+use crate::tables::{Tables, COMPONENTS, CURRENT, FOLLOWING, INPUTS, OUTPUTS, STANDING, WIRES};
+use std::fmt::Write as _;
+use std::io::{Read, Result, Write};
+
+/// Commands are read until the input ends or this many have been read.
+const COMMANDS_MAX: u64 = 1 << 32;
+/// The words that begin the lines of `A`.
+const TABLE_NAMES: [&str; 7] =
+    ["components", "inputs", "outputs", "wires", "current", "following", "standing"];
+
+pub struct Program {
+    pub tables: Tables,
+    /// logix's side of the tables; none where they were changed by hand.
+    engine: Option<Engine>,
+}
+
+/// Reads commands and prints their lines until the input ends or is bad.
+pub fn run(input: impl Read, output: impl Write) -> Result<()> {
+    let mut channel = Channel::new(input, output);
+    let mut program = Program::new();
+    let mut lines = String::new();
+    for _ in 0..COMMANDS_MAX {
+        if channel.at_end()? {
+            break;
+        }
+        match Command::read(&mut channel) {
+            Ok(command) => program.answer(&command, &mut lines),
+            Err(Stop::Io(error)) => return Err(error),
+            Err(Stop::Bad) => {
+                channel.write("bad command\n")?;
+                break;
+            }
+        }
+        channel.write(&lines)?;
+        lines.clear();
+    }
+    channel.flush()
+}
+
+impl Program {
+    pub fn new() -> Program {
+        Program { tables: Tables::new(), engine: None }
+    }
+
+    /// Does one command and appends its lines.
+    pub fn answer(&mut self, command: &Command, lines: &mut String) {
+        match command {
+            Command::Judge(file) => {
+                let (number, position) = judge(file);
+                line(lines, "judge", [number, position]);
+            }
+            Command::Load(file) => self.load(file, lines),
+            Command::Net => self.net(lines),
+            Command::State => self.state(lines),
+            Command::All => self.all(lines),
+            Command::Round { time } => self.round(*time, lines),
+            Command::Edit { index, number } => self.edit(*index, *number, lines),
+            Command::Run { time, limit } => self.run_until_calm(*time, *limit, lines),
+            Command::Calm => self.calm(lines),
+            Command::Index { id } => self.index(*id, lines),
+            Command::Value { side, index, port } => self.value(*side, *index, *port, lines),
+            Command::Sources { index } => self.neighbours("sources", *index, Engine::sources, lines),
+            Command::Targets { index } => self.neighbours("targets", *index, Engine::targets, lines),
+            Command::Evaluate(single) => evaluate(single, lines),
+            Command::WriteWord { table, place, word } => {
+                self.engine = None;
+                self.tables.write_word(*table as usize, *place as usize, *word);
+            }
+            Command::SetCount { which, number } => {
+                self.engine = None;
+                self.tables.set_count(*which as usize, *number);
+            }
+            Command::Lend { table, words } => self.tables.lend(*table as usize, *words as usize),
+        }
+    }
+
+    /// logix's side of the tables, which are a net.
+    fn engine(&mut self) -> &mut Engine {
+        let tables = &self.tables;
+        self.engine.get_or_insert_with(|| Engine::of_tables(tables))
+    }
+
+    fn load(&mut self, file: &[u8], lines: &mut String) {
+        let (number, position) = load_number(&self.tables, file);
+        if number == 0 {
+            let mut engine = Engine::of_drawing(&Drawing::new(records(file)));
+            engine.write_net(&mut self.tables);
+            self.engine = Some(engine);
+        }
+        line(lines, "load", [number, position]);
+    }
+
+    fn round(&mut self, time: u64, lines: &mut String) {
+        let number = round_number(&self.tables);
+        if number == 0 {
+            self.change(|engine| engine.round(time));
+        }
+        line(lines, "round", [number, 0]);
+    }
+
+    /// Does something to a net, the tables included.
+    fn change(&mut self, act: impl FnOnce(&mut Engine)) {
+        act(self.engine());
+        if let Some(engine) = &mut self.engine {
+            engine.write_state(&mut self.tables);
+        }
+    }
+
+    fn edit(&mut self, index: u16, number: u64, lines: &mut String) {
+        let refused = edit_number(&self.tables, index, number);
+        if refused == 0 {
+            self.change(|engine| engine.edit(index as usize, number));
+        }
+        line(lines, "edit", [refused, 0]);
+    }
+
+    /// Rounds one by one, at least one unless the limit is 0, until one leaves calm.
+    fn run_until_calm(&mut self, time: u64, limit: u16, lines: &mut String) {
+        let number = round_number(&self.tables);
+        let (mut rounds, mut evaluations) = (0, 0);
+        while number == 0 && rounds < limit as u64 {
+            evaluations += self.engine().current_length();
+            self.change(|engine| engine.round(time));
+            rounds += 1;
+            if self.engine().calm() {
+                break;
+            }
+        }
+        line(lines, "run", [number, rounds, evaluations]);
+    }
+
+    fn calm(&mut self, lines: &mut String) {
+        let number = round_number(&self.tables);
+        let calm = number == 0 && self.engine().calm();
+        line(lines, "calm", [number, calm as u64]);
+    }
+
+    fn index(&mut self, id: u32, lines: &mut String) {
+        let number = index_number(&self.tables, id);
+        let index = if number == 0 { self.engine().index_of(id) } else { 0 };
+        line(lines, "index", [number, index]);
+    }
+
+    fn value(&mut self, side: u8, index: u16, port: u16, lines: &mut String) {
+        let number = value_number(&self.tables, side, index, port);
+        let (value, width) = match number {
+            0 => self.engine().value(side, index as usize, port as usize),
+            _ => (0, 0),
+        };
+        line(lines, "value", [number, value, width]);
+    }
+
+    fn neighbours(
+        &mut self,
+        word: &str,
+        index: u16,
+        ask: fn(&mut Engine, usize) -> Vec<u64>,
+        lines: &mut String,
+    ) {
+        let number = neighbours_number(&self.tables, index);
+        let found = match number {
+            0 => ask(self.engine(), index as usize),
+            _ => vec![],
+        };
+        line(lines, word, std::iter::once(number).chain(found));
+    }
+
+    fn net(&self, lines: &mut String) {
+        if !self.tables.counts_within() {
+            return lines.push_str("counts past the tables\n");
+        }
+        line(lines, "net", [COMPONENTS, INPUTS, OUTPUTS, WIRES].map(|table| self.tables.counts[table]));
+        for words in self.tables.used(COMPONENTS).chunks_exact(8) {
+            line(lines, "component", words.iter().copied());
+        }
+        for words in self.tables.used(WIRES).chunks_exact(4) {
+            line(lines, "wire", words.iter().copied());
+        }
+    }
+
+    fn state(&self, lines: &mut String) {
+        if !self.tables.counts_within() {
+            return lines.push_str("counts past the tables\n");
+        }
+        for table in [INPUTS, OUTPUTS, CURRENT, FOLLOWING, STANDING] {
+            line(lines, TABLE_NAMES[table], self.tables.used(table).iter().copied());
+        }
+    }
+
+    fn all(&self, lines: &mut String) {
+        for (name, words) in TABLE_NAMES.iter().zip(&self.tables.words) {
+            line(lines, name, words.iter().copied());
+        }
+    }
+}
+
+/// `evaluate N V V ..`: where refused, the numbers that came in.
+fn evaluate(single: &Single, lines: &mut String) {
+    let number = single_number(&single.fields, &single.inputs, &single.outputs);
+    let mut outputs: Vec<u64> = single.outputs.iter().map(|value| value.number).collect();
+    if number == 0 {
+        let new = evaluated(single);
+        outputs[..new.len()].copy_from_slice(&new);
+    }
+    line(lines, "evaluate", std::iter::once(number).chain(outputs));
+}
+
+/// One line: a word, then numbers, separated by single blanks.
+fn line(lines: &mut String, word: &str, numbers: impl IntoIterator<Item = u64>) {
+    lines.push_str(word);
+    for number in numbers {
+        let _ = write!(lines, " {number}");
+    }
+    lines.push('\n');
+}

@@ -1,0 +1,60 @@
+//! Tests: the lamp drawing, the limits, the language, and where logix and the
+//! plain coding can be laid side by side.
+
+mod agreement;
+mod lamp;
+mod language;
+mod limits;
+mod marked;
+mod net;
+
+use crate::command::Command;
+use crate::gen::drawing::{blank, file_of};
+use crate::plain::drawing::{Record, COMPONENT, CONNECTION, INPUT_MAP, OUTPUT_MAP};
+use crate::plain::judge::judge;
+use crate::program::Program;
+
+fn component(component_kind: u8, owner: u16, inputs: u16, outputs: u16, id: u32) -> Record {
+    Record { component_kind, owner, a: inputs, b: outputs, id, ..blank(COMPONENT) }
+}
+
+fn connection(owner: u16, (a, b): (u16, u16), (c, d): (u16, u16)) -> Record {
+    Record { owner, a, b, c, d, ..blank(CONNECTION) }
+}
+
+fn input_map(owner: u16, a: u16, (c, d): (u16, u16)) -> Record {
+    Record { owner, a, c, d, ..blank(INPUT_MAP) }
+}
+
+fn output_map(owner: u16, (a, b): (u16, u16)) -> Record {
+    Record { owner, a, b, ..blank(OUTPUT_MAP) }
+}
+
+/// The lamp drawing of document 01.
+fn lamp() -> Vec<Record> {
+    vec![
+        component(0, 0, 0, 0, 100),
+        component(7, 0, 0, 1, 1),
+        component(7, 0, 0, 1, 2),
+        component(0, 0, 2, 1, 3),
+        component(5, 3, 2, 1, 4),
+        Record { parameter: 1, ..component(9, 0, 1, 1, 5) },
+        connection(0, (0, 0), (2, 0)),
+        connection(0, (1, 0), (2, 1)),
+        connection(0, (2, 0), (3, 0)),
+        input_map(3, 0, (0, 0)),
+        input_map(3, 1, (0, 1)),
+        output_map(3, (0, 0)),
+    ]
+}
+
+fn verdict(records: &[Record]) -> (u64, u64) {
+    judge(&file_of(records))
+}
+
+/// The lines of one command.
+fn answer(program: &mut Program, command: Command) -> String {
+    let mut lines = String::new();
+    program.answer(&command, &mut lines);
+    lines
+}

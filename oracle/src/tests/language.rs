@@ -1,0 +1,138 @@
+//! The command language: bad commands, counts, and what is lent.
+
+use super::{answer, lamp};
+use crate::command::Command;
+use crate::gen::drawing::file_of;
+use crate::program::{run, Program};
+
+/// What the program prints for these bytes.
+fn printed(input: &[u8]) -> String {
+    let mut output = vec![];
+    run(input, &mut output).unwrap();
+    String::from_utf8(output).unwrap()
+}
+
+#[test]
+fn bad_commands_end_the_program() {
+    assert_eq!(printed(b""), "");
+    assert_eq!(printed(b"Q"), "bad command\n");
+    assert_eq!(printed(b"CR\0\0\0"), "calm 0 1\nbad command\n");
+    assert_eq!(printed(b"J\x05\0\0\0abc"), "bad command\n");
+    assert_eq!(printed(b"CQC"), "calm 0 1\nbad command\n");
+    let mut evaluate = vec![b'X', 7, 0, 0, 1, 0, 0, 0];
+    evaluate.extend([0; 16]);
+    evaluate.extend([1, 1]);
+    assert_eq!(printed(&evaluate), "bad command\n");
+}
+
+#[test]
+fn the_first_tables_are_an_empty_net_of_sevens() {
+    assert_eq!(printed(b"N"), "net 0 0 0 0\n");
+    assert_eq!(printed(b"P"), "inputs\noutputs\ncurrent\nfollowing\nstanding\n");
+    assert_eq!(printed(b"R\0\0\0\0\0\0\0\0"), "round 0 0\n");
+    let all = printed(b"A");
+    let words: Vec<usize> = all.lines().map(|line| line.split(' ').count() - 1).collect();
+    assert_eq!(words, [2_048, 1_024, 1_024, 4_096, 256, 256, 256]);
+    assert!(all.lines().all(|line| line.split(' ').skip(1).all(|word| word == "7")));
+}
+
+#[test]
+fn a_long_file_is_read_to_its_end() {
+    let mut input = b"J\x40\x9c\0\0".to_vec();
+    input.extend(vec![1; 40_000]);
+    input.push(b'C');
+    assert_eq!(printed(&input), "judge 1 0\ncalm 0 1\n");
+}
+
+#[test]
+fn counts_are_kept_whole() {
+    let mut program = Program::new();
+    answer(&mut program, Command::SetCount { which: 4, number: 257 });
+    assert_eq!(answer(&mut program, Command::Net), "counts past the tables\n");
+    assert_eq!(answer(&mut program, Command::State), "counts past the tables\n");
+    assert_eq!(answer(&mut program, Command::Calm), "calm 16 0\n");
+    answer(&mut program, Command::SetCount { which: 4, number: 1 << 32 });
+    assert_eq!(answer(&mut program, Command::Round { time: 0 }), "round 16 0\n");
+    answer(&mut program, Command::SetCount { which: 7, number: 9 });
+    answer(&mut program, Command::SetCount { which: 4, number: 0 });
+    assert_eq!(answer(&mut program, Command::Calm), "calm 0 1\n");
+}
+
+#[test]
+fn a_short_table_is_2_before_16_and_after_1() {
+    let mut program = Program::new();
+    answer(&mut program, Command::SetCount { which: 0, number: 999 });
+    for table in 0..7 {
+        answer(&mut program, Command::Lend { table, words: 255 });
+        assert_eq!(answer(&mut program, Command::Round { time: 0 }), "round 2 0\n");
+        assert_eq!(answer(&mut program, Command::Sources { index: 0 }), "sources 2\n");
+        assert_eq!(answer(&mut program, Command::Load(vec![])), "load 1 0\n");
+        assert_eq!(answer(&mut program, Command::Load(vec![0; 24])), "load 2 0\n");
+        assert_eq!(answer(&mut program, Command::Judge(vec![0; 24])), "judge 3 0\n");
+        answer(&mut program, Command::Lend { table, words: 65_535 });
+    }
+    assert_eq!(answer(&mut program, Command::Round { time: 0 }), "round 16 0\n");
+}
+
+#[test]
+fn the_answer_list_is_lent_to_sources_and_targets_only() {
+    let mut program = Program::new();
+    answer(&mut program, Command::Load(file_of(&lamp())));
+    answer(&mut program, Command::Lend { table: 7, words: 255 });
+    assert_eq!(answer(&mut program, Command::Sources { index: 2 }), "sources 2\n");
+    assert_eq!(answer(&mut program, Command::Targets { index: 9 }), "targets 2\n");
+    assert_eq!(answer(&mut program, Command::Calm), "calm 0 0\n");
+    answer(&mut program, Command::Lend { table: 7, words: 256 });
+    assert_eq!(answer(&mut program, Command::Sources { index: 2 }), "sources 0 0 1\n");
+    assert_eq!(answer(&mut program, Command::Targets { index: 2 }), "targets 0 3\n");
+    assert_eq!(answer(&mut program, Command::Targets { index: 4 }), "targets 17\n");
+}
+
+#[test]
+fn questions_and_edits_on_the_lamp() {
+    let mut program = Program::new();
+    answer(&mut program, Command::Load(file_of(&lamp())));
+    assert_eq!(answer(&mut program, Command::Index { id: 4 }), "index 0 2\n");
+    assert_eq!(answer(&mut program, Command::Index { id: 3 }), "index 17 0\n");
+    assert_eq!(answer(&mut program, Command::Value { side: 1, index: 0, port: 0 }), "value 0 0 1\n");
+    assert_eq!(answer(&mut program, Command::Value { side: 0, index: 0, port: 0 }), "value 17 0 0\n");
+    assert_eq!(answer(&mut program, Command::Edit { index: 4, number: 9 }), "edit 17 0\n");
+    assert_eq!(answer(&mut program, Command::Edit { index: 2, number: 9 }), "edit 18 0\n");
+    assert_eq!(answer(&mut program, Command::Edit { index: 1, number: 2 }), "edit 19 0\n");
+    assert_eq!(answer(&mut program, Command::Edit { index: 1, number: 1 }), "edit 0 0\n");
+}
+
+#[test]
+fn words_that_do_not_fit_are_left_out() {
+    let mut program = Program::new();
+    let word = |table, place, word| Command::WriteWord { table, place, word };
+    answer(&mut program, word(4, 0, 65_536));
+    answer(&mut program, word(4, 256, 1));
+    answer(&mut program, word(7, 0, 1));
+    answer(&mut program, word(1, 1, u64::MAX));
+    assert_eq!(program.tables.words[4], vec![7; 256]);
+    assert_eq!(program.tables.words[1][..3], [7, u64::MAX, 7]);
+}
+
+/// Each command is read as it was written.
+#[test]
+fn commands_are_read_as_written() {
+    let mut bytes = vec![];
+    let commands = [
+        Command::Judge(vec![1, 2, 3]),
+        Command::Round { time: u64::MAX - 3 },
+        Command::Edit { index: 513, number: 1 << 63 },
+        Command::Run { time: 5, limit: 258 },
+        Command::Index { id: 0x0102_0304 },
+        Command::Value { side: 2, index: 3, port: 772 },
+        Command::Lend { table: 9, words: 1 },
+        Command::SetCount { which: 8, number: 1 },
+        Command::WriteWord { table: 8, place: 1, word: 1 },
+        Command::Net,
+    ];
+    for command in &commands {
+        command.write(&mut bytes);
+    }
+    let lines = "judge 1 0\nround 0 0\nedit 17 0\nrun 0 1 0\nindex 17 0\nvalue 17 0 0\nnet 0 0 0 0\n";
+    assert_eq!(printed(&bytes), lines);
+}
