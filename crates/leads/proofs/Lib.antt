@@ -1,2 +1,4 @@
 pub mod Accepted
 pub mod Components
+pub mod Descent
+pub mod Wires
