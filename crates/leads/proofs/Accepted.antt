@@ -4,7 +4,7 @@
 -- `judged-passes` says it once, for any list of checks; `accepted-passed` says it of a file.
 -- Assumes nothing.
 use mathlib.Core.Path.{_≡_, refl, ap, _∙_}
-use mathlib.Core.Logic.{_⊎_, inl, inr, ⊎-elim}
+use mathlib.Core.Logic.{_⊎_, inl, inr}
 use mathlib.Core.Bool.{Bool, true, false, cond}
 use mathlib.Core.List.{List, [], _∷_, map}
 use mathlib.Core.Option.{Option, none, some}
@@ -13,11 +13,10 @@ use native.Mathlib.Omega.{arith}
 use borrow.Author.Tests.{le-ltb}
 use lib.ListN.{length, getD}
 use Rattle.lists.specs.Lists.{from, first}
-use Rattle.lists.proofs.MembersLaws.{In, first-none, from-complete, getD-cases}
+use Rattle.lists.proofs.MembersLaws.{In, first-none, from0-complete, getD-cases}
 use Rattle.component.specs.declared.Record.{Record}
 use Rattle.component.specs.declared.Record.the-variants.{Refused as NoRecord}
-use Rattle.component.specs.declared.Verdict.{Verdict}
-use Rattle.component.specs.declared.Verdict.the-variants.{Accepted, Refused}
+use Rattle.component.specs.declared.Verdict.the-variants.{Accepted}
 use Rattle.component.specs.Record.{recordAt, recordCount}
 use Rattle.flatten.specs.Verdict.{Check, check, checks, refused, said, judged, sized, verdict}
 
@@ -38,7 +37,7 @@ judged-passes n (j ∷ ks) e k h p l =
     by-found later (some q) z e h = absurd (refused-not (j .number) q e)
     by-found later none z e (inl u) =
         ap (λ (c : Check). c .fails p) u
-        ∙ first-none (j .fails) p (from 0 n) z (from-complete 0 n p (omega arith) (omega arith))
+        ∙ first-none (j .fails) p (from 0 n) z (from0-complete n p l)
     by-found later none z e (inr u) = later e u
 
 -- The check of a number; one that never fails where there is none.
@@ -54,7 +53,18 @@ pub record Passed (at : ℕ → Record) (n : ℕ) : Type 0 where
   pub past : (p : ℕ) → n ≤ p → at p ≡ NoRecord
   pub passes : (k p : ℕ) → p < n → checkNumbered at n k .fails p ≡ false
 
--- Of an accepted file no record fails a check: with d : Passed at n, `d .passes 4 p` says that record p does not fail check 4.
+-- An accepted file has a size that check 1 passes.
+pub accepted-sized : (file : List ℕ) → verdict file ≡ Accepted → sized file ≡ true
+unfolding verdict
+accepted-sized file accepted = by-size (sized file) accepted
+  where
+    by-size : (b : Bool)
+        → cond b (judged (recordCount file) (checks (recordAt file) (recordCount file))) (refused 1 0) ≡ Accepted
+        → b ≡ true
+    by-size true e = refl
+    by-size false e = absurd (refused-not 1 0 e)
+
+-- Of an accepted file no record fails a check: with d : Passed at n, `d .passes 4 p` says so of record p and check 4.
 pub accepted-passed : (file : List ℕ) → verdict file ≡ Accepted → Passed (recordAt file) (recordCount file)
 unfolding verdict
 accepted-passed file accepted =
@@ -66,13 +76,12 @@ accepted-passed file accepted =
     all : List Check
     all = checks (recordAt file) (recordCount file)
 
-    passed-all : (b : Bool) → cond b (judged (recordCount file) all) (refused 1 0) ≡ Accepted → judged (recordCount file) all ≡ Accepted
-    passed-all true e = e
-    passed-all false e = absurd (refused-not 1 0 e)
+    judged-all : judged (recordCount file) all ≡ Accepted
+    judged-all = rw (accepted-sized file accepted) at accepted
 
     by-place : (k p : ℕ) → p < recordCount file
         → (checkNumbered (recordAt file) (recordCount file) k ≡ check 0 (λ p. false))
         ⊎ ((k - 3 < length all) × In (checkNumbered (recordAt file) (recordCount file) k) all)
         → checkNumbered (recordAt file) (recordCount file) k .fails p ≡ false
     by-place k p l (inl e) = ap (λ (c : Check). c .fails p) e
-    by-place k p l (inr h) = judged-passes (recordCount file) all (passed-all (sized file) accepted) _ (h .1) p l
+    by-place k p l (inr h) = judged-passes (recordCount file) all judged-all _ (h .1) p l

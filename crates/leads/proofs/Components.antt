@@ -1,21 +1,21 @@
--- Components of a drawing that passes every check: they stand first, an owner stands before what it owns, a child is owned
--- by whom it is counted under, no two children share a place, none is numbered 256 or more, none is too deep.
+-- Components of a drawing that passes every check: they stand first, an owner stands before what it owns, a child is
+-- owned by whom it is counted under, no two children share a place, none is numbered 256 or more, none is too deep.
 -- docs/SPECIFICATION.md, "The drawing file" and checks 3 to 8.
--- Not here: what the checks say of a single component (Table).
+-- Not here: the table of kinds, ids and numbers of ports (Primitives).
 -- Assumes nothing.
-use mathlib.Core.Path.{_≡_, refl, sym, ap, _∙_, subst}
+use mathlib.Core.Path.{_≡_, refl, ap}
 use mathlib.Core.Logic.{_⊎_, inl, inr, ⊎-elim}
-use mathlib.Core.Bool.{Bool, true, false, not, _&&_, _||_, true≢false, false≢true}
-use mathlib.Core.List.{List, [], _∷_}
+use mathlib.Core.Bool.{Bool, true, false, not, _&&_, _||_, false≢true}
+use mathlib.Core.List.{List}
 use Prim.Native.Nat.{ℕ, zero, suc, _-_, _≤_, _<_}
 use native.Mathlib.Decide.{decLt}
 use native.Mathlib.Omega.{arith}
-use borrow.Author.Tests.{eqb-true, eqb-false, eq-eqb, ne-eqb, ltb-false, leb-true, leb-false, not-true, not-false}
+use borrow.Author.Tests.{eqb-true, eqb-false, eq-eqb, ltb-false, leb-false, not-true, not-false}
 use lib.ListN.{length, getD}
-use lib.Dec.{eqb, leb, ltb}
+use lib.Dec.{eqb, leb}
 use Rattle.lists.specs.Lists.{from, keep}
 use Rattle.lists.proofs.ListsLaws.{and-left, and-right}
-use Rattle.lists.proofs.MembersLaws.{In, or-left-false, or-right-false, or-cases, and-right-false, below-or-above, getD-cases, keep-sound, from-sound, distinct-place, distinct-keep, distinct-from}
+use Rattle.lists.proofs.MembersLaws.{In, or-left-false, or-right-false, or-cases, and-right-false, getD-cases, keep-sound, from-sound, distinct-place, distinct-keep, distinct-from}
 use Rattle.primitive.specs.declared.table.Fields.{Fields}
 use Rattle.component.specs.declared.Record.{Record}
 use Rattle.component.specs.declared.Record.the-variants.{Component, Connection, InputMap, OutputMap, Refused}
@@ -38,10 +38,12 @@ pub composite-component : (r : Record) → composite r ≡ true → formOf r ≡
 composite-component r e = ⊎-elim (λ u. u) (λ u. absurd (false≢true (rw u at e))) (fields-cases r)
 
 pub input-component : (r : Record) (i : ℕ) → i < inputsOf r → formOf r ≡ 1
-input-component r i h = ⊎-elim (λ u. u) (λ u. absurd (omega (arith, ap (λ (f : Fields). f .inputs) u))) (fields-cases r)
+input-component r i h =
+    ⊎-elim (λ u. u) (λ u. absurd (omega (arith, ap (λ (f : Fields). f .inputs) u))) (fields-cases r)
 
 pub output-component : (r : Record) (i : ℕ) → i < outputsOf r → formOf r ≡ 1
-output-component r i h = ⊎-elim (λ u. u) (λ u. absurd (omega (arith, ap (λ (f : Fields). f .outputs) u))) (fields-cases r)
+output-component r i h =
+    ⊎-elim (λ u. u) (λ u. absurd (omega (arith, ap (λ (f : Fields). f .outputs) u))) (fields-cases r)
 
 module _ (at : ℕ → Record) (n : ℕ) (d : Passed at n) where
   -- A component's record is in the file.
@@ -94,8 +96,11 @@ module _ (at : ℕ → Record) (n : ℕ) (d : Passed at n) where
   pub components-first : (c q : ℕ) → formOf (at c) ≡ 1 → q ≤ c → formOf (at q) ≡ 1
   components-first zero q e h = let z : q ≡ 0 = omega arith in rw z e
   components-first (suc c) q e h =
-      ⊎-elim (λ u. components-first c q (component-before c (component-below (suc c) e) e) (omega arith))
-      (⊎-elim (λ u. rw u e) (λ u. absurd (omega arith))) (below-or-above q (suc c))
+      by-place (components-first c q (component-before c (component-below (suc c) e) e)) (decLt q (suc c))
+    where
+      by-place : (q ≤ c → formOf (at q) ≡ 1) → Dec (q < suc c) → formOf (at q) ≡ 1
+      by-place before (yes l) = before (omega arith)
+      by-place before (no l) = let z : q ≡ suc c = omega arith in rw z e
 
   -- What holds a component stands before it, if owners up to there do.
   holds-before : (f o q : ℕ) → ((x : ℕ) → x ≤ q → 1 ≤ x → ownerOf (at x) < x) → holds at n f o q ≡ true → o < q
@@ -125,12 +130,16 @@ module _ (at : ℕ → Record) (n : ℕ) (d : Passed at n) where
   owner-before c = owner-before-upto (suc c) c (omega arith)
 
   -- A child that there is has a place among its owner's children, is owned by that owner, and is not the root.
-  pub child-owner : (o k : ℕ) → formOf (at (child at n o k)) ≡ 1 → (ownerOf (at (child at n o k)) ≡ o) × (1 ≤ child at n o k)
+  pub child-owner : (o k : ℕ) → formOf (at (child at n o k)) ≡ 1
+      → (ownerOf (at (child at n o k)) ≡ o) × (1 ≤ child at n o k)
   child-owner o k e =
       ⊎-elim (λ u. let z : child at n o k < n = component-below _ e in absurd (omega arith))
-      (λ v. let r = keep-sound (λ q. isComponent at n q && eqb (ownerOf (at q)) o) (child at n o k) (from 1 (n - 1)) (v .1) in
+      (λ v. let r = keep-sound owned (child at n o k) (from 1 (n - 1)) (v .1) in
       (eqb-true _ _ (and-right (isComponent at n (child at n o k)) _ (r .0)), from-sound 1 (n - 1) _ (r .1) .0))
-      (getD-cases (keep (λ q. isComponent at n q && eqb (ownerOf (at q)) o) (from 1 (n - 1))) k n)
+      (getD-cases (keep owned (from 1 (n - 1))) k n)
+    where
+      owned : ℕ → Bool
+      owned q = isComponent at n q && eqb (ownerOf (at q)) o
 
   -- Two children of one owner that are one component have one place.
   pub child-inj : (o j k : ℕ) → formOf (at (child at n o j)) ≡ 1 → child at n o j ≡ child at n o k → j ≡ k

@@ -1,25 +1,23 @@
 -- The wires of an accepted file are exactly what its drawing leads to. docs/SPECIFICATION.md, "Flattening".
 -- Assumes nothing.
 use mathlib.Core.Path.{_≡_, refl, sym, ap, subst}
-use mathlib.Core.Bool.{Bool, true, false, cond, not, _&&_}
-use mathlib.Core.List.{List, [], _∷_, map}
-use Prim.Native.Nat.{ℕ, zero, suc, _+_, _≤_, _<_}
+use mathlib.Core.Bool.{true, cond, _&&_}
+use mathlib.Core.List.{[]}
+use Prim.Native.Nat.{ℕ, _+_, _<_}
 use native.Mathlib.Omega.{arith}
 use borrow.Author.Tests.{eqb-true, ltb-true, not-false}
 use lib.Dec.{eqb}
-use Rattle.lists.specs.Lists.{from, joined}
+use Rattle.lists.specs.Lists.{from}
 use Rattle.lists.proofs.ListsLaws.{and-left, and-right}
-use Rattle.lists.proofs.MembersLaws.{In, in-cond, from-sound, from-complete, joined-sound, joined-complete, map-sound, map-complete}
+use Rattle.lists.proofs.MembersLaws.{In, in-cond, from0-sound, from0-complete, joined-sound, joined-complete, map-sound, map-complete}
 use Rattle.component.specs.declared.Record.{Record}
-use Rattle.component.specs.declared.Verdict.the-variants.{Accepted}
-use Rattle.component.specs.Record.{recordAt, recordCount, formOf, ownerOf, fromOf, outputOf, toOf, inputOf, inputsOf, outputsOf}
+use Rattle.component.specs.Record.{formOf, ownerOf, fromOf, outputOf, toOf, inputOf, inputsOf, outputsOf}
 use Rattle.component.specs.Drawing.{deepest, child, hasFrom, hasTo}
 use Rattle.flatten.specs.declared.Pin.{Pin}
 use Rattle.flatten.specs.declared.Wire.{Wire}
-use Rattle.flatten.specs.Descent.{pin, sourceOf, targetsOf, wiresAt, wires, flatPin, flatWires}
+use Rattle.flatten.specs.Descent.{sourceOf, targetsOf, wiresAt, wires}
 use Rattle.flatten.specs.Leads.{Leads}
-use Rattle.flatten.specs.Verdict.{verdict}
-use Rattle.leads.proofs.Accepted.{Passed, accepted-passed}
+use Rattle.leads.proofs.Accepted.{Passed}
 use Rattle.leads.proofs.Descent.{targets-sound, targets-complete, source-sound, source-complete}
 
 -- A wire from one end to the other.
@@ -44,7 +42,7 @@ module _ (at : ℕ → Record) (n : ℕ) where
       let m = map-sound (wire (sourceOf at n p)) w (targetsOf at n p) (c .1) in
       record {
         by = p;
-        in-file = omega (arith, from-sound 0 n p (r .1) .1);
+        in-file = from0-sound n p (r .1);
         connects = eqb-true (formOf (at p)) 2 (c .0);
         source-is = ap (λ (v : Wire). v .src) (m .2);
         target-is = subst (λ (t : Pin). In t (targetsOf at n p)) (sym (ap (λ (v : Wire). v .dst) (m .2))) (m .1);
@@ -54,7 +52,7 @@ module _ (at : ℕ → Record) (n : ℕ) where
   wires-complete w y =
       let p = y .by in
       joined-complete (λ p. cond (eqb (formOf (at p)) 2) (wiresAt at n p) []) w (from 0 n) p
-      (from-complete 0 n p (omega arith) (omega (arith, y .in-file)))
+      (from0-complete n p (y .in-file))
       (rw (y .connects, ← y .source-is) (map-complete (wire (w .src)) (w .dst) (targetsOf at n p) (y .target-is)))
 
 module _ (at : ℕ → Record) (n : ℕ) (d : Passed at n) where
@@ -63,8 +61,10 @@ module _ (at : ℕ → Record) (n : ℕ) (d : Passed at n) where
       → (outputOf (at p) < outputsOf (at (child at n (ownerOf (at p)) (fromOf (at p)))))
       × (inputOf (at p) < inputsOf (at (child at n (ownerOf (at p)) (toOf (at p)))))
   connection-ends p l e =
-      let twelve : (hasFrom at n p && hasTo at n p) ≡ true = not-false _ (rw e at (d .passes 12 p l)) in
-      (ltb-true _ _ (and-left (hasFrom at n p) (hasTo at n p) twelve), ltb-true _ _ (and-right (hasFrom at n p) (hasTo at n p) twelve))
+      let twelve : (hasFrom at n p && hasTo at n p) ≡ true = not-false _ (rw e at (d .passes 12 p l)) in (
+        ltb-true _ _ (and-left (hasFrom at n p) (hasTo at n p) twelve),
+        ltb-true _ _ (and-right (hasFrom at n p) (hasTo at n p) twelve),
+      )
 
   -- The depth counts from the connection's children.
   full-depth : 0 + deepest ≡ deepest

@@ -1,20 +1,19 @@
 -- Members of a list, lists without repeats, and counting with them.
 --   In a xs        a stands in xs
 --   Distinct xs    no two places of xs hold the same thing
--- First tests of two parts; then membership in _++_, joined, map, from and keep; then entries by place; then lists without
--- repeats, and that distinct things are no more than the places that hold them; then sums and lengths.
+-- First tests of two parts; then members of a list, by place and by test; then lists without repeats, and that distinct
+-- things are no more than the list that holds them; then sums and lengths; then lists made of others; then numbers.
 -- Not here: laws of length, getD, take and drop (lib.ListN, lib.Seq).
 -- Assumes nothing.
 use mathlib.Core.Path.{_≡_, refl, sym, ap, _∙_, subst}
 use mathlib.Core.Logic.{_⊎_, inl, inr, ⊎-elim}
-use mathlib.Core.Bool.{Bool, true, false, cond, not, _&&_, _||_, false≢true, true≢false}
+use mathlib.Core.Bool.{Bool, true, false, cond, _&&_, _||_, false≢true, true≢false}
 use mathlib.Core.List.{List, [], _∷_, _++_, map}
-use mathlib.Core.Option.{Option, none, some}
+use mathlib.Core.Option.{none, some}
 use Prim.Native.Nat.{ℕ, zero, suc, _+_, _≤_, _<_}
-use native.Mathlib.Nat.{add-zero}
 use native.Mathlib.Decide.{decLt}
 use native.Mathlib.Omega.{arith}
-use borrow.Author.Tests.{eqb-true, eq-eqb, ne-eqb}
+use borrow.Author.Tests.{eqb-true, eq-eqb}
 use lib.ListN.{length, getD, length-append, List·getD-eq-default}
 use lib.Dec.{eqb}
 use Rattle.lists.specs.Lists.{from, keep, every, any, total, joined, first, has, distinct}
@@ -41,18 +40,6 @@ or-right-false false b e = e
 pub or-cases : (a b : Bool) → (a || b) ≡ true → (a ≡ true) ⊎ (b ≡ true)
 or-cases true b e = inl refl
 or-cases false b e = inr e
-
--- A number is below another, it, or above it.
-pub below-or-above : (p q : ℕ) → (p < q) ⊎ ((p ≡ q) ⊎ (q < p))
-below-or-above p q = by-below (decLt p q)
-  where
-    by-above : (p < q → ⊥) → Dec (q < p) → (p ≡ q) ⊎ (q < p)
-    by-above n (yes h) = inr h
-    by-above n (no h) = inl (omega arith)
-
-    by-below : Dec (p < q) → (p < q) ⊎ ((p ≡ q) ⊎ (q < p))
-    by-below (yes h) = inl h
-    by-below (no h) = inr (by-above h (decLt q p))
 
 -- Membership.
 
@@ -162,10 +149,13 @@ module _ {A : Type 0} where
   Distinct [] = Unit
   Distinct (x ∷ xs) = (In x xs → ⊥) × Distinct xs
 
-  pub distinct-append : (xs ys : List A) → Distinct xs → Distinct ys → ((a : A) → In a xs → In a ys → ⊥) → Distinct (xs ++ ys)
+  pub distinct-append : (xs ys : List A) → Distinct xs → Distinct ys → ((a : A) → In a xs → In a ys → ⊥)
+      → Distinct (xs ++ ys)
   distinct-append [] ys d e h = e
-  distinct-append (x ∷ xs) ys d e h =
-      (λ u. ⊎-elim (d .0) (h x (inl refl)) (in-cases x xs ys u), distinct-append xs ys (d .1) e (λ a u v. h a (inr u) v))
+  distinct-append (x ∷ xs) ys d e h = (
+    λ u. ⊎-elim (d .0) (h x (inl refl)) (in-cases x xs ys u),
+    distinct-append xs ys (d .1) e (λ a u v. h a (inr u) v),
+  )
 
   pub distinct-keep : (f : A → Bool) (xs : List A) → Distinct xs → Distinct (keep f xs)
   distinct-keep f [] d = tt
@@ -176,14 +166,16 @@ module _ {A : Type 0} where
       by-test false e = e
 
   -- Two places that hold the same thing are one place.
-  pub distinct-place : (xs : List A) (i j : ℕ) (d : A) → Distinct xs → i < length xs → j < length xs → getD xs i d ≡ getD xs j d → i ≡ j
+  pub distinct-place : (xs : List A) (i j : ℕ) (d : A) → Distinct xs → i < length xs → j < length xs
+      → getD xs i d ≡ getD xs j d → i ≡ j
   distinct-place [] i j d s h l e = absurd (omega arith)
   distinct-place (x ∷ xs) zero zero d s h l e = refl
   distinct-place (x ∷ xs) zero (suc j) d s h l e =
       absurd (s .0 (subst (λ (a : A). In a xs) (sym e) (in-getD xs j d (omega arith))))
   distinct-place (x ∷ xs) (suc i) zero d s h l e =
       absurd (s .0 (subst (λ (a : A). In a xs) e (in-getD xs i d (omega arith))))
-  distinct-place (x ∷ xs) (suc i) (suc j) d s h l e = ap suc (distinct-place xs i j d (s .1) (omega arith) (omega arith) e)
+  distinct-place (x ∷ xs) (suc i) (suc j) d s h l e =
+      ap suc (distinct-place xs i j d (s .1) (omega arith) (omega arith) e)
 
   -- The list without the place at which a stands.
   without : (a : A) (ys : List A) → In a ys → List A
@@ -220,7 +212,8 @@ module _ {A : Type 0} where
   keep-length f [] = omega arith
   keep-length f (x ∷ xs) = by-test (f x) (keep-length f xs)
     where
-      by-test : (b : Bool) → length (keep f xs) ≤ length xs → length (cond b (x ∷ keep f xs) (keep f xs)) ≤ suc (length xs)
+      by-test : (b : Bool) → length (keep f xs) ≤ length xs
+          → length (cond b (x ∷ keep f xs) (keep f xs)) ≤ suc (length xs)
       by-test true h = omega arith
       by-test false h = omega arith
 
@@ -237,12 +230,17 @@ module _ {A : Type 0} where
   total-append f [] ys = omega arith
   total-append f (x ∷ xs) ys = omega (arith, total-append f xs ys)
 
+  pub total-cong : (f g : A → ℕ) (xs : List A) → ((a : A) → f a ≡ g a) → total f xs ≡ total g xs
+  total-cong f g [] h = refl
+  total-cong f g (x ∷ xs) h = omega (arith, h x, total-cong f g xs h)
+
 -- Membership in lists made of others.
 module _ {A B : Type 0} where
   pub joined-sound : (f : A → List B) (b : B) (xs : List A) → In b (joined f xs) → (a : A) × In a xs × In b (f a)
   joined-sound f b [] h = absurd h
   joined-sound f b (x ∷ xs) h =
-      ⊎-elim (λ u. (x, inl refl, u)) (λ v. let r = joined-sound f b xs v in (r .0, inr (r .1), r .2)) (in-cases b (f x) (joined f xs) h)
+      ⊎-elim (λ u. (x, inl refl, u)) (λ v. let r = joined-sound f b xs v in (r .0, inr (r .1), r .2))
+      (in-cases b (f x) (joined f xs) h)
 
   pub joined-complete : (f : A → List B) (b : B) (xs : List A) (a : A) → In a xs → In b (f a) → In b (joined f xs)
   joined-complete f b [] a h u = absurd h
@@ -270,7 +268,8 @@ module _ {A B : Type 0} where
       d .0 (subst (λ (y : A). In y xs) (sym (h x (r .0) b (inl refl) (inr (r .1)) u (r .2))) (r .1)))
 
   -- A function that tells members apart keeps a list without repeats.
-  pub distinct-map : (g : A → B) (xs : List A) → ((a c : A) → In a xs → In c xs → g a ≡ g c → a ≡ c) → Distinct xs → Distinct (map g xs)
+  pub distinct-map : (g : A → B) (xs : List A) → ((a c : A) → In a xs → In c xs → g a ≡ g c → a ≡ c) → Distinct xs
+      → Distinct (map g xs)
   distinct-map g [] h d = tt
   distinct-map g (x ∷ xs) h d = (
     λ u. let r = map-sound g (g x) xs u in
@@ -292,7 +291,8 @@ module _ {A B : Type 0} where
   joined-length f (x ∷ xs) = omega (arith, length-append (f x) (joined f xs), joined-length f xs)
 
 -- The image of lists one after the other is their images one after the other.
-pub map-joined : {A B C : Type 0} (g : B → C) (f : A → List B) (xs : List A) → map g (joined f xs) ≡ joined (λ a. map g (f a)) xs
+pub map-joined : {A B C : Type 0} (g : B → C) (f : A → List B) (xs : List A)
+    → map g (joined f xs) ≡ joined (λ a. map g (f a)) xs
 map-joined g f [] = refl
 map-joined {C = C} g f (x ∷ xs) =
     map-append g (f x) (joined f xs) ∙ ap (λ (l : List C). map g (f x) ++ l) (map-joined g f xs)
@@ -312,6 +312,13 @@ from-complete q (suc k) p h u = by-place (decLt q p) (λ l. from-complete (suc q
     by-place (yes l) later = inr (later l)
     by-place (no l) later = inl (omega arith)
 
+-- The same for the numbers below n.
+pub from0-sound : (n p : ℕ) → In p (from 0 n) → p < n
+from0-sound n p h = omega (arith, from-sound 0 n p h .1)
+
+pub from0-complete : (n p : ℕ) → p < n → In p (from 0 n)
+from0-complete n p h = from-complete 0 n p (omega arith) (omega arith)
+
 pub distinct-from : (q k : ℕ) → Distinct (from q k)
 distinct-from q zero = tt
 distinct-from q (suc k) = (λ u. let r = from-sound (suc q) k q u in omega (arith, r .0), distinct-from (suc q) k)
@@ -328,7 +335,8 @@ from-append q zero k =
 from-append q (suc j) k =
     let a : suc j + k ≡ suc (j + k) = omega arith in
     let b : suc q + j ≡ q + suc j = omega arith in
-    ap (λ (i : ℕ). from q i) a ∙ ap (λ (l : List ℕ). q ∷ l) (from-append (suc q) j k ∙ ap (λ (i : ℕ). from (suc q) j ++ from i k) b)
+    ap (λ (i : ℕ). from q i) a
+    ∙ ap (λ (l : List ℕ). q ∷ l) (from-append (suc q) j k ∙ ap (λ (i : ℕ). from (suc q) j ++ from i k) b)
 
 pub from-last : (k : ℕ) → from 0 (suc k) ≡ from 0 k ++ (k ∷ [])
 from-last k =
@@ -340,7 +348,8 @@ from-last k =
 
 pub has-sound : (x : ℕ) (ys : List ℕ) → has x ys ≡ true → In x ys
 has-sound x [] e = absurd (false≢true e)
-has-sound x (y ∷ ys) e = ⊎-elim (λ u. inl (eqb-true x y u)) (λ u. inr (has-sound x ys u)) (or-cases (eqb x y) (has x ys) e)
+has-sound x (y ∷ ys) e =
+    ⊎-elim (λ u. inl (eqb-true x y u)) (λ u. inr (has-sound x ys u)) (or-cases (eqb x y) (has x ys) e)
 
 pub has-complete : (x : ℕ) (ys : List ℕ) → In x ys → has x ys ≡ true
 has-complete x ys h = any-some (eqb x) x ys (eq-eqb x x refl) h
