@@ -1,5 +1,6 @@
--- The wires between flat indexes, as the tables hold them, are the images of the wires of the drawing; a flat wire
--- between two primitives' ports is what the drawing leads along. docs/SPECIFICATION.md, "Flattening".
+-- The wires between flat indexes, as the tables hold them, are the images of the wires of the drawing; where
+-- there is one between two primitives' ports, the drawing leads from one to the other.
+-- docs/SPECIFICATION.md, "Flattening".
 -- Assumes nothing.
 use mathlib.Core.Path.{_≡_, refl, sym, ap, subst, subst₂}
 use mathlib.Core.Bool.{true}
@@ -25,12 +26,17 @@ module _ (at : ℕ → Record) (n : ℕ) where
   abbrev pub flatWire : Wire → Wire
   flatWire w = wire (flatPin at n (w .src)) (flatPin at n (w .dst))
 
-  -- A flat wire is the image of a wire.
+  -- A flat wire is the image of a wire;
   pub flatWires-sound : (v : Wire) → In v (flatWires at n) → (w : Wire) × In w (wires at n) × (v ≡ flatWire w)
   flatWires-sound v h = map-sound flatWire v (wires at n) h
 
+  -- and the image of a wire is one.
   pub flatWires-complete : (w : Wire) → In w (wires at n) → In (flatWire w) (flatWires at n)
   flatWires-complete w h = map-complete flatWire w (wires at n) h
+
+  -- There are as many of them.
+  pub flatWires-length : length (flatWires at n) ≡ length (wires at n)
+  flatWires-length = length-map (wires at n) flatWire
 
   -- Ports of primitives that have one flat index and port are one.
   pub flatPin-inj : (s t : Pin) → isPrimitive (at (s .comp)) ≡ true → isPrimitive (at (t .comp)) ≡ true
@@ -41,11 +47,11 @@ module _ (at : ℕ → Record) (n : ℕ) where
       λ k. pin (c k) (i k)
 
 module _ (at : ℕ → Record) (n : ℕ) (d : Passed at n) where
-  -- Whatever the drawing leads along is, by flat indexes, a flat wire;
+  -- Wherever the drawing leads from an output to an input, there is a flat wire;
   pub leads-flatWires : (s t : Pin) → Leads at n s t → In (wire (flatPin at n s) (flatPin at n t)) (flatWires at n)
   leads-flatWires s t r = flatWires-complete at n (wire s t) (leads-wires at n d s t r)
 
-  -- and between ports of primitives a flat wire is what the drawing leads along.
+  -- and where there is one between ports of primitives, the drawing leads from one to the other.
   pub flatWires-lead : (s t : Pin) → isPrimitive (at (s .comp)) ≡ true → isPrimitive (at (t .comp)) ≡ true
       → In (wire (flatPin at n s) (flatPin at n t)) (flatWires at n) → Leads at n s t
   flatWires-lead s t e f h =
@@ -75,7 +81,7 @@ module _ (at : ℕ → Record) (n : ℕ) (d : Passed at n) where
 
   -- There are at most 1,024 flat wires,
   pub flatWires-bound : length (flatWires at n) ≤ 1024
-  flatWires-bound = omega (arith, length-map (wires at n) (flatWire at n), wires-bound at n d)
+  flatWires-bound = omega (arith, flatWires-length at n, wires-bound at n d)
 
   -- and their ends are flat indexes that there are.
   pub flatWires-below : (v : Wire) → In v (flatWires at n) → (v .src .comp < flat at n n) × (v .dst .comp < flat at n n)

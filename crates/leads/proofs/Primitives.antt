@@ -161,12 +161,14 @@ module _ (at : ℕ → Record) (n : ℕ) (d : Passed at n) where
   pub outputs-bound : outputsBefore at n n ≤ 1024
   outputs-bound = ports-bound outputsOf (λ p h e. ports-checked p h e .1) n (omega arith)
 
-  -- Each primitive obeys the table of kinds (check 9).
-  pub primitive-obeys : (c : ℕ) → isPrimitive (at c) ≡ true → obeys (fieldsOf (at c)) ≡ true
-  primitive-obeys c e =
-      let nine : not (obeys (fieldsOf (at c))) ≡ false =
-      rw (primitive-component (at c) e) at (d .passes 9 c (primitive-below c e)) in
+  -- Each component obeys the table of kinds, and is of a kind that there is (check 9).
+  pub component-obeys : (c : ℕ) → formOf (at c) ≡ 1 → obeys (fieldsOf (at c)) ≡ true
+  component-obeys c e =
+      let nine : not (obeys (fieldsOf (at c))) ≡ false = rw e at (d .passes 9 c (component-below at n d c e)) in
       not-false _ nine
+
+  pub primitive-obeys : (c : ℕ) → isPrimitive (at c) ≡ true → obeys (fieldsOf (at c)) ≡ true
+  primitive-obeys c e = component-obeys c (primitive-component (at c) e)
 
   id-earlier : (b c : ℕ) → b < c → formOf (at c) ≡ 1 → idOf (at b) ≡ idOf (at c) → ⊥
   id-earlier b c h e s =

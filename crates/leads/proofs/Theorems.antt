@@ -25,83 +25,94 @@ use Rattle.leads.proofs.Bound.{entered, wires-distinct, wires-bound}
 use Rattle.leads.proofs.FlatWires.{flatWires-lead, leads-flatWires, flatWires-distinct, flatWires-bound}
 use Rattle.leads.proofs.Primitives.{flat-below, flat-inj, primitives-bound, inputs-bound, outputs-bound, primitive-obeys, ids-distinct}
 
-module _ (file : List ℕ) (accepted : verdict file ≡ Accepted) where
+module _ (file : List ℕ) where
   abbrev at : ℕ → Record
   at = recordAt file
 
   abbrev n : ℕ
   n = recordCount file
 
-  passed : Passed at n
-  passed = accepted-passed file accepted
+  module _ (accepted : verdict file ≡ Accepted) where
+    passed : Passed at n
+    passed = accepted-passed file accepted
 
-  -- No record fails a check, whatever the check's number k.
-  pub accepted-check : (k p : ℕ) → p < n → checkNumbered at n k .fails p ≡ false
-  accepted-check = passed .passes
+    -- No record p of the file fails the check numbered k, for any p and k.
+    pub accepted-check : (k p : ℕ) → p < n → checkNumbered at n k .fails p ≡ false
+    accepted-check = passed .passes
 
-  -- The wires are exactly what the drawing leads along: each wire is led along,
-  pub accepted-wires-lead : (w : Wire) → In w (wires at n) → Leads at n (w .src) (w .dst)
-  accepted-wires-lead = wires-lead at n passed
+    -- From the source of each wire the drawing leads to its target.
+    pub accepted-wires-lead : (w : Wire) → In w (wires at n) → Leads at n (w .src) (w .dst)
+    accepted-wires-lead = wires-lead at n passed
 
-  -- and what is led along is a wire.
-  pub accepted-leads-wires : (s t : Pin) → Leads at n s t → In (wire s t) (wires at n)
-  accepted-leads-wires = leads-wires at n passed
+    -- Wherever the drawing leads from an output to an input, there is a wire: with the theorem above, the wires
+    -- are exactly what the drawing leads to.
+    pub accepted-leads-wires : (s t : Pin) → Leads at n s t → In (wire s t) (wires at n)
+    accepted-leads-wires = leads-wires at n passed
 
-  -- The same of the wires by flat indexes, as a load writes them.
-  pub accepted-flatWires-lead : (s t : Pin) → isPrimitive (at (s .comp)) ≡ true → isPrimitive (at (t .comp)) ≡ true
-      → In (wire (flatPin at n s) (flatPin at n t)) (flatWires at n) → Leads at n s t
-  accepted-flatWires-lead = flatWires-lead at n passed
+    -- By flat indexes, as a load writes them: a wire between ports of primitives is where the drawing leads,
+    pub accepted-flatWires-lead : (s t : Pin) → isPrimitive (at (s .comp)) ≡ true → isPrimitive (at (t .comp)) ≡ true
+        → In (wire (flatPin at n s) (flatPin at n t)) (flatWires at n) → Leads at n s t
+    accepted-flatWires-lead = flatWires-lead at n passed
 
-  pub accepted-leads-flatWires : (s t : Pin) → Leads at n s t
-      → In (wire (flatPin at n s) (flatPin at n t)) (flatWires at n)
-  accepted-leads-flatWires = leads-flatWires at n passed
+    -- and wherever the drawing leads there is one.
+    pub accepted-leads-flatWires : (s t : Pin) → Leads at n s t
+        → In (wire (flatPin at n s) (flatPin at n t)) (flatWires at n)
+    accepted-leads-flatWires = leads-flatWires at n passed
 
-  -- No input is entered by two wires, or twice.
-  pub accepted-wires-distinct : Distinct (entered (wires at n))
-  accepted-wires-distinct = wires-distinct at n passed
+    -- No two wires enter one input;
+    pub accepted-wires-distinct : Distinct (entered (wires at n))
+    accepted-wires-distinct = wires-distinct at n passed
 
-  pub accepted-flatWires-distinct : Distinct (entered (flatWires at n))
-  accepted-flatWires-distinct = flatWires-distinct at n passed
+    -- nor do they by flat indexes.
+    pub accepted-flatWires-distinct : Distinct (entered (flatWires at n))
+    accepted-flatWires-distinct = flatWires-distinct at n passed
 
-  -- The wire table has room: there are at most 1,024 wires.
-  pub accepted-wires-bound : length (wires at n) ≤ 1024
-  accepted-wires-bound = wires-bound at n passed
+    -- The wire table has room for all wires: they are at most 1,024,
+    pub accepted-wires-bound : length (wires at n) ≤ 1024
+    accepted-wires-bound = wires-bound at n passed
 
-  pub accepted-flatWires-bound : length (flatWires at n) ≤ 1024
-  accepted-flatWires-bound = flatWires-bound at n passed
+    -- and as many by flat indexes.
+    pub accepted-flatWires-bound : length (flatWires at n) ≤ 1024
+    accepted-flatWires-bound = flatWires-bound at n passed
 
-  -- Each wire leaves an output of a primitive and enters an input of one, both are there, and they have the same width.
-  pub accepted-wires-leave : (w : Wire) → In w (wires at n) → IsOutput at (w .src)
-  accepted-wires-leave = wires-leave at n passed
+    -- Each wire leaves an output that a primitive has,
+    pub accepted-wires-leave : (w : Wire) → In w (wires at n) → IsOutput at (w .src)
+    accepted-wires-leave = wires-leave at n passed
 
-  pub accepted-wires-enter : (w : Wire) → In w (wires at n) → IsInput at (w .dst)
-  accepted-wires-enter = wires-enter at n passed
+    -- enters an input that a primitive has,
+    pub accepted-wires-enter : (w : Wire) → In w (wires at n) → IsInput at (w .dst)
+    accepted-wires-enter = wires-enter at n passed
 
-  pub accepted-wires-width : (w : Wire) → In w (wires at n)
-      → outputWidth (fieldsOf (at (w .src .comp))) ≡ inputWidth (fieldsOf (at (w .dst .comp)))
-  accepted-wires-width = wires-width at n passed
+    -- and the two have the same width.
+    pub accepted-wires-width : (w : Wire) → In w (wires at n)
+        → outputWidth (fieldsOf (at (w .src .comp))) ≡ inputWidth (fieldsOf (at (w .dst .comp)))
+    accepted-wires-width = wires-width at n passed
 
-  -- The component tables have room: at most 256 primitives, 1,024 inputs and 1,024 outputs.
-  pub accepted-primitives-bound : length (primitivesBefore at n n) ≤ 256
-  accepted-primitives-bound = primitives-bound at n passed
+    -- The tables have room for all primitives, which are at most 256,
+    pub accepted-primitives-bound : length (primitivesBefore at n n) ≤ 256
+    accepted-primitives-bound = primitives-bound at n passed
 
-  pub accepted-inputs-bound : inputsBefore at n n ≤ 1024
-  accepted-inputs-bound = inputs-bound at n passed
+    -- for their inputs, at most 1,024,
+    pub accepted-inputs-bound : inputsBefore at n n ≤ 1024
+    accepted-inputs-bound = inputs-bound at n passed
 
-  pub accepted-outputs-bound : outputsBefore at n n ≤ 1024
-  accepted-outputs-bound = outputs-bound at n passed
+    -- and for their outputs, at most 1,024.
+    pub accepted-outputs-bound : outputsBefore at n n ≤ 1024
+    accepted-outputs-bound = outputs-bound at n passed
 
-  -- Each primitive has a flat index of its own below the number of primitives, obeys the table of kinds,
-  pub accepted-flat-below : (c : ℕ) → isPrimitive (at c) ≡ true → flat at n c < length (primitivesBefore at n n)
-  accepted-flat-below = flat-below at n passed
+    -- Each primitive has a flat index below the number of primitives,
+    pub accepted-flat-below : (c : ℕ) → isPrimitive (at c) ≡ true → flat at n c < length (primitivesBefore at n n)
+    accepted-flat-below = flat-below at n passed
 
-  pub accepted-flat-inj : (b c : ℕ) → isPrimitive (at b) ≡ true → isPrimitive (at c) ≡ true
-      → flat at n b ≡ flat at n c → b ≡ c
-  accepted-flat-inj = flat-inj at n
+    -- which no other primitive has.
+    pub accepted-flat-inj : (b c : ℕ) → isPrimitive (at b) ≡ true → isPrimitive (at c) ≡ true
+        → flat at n b ≡ flat at n c → b ≡ c
+    accepted-flat-inj = flat-inj at n
 
-  pub accepted-obeys : (c : ℕ) → isPrimitive (at c) ≡ true → obeys (fieldsOf (at c)) ≡ true
-  accepted-obeys = primitive-obeys at n passed
+    -- Each primitive obeys the table of kinds.
+    pub accepted-obeys : (c : ℕ) → isPrimitive (at c) ≡ true → obeys (fieldsOf (at c)) ≡ true
+    accepted-obeys = primitive-obeys at n passed
 
-  -- and an id that no other has.
-  pub accepted-ids-distinct : Distinct (map (λ c. idOf (at c)) (primitivesBefore at n n))
-  accepted-ids-distinct = ids-distinct at n passed
+    -- No two primitives have one id.
+    pub accepted-ids-distinct : Distinct (map (λ c. idOf (at c)) (primitivesBefore at n n))
+    accepted-ids-distinct = ids-distinct at n passed

@@ -1,4 +1,4 @@
--- The wires of an accepted file are exactly what its drawing leads to. docs/SPECIFICATION.md, "Flattening".
+-- The wires of a drawing that passes every check are exactly what it leads to. docs/SPECIFICATION.md, "Flattening".
 -- Assumes nothing.
 use mathlib.Core.Path.{_≡_, refl, sym, ap, subst}
 use mathlib.Core.Bool.{true, cond, _&&_}
@@ -48,6 +48,7 @@ module _ (at : ℕ → Record) (n : ℕ) where
         target-is = subst (λ (t : Pin). In t (targetsOf at n p)) (sym (ap (λ (v : Wire). v .dst) (m .2))) (m .1);
       }
 
+  -- And what a connection yields is a wire.
   pub wires-complete : (w : Wire) → Yielded at n w → In w (wires at n)
   wires-complete w y =
       let p = y .by in
@@ -70,7 +71,7 @@ module _ (at : ℕ → Record) (n : ℕ) (d : Passed at n) where
   full-depth : 0 + deepest ≡ deepest
   full-depth = omega arith
 
-  -- What a connection yields is what the drawing leads along; and the other way.
+  -- From the source of what a connection yields the drawing leads to its target; and the other way.
   yielded-leads : (w : Wire) → Yielded at n w → Leads at n (w .src) (w .dst)
   unfolding sourceOf targetsOf
   yielded-leads w y =
@@ -94,10 +95,10 @@ module _ (at : ℕ → Record) (n : ℕ) (d : Passed at n) where
         target-is = targets-complete at n d 0 deepest _ _ t full-depth refl (r .target-is);
       }
 
-  -- Each wire is one that the drawing leads along.
+  -- From the source of each wire the drawing leads to its target.
   pub wires-lead : (w : Wire) → In w (wires at n) → Leads at n (w .src) (w .dst)
   wires-lead w h = yielded-leads w (wires-sound at n w h)
 
-  -- Whatever the drawing leads along is a wire.
+  -- Wherever the drawing leads from an output to an input, there is a wire.
   pub leads-wires : (s t : Pin) → Leads at n s t → In (wire s t) (wires at n)
   leads-wires s t r = wires-complete at n (wire s t) (leads-yielded s t r)

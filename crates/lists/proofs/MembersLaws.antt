@@ -7,13 +7,13 @@
 -- Assumes nothing.
 use mathlib.Core.Path.{_≡_, refl, sym, ap, _∙_, subst}
 use mathlib.Core.Logic.{_⊎_, inl, inr, ⊎-elim}
-use mathlib.Core.Bool.{Bool, true, false, cond, _&&_, _||_, false≢true, true≢false}
+use mathlib.Core.Bool.{Bool, true, false, cond, not, _&&_, _||_, false≢true, true≢false}
 use mathlib.Core.List.{List, [], _∷_, _++_, map}
 use mathlib.Core.Option.{none, some}
 use Prim.Native.Nat.{ℕ, zero, suc, _+_, _≤_, _<_}
 use native.Mathlib.Decide.{decLt}
 use native.Mathlib.Omega.{arith}
-use borrow.Author.Tests.{eqb-true, eq-eqb}
+use borrow.Author.Tests.{eqb-true, eq-eqb, not-true}
 use lib.ListN.{length, getD, length-append, List·getD-eq-default}
 use lib.Dec.{eqb}
 use Rattle.lists.specs.Lists.{from, keep, every, any, total, joined, first, has, distinct}
@@ -364,3 +364,9 @@ has-none x ys h = by-test (has x ys) refl
 pub distinct-complete : (xs : List ℕ) → Distinct xs → distinct xs ≡ true
 distinct-complete [] d = refl
 distinct-complete (x ∷ xs) d = rw (has-none x xs (d .0)) (distinct-complete xs (d .1))
+
+pub distinct-sound : (xs : List ℕ) → distinct xs ≡ true → Distinct xs
+distinct-sound [] e = tt
+distinct-sound (x ∷ xs) e =
+    let new : has x xs ≡ false = not-true (has x xs) (and-left (not (has x xs)) (distinct xs) e) in
+    (λ u. true≢false (sym (has-complete x xs u) ∙ new), distinct-sound xs (and-right (not (has x xs)) (distinct xs) e))
