@@ -1,1 +1,2 @@
 pub mod ListsLaws
+pub mod MembersLaws

@@ -1,0 +1,81 @@
+-- At most 1,024 wires: no two enter one input, and there are at most 1,024 inputs.
+-- docs/SPECIFICATION.md, "Numbers given back", checks 11 and 13, and the full size of the wire table.
+-- Assumes nothing.
+use mathlib.Core.Path.{_≡_, refl, sym, ap, _∙_, subst}
+use mathlib.Core.Bool.{Bool, true, false, cond}
+use mathlib.Core.List.{List, [], _∷_, _++_, map}
+use Prim.Native.Nat.{ℕ, _≤_}
+use native.Mathlib.Omega.{arith}
+use lib.ListN.{length, length-map}
+use lib.Dec.{eqb}
+use Rattle.lists.specs.Lists.{from, joined}
+use Rattle.lists.proofs.MembersLaws.{In, Distinct, distinct-bound, from0-complete, from-length, joined-complete, joined-length, map-append, map-complete, map-sound, total-cong}
+use Rattle.component.specs.declared.Record.{Record}
+use Rattle.component.specs.Record.{formOf, inputsOf}
+use Rattle.component.specs.Drawing.{primitivesBefore, inputsBefore}
+use Rattle.flatten.specs.declared.Pin.{Pin}
+use Rattle.flatten.specs.declared.Wire.{Wire}
+use Rattle.flatten.specs.Descent.{pin, targetsOf, wiresAt, wires}
+use Rattle.leads.proofs.Accepted.{Passed}
+use Rattle.leads.proofs.Wires.{wire}
+use Rattle.leads.proofs.Entries.{targetsAt, targetsAt-distinct}
+use Rattle.leads.proofs.Ends.{IsInput, wires-enter}
+use Rattle.leads.proofs.Primitives.{primitive-below, primitivesBefore-complete, inputs-bound}
+
+-- The inputs that wires enter.
+abbrev pub entered : List Wire → List Pin
+entered ws = map (λ (w : Wire). w .dst) ws
+
+entered-targets : (s : Pin) (ts : List Pin) → entered (map (wire s) ts) ≡ ts
+entered-targets s [] = refl
+entered-targets s (t ∷ ts) = ap (λ (l : List Pin). t ∷ l) (entered-targets s ts)
+
+module _ (at : ℕ → Record) (n : ℕ) where
+  -- The wires enter the targets of the connections, in order.
+  pub wires-targets : entered (wires at n) ≡ joined (targetsAt at n) (from 0 n)
+  wires-targets = by-records (from 0 n)
+    where
+      by-form : (b : Bool) (p : ℕ) → entered (cond b (wiresAt at n p) []) ≡ cond b (targetsOf at n p) []
+      by-form true p = entered-targets _ (targetsOf at n p)
+      by-form false p = refl
+
+      wiresFrom : ℕ → List Wire
+      wiresFrom p = cond (eqb (formOf (at p)) 2) (wiresAt at n p) []
+
+      by-records : (ps : List ℕ) → entered (joined wiresFrom ps) ≡ joined (targetsAt at n) ps
+      by-records [] = refl
+      by-records (p ∷ ps) =
+          map-append (λ (w : Wire). w .dst) (wiresFrom p) (joined wiresFrom ps)
+          ∙ ap (λ (l : List Pin). l ++ entered (joined wiresFrom ps)) (by-form (eqb (formOf (at p)) 2) p)
+          ∙ ap (λ (l : List Pin). targetsAt at n p ++ l) (by-records ps)
+
+  -- Every input of every primitive.
+  abbrev pub inputPins : List Pin
+  inputPins = joined (λ c. map (pin c) (from 0 (inputsOf (at c)))) (primitivesBefore at n n)
+
+  inputPins-length : length inputPins ≡ inputsBefore at n n
+  inputPins-length =
+      joined-length (λ c. map (pin c) (from 0 (inputsOf (at c)))) (primitivesBefore at n n)
+      ∙ total-cong _ _ (primitivesBefore at n n)
+      (λ c. length-map (from 0 (inputsOf (at c))) (pin c) ∙ from-length 0 (inputsOf (at c)))
+
+module _ (at : ℕ → Record) (n : ℕ) (d : Passed at n) where
+  -- No two wires enter one input.
+  pub wires-distinct : Distinct (entered (wires at n))
+  wires-distinct = subst Distinct (sym (wires-targets at n)) (targetsAt-distinct at n d)
+
+  inputPins-complete : (t : Pin) → IsInput at t → In t (inputPins at n)
+  inputPins-complete t i =
+      joined-complete (λ c. map (pin c) (from 0 (inputsOf (at c)))) t (primitivesBefore at n n) (t .comp)
+      (primitivesBefore-complete at n (t .comp) n (i .of-primitive)
+      (primitive-below at n d (t .comp) (i .of-primitive)))
+      (map-complete (pin (t .comp)) (t .port) (from 0 (inputsOf (at (t .comp))))
+      (from0-complete (inputsOf (at (t .comp))) (t .port) (i .there)))
+
+  -- There are at most 1,024 wires.
+  pub wires-bound : length (wires at n) ≤ 1024
+  wires-bound =
+      let r = distinct-bound (entered (wires at n)) (inputPins at n) wires-distinct
+      (λ t h. let m = map-sound (λ (w : Wire). w .dst) t (wires at n) h in
+      inputPins-complete t (rw (m .2) (wires-enter at n d (m .0) (m .1)))) in
+      omega (arith, length-map (wires at n) (λ (w : Wire). w .dst), inputPins-length at n, inputs-bound at n d)

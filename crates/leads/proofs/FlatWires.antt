@@ -1,0 +1,93 @@
+-- The wires between flat indexes, as the tables hold them, are the images of the wires of the drawing; where
+-- there is one between two primitives' ports, the drawing leads from one to the other.
+-- docs/SPECIFICATION.md, "Flattening".
+-- Assumes nothing.
+use mathlib.Core.Path.{_≡_, refl, sym, ap, subst, subst₂}
+use mathlib.Core.Bool.{true}
+use mathlib.Core.List.{List, [], _∷_, map}
+use Prim.Native.Nat.{ℕ, _≤_, _<_}
+use native.Mathlib.Omega.{arith}
+use lib.ListN.{length, length-map}
+use Rattle.lists.proofs.MembersLaws.{In, Distinct, map-sound, map-complete, distinct-map}
+use Rattle.component.specs.declared.Record.{Record}
+use Rattle.component.specs.Record.{isPrimitive}
+use Rattle.flatten.specs.declared.Pin.{Pin}
+use Rattle.flatten.specs.declared.Wire.{Wire}
+use Rattle.flatten.specs.Descent.{pin, wires, flat, flatPin, flatWires}
+use Rattle.flatten.specs.Leads.{Leads}
+use Rattle.leads.proofs.Accepted.{Passed}
+use Rattle.leads.proofs.Wires.{wire, wires-lead, leads-wires}
+use Rattle.leads.proofs.Ends.{wires-leave, wires-enter}
+use Rattle.leads.proofs.Primitives.{flat-inj, flat-below}
+use Rattle.leads.proofs.Bound.{entered, wires-distinct, wires-bound}
+
+module _ (at : ℕ → Record) (n : ℕ) where
+  -- The wire between flat indexes.
+  abbrev pub flatWire : Wire → Wire
+  flatWire w = wire (flatPin at n (w .src)) (flatPin at n (w .dst))
+
+  -- A flat wire is the image of a wire;
+  pub flatWires-sound : (v : Wire) → In v (flatWires at n) → (w : Wire) × In w (wires at n) × (v ≡ flatWire w)
+  flatWires-sound v h = map-sound flatWire v (wires at n) h
+
+  -- and the image of a wire is one.
+  pub flatWires-complete : (w : Wire) → In w (wires at n) → In (flatWire w) (flatWires at n)
+  flatWires-complete w h = map-complete flatWire w (wires at n) h
+
+  -- There are as many of them.
+  pub flatWires-length : length (flatWires at n) ≡ length (wires at n)
+  flatWires-length = length-map (wires at n) flatWire
+
+  -- Ports of primitives that have one flat index and port are one.
+  pub flatPin-inj : (s t : Pin) → isPrimitive (at (s .comp)) ≡ true → isPrimitive (at (t .comp)) ≡ true
+      → flatPin at n s ≡ flatPin at n t → s ≡ t
+  flatPin-inj s t e f h =
+      let c : s .comp ≡ t .comp = flat-inj at n (s .comp) (t .comp) e f (ap (λ (x : Pin). x .comp) h) in
+      let i : s .port ≡ t .port = ap (λ (x : Pin). x .port) h in
+      λ k. pin (c k) (i k)
+
+module _ (at : ℕ → Record) (n : ℕ) (d : Passed at n) where
+  -- Wherever the drawing leads from an output to an input, there is a flat wire;
+  pub leads-flatWires : (s t : Pin) → Leads at n s t → In (wire (flatPin at n s) (flatPin at n t)) (flatWires at n)
+  leads-flatWires s t r = flatWires-complete at n (wire s t) (leads-wires at n d s t r)
+
+  -- and where there is one between ports of primitives, the drawing leads from one to the other.
+  pub flatWires-lead : (s t : Pin) → isPrimitive (at (s .comp)) ≡ true → isPrimitive (at (t .comp)) ≡ true
+      → In (wire (flatPin at n s) (flatPin at n t)) (flatWires at n) → Leads at n s t
+  flatWires-lead s t e f h =
+      let r = flatWires-sound at n (wire (flatPin at n s) (flatPin at n t)) h in
+      let w = r .0 in
+      let leaves = wires-leave at n d w (r .1) .of-primitive in
+      let enters = wires-enter at n d w (r .1) .of-primitive in
+      let a : s ≡ w .src = flatPin-inj at n s (w .src) e leaves (ap (λ (v : Wire). v .src) (r .2)) in
+      let b : t ≡ w .dst = flatPin-inj at n t (w .dst) f enters (ap (λ (v : Wire). v .dst) (r .2)) in
+      subst₂ (Leads at n) (sym a) (sym b) (wires-lead at n d w (r .1))
+
+  -- No two flat wires enter one input.
+  pub flatWires-distinct : Distinct (entered (flatWires at n))
+  flatWires-distinct =
+      subst Distinct (by-wires (wires at n))
+      (distinct-map (flatPin at n) (entered (wires at n))
+      (λ s t u v. flatPin-inj at n s t (of-primitive s u) (of-primitive t v)) (wires-distinct at n d))
+    where
+      by-wires : (ws : List Wire) → map (flatPin at n) (entered ws) ≡ entered (map (flatWire at n) ws)
+      by-wires [] = refl
+      by-wires (w ∷ ws) = ap (λ (l : List Pin). flatPin at n (w .dst) ∷ l) (by-wires ws)
+
+      of-primitive : (t : Pin) → In t (entered (wires at n)) → isPrimitive (at (t .comp)) ≡ true
+      of-primitive t h =
+          let m = map-sound (λ (w : Wire). w .dst) t (wires at n) h in
+          rw (m .2) (wires-enter at n d (m .0) (m .1) .of-primitive)
+
+  -- There are at most 1,024 flat wires,
+  pub flatWires-bound : length (flatWires at n) ≤ 1024
+  flatWires-bound = omega (arith, flatWires-length at n, wires-bound at n d)
+
+  -- and their ends are flat indexes that there are.
+  pub flatWires-below : (v : Wire) → In v (flatWires at n) → (v .src .comp < flat at n n) × (v .dst .comp < flat at n n)
+  flatWires-below v h =
+      let r = flatWires-sound at n v h in
+      let w = r .0 in (
+        rw (r .2) (flat-below at n d (w .src .comp) (wires-leave at n d w (r .1) .of-primitive)),
+        rw (r .2) (flat-below at n d (w .dst .comp) (wires-enter at n d w (r .1) .of-primitive)),
+      )

@@ -1,0 +1,10 @@
+pub mod Accepted
+pub mod Components
+pub mod Descent
+pub mod Wires
+pub mod Primitives
+pub mod Entries
+pub mod Ends
+pub mod Bound
+pub mod FlatWires
+pub mod Theorems

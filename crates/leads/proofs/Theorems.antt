@@ -1,0 +1,118 @@
+-- What an accepted file is known to be: the theorems of this crate, of a file's bytes.
+-- docs/SPECIFICATION.md, "Flattening" and "Numbers given back".
+-- With `file` accepted, `at` is its records by position and `n` is how many it has.
+-- Assumes nothing.
+use mathlib.Core.Path.{_≡_}
+use mathlib.Core.Bool.{true, false}
+use mathlib.Core.List.{List, map}
+use Prim.Native.Nat.{ℕ, _≤_, _<_}
+use lib.ListN.{length}
+use Rattle.lists.proofs.MembersLaws.{In, Distinct}
+use Rattle.primitive.specs.Kinds.{obeys, inputWidth, outputWidth}
+use Rattle.component.specs.declared.Record.{Record}
+use Rattle.component.specs.declared.Verdict.the-variants.{Accepted}
+use Rattle.component.specs.Record.{recordAt, recordCount, fieldsOf, idOf, isPrimitive}
+use Rattle.component.specs.Drawing.{primitivesBefore, inputsBefore, outputsBefore}
+use Rattle.flatten.specs.declared.Pin.{Pin}
+use Rattle.flatten.specs.declared.Wire.{Wire}
+use Rattle.flatten.specs.Descent.{wires, flat, flatPin, flatWires}
+use Rattle.flatten.specs.Leads.{Leads}
+use Rattle.flatten.specs.Verdict.{verdict}
+use Rattle.leads.proofs.Accepted.{Passed, checkNumbered, accepted-passed}
+use Rattle.leads.proofs.Wires.{wire, wires-lead, leads-wires}
+use Rattle.leads.proofs.Ends.{IsOutput, IsInput, wires-leave, wires-enter, wires-width}
+use Rattle.leads.proofs.Bound.{entered, wires-distinct, wires-bound}
+use Rattle.leads.proofs.FlatWires.{flatWires-lead, leads-flatWires, flatWires-distinct, flatWires-bound}
+use Rattle.leads.proofs.Primitives.{flat-below, flat-inj, primitives-bound, inputs-bound, outputs-bound, primitive-obeys, ids-distinct}
+
+module _ (file : List ℕ) where
+  abbrev at : ℕ → Record
+  at = recordAt file
+
+  abbrev n : ℕ
+  n = recordCount file
+
+  module _ (accepted : verdict file ≡ Accepted) where
+    passed : Passed at n
+    passed = accepted-passed file accepted
+
+    -- No record p of the file fails the check numbered k, for any p and k.
+    pub accepted-check : (k p : ℕ) → p < n → checkNumbered at n k .fails p ≡ false
+    accepted-check = passed .passes
+
+    -- From the source of each wire the drawing leads to its target.
+    pub accepted-wires-lead : (w : Wire) → In w (wires at n) → Leads at n (w .src) (w .dst)
+    accepted-wires-lead = wires-lead at n passed
+
+    -- Wherever the drawing leads from an output to an input, there is a wire: with the theorem above, the wires
+    -- are exactly what the drawing leads to.
+    pub accepted-leads-wires : (s t : Pin) → Leads at n s t → In (wire s t) (wires at n)
+    accepted-leads-wires = leads-wires at n passed
+
+    -- By flat indexes, as a load writes them: a wire between ports of primitives is where the drawing leads,
+    pub accepted-flatWires-lead : (s t : Pin) → isPrimitive (at (s .comp)) ≡ true → isPrimitive (at (t .comp)) ≡ true
+        → In (wire (flatPin at n s) (flatPin at n t)) (flatWires at n) → Leads at n s t
+    accepted-flatWires-lead = flatWires-lead at n passed
+
+    -- and wherever the drawing leads there is one.
+    pub accepted-leads-flatWires : (s t : Pin) → Leads at n s t
+        → In (wire (flatPin at n s) (flatPin at n t)) (flatWires at n)
+    accepted-leads-flatWires = leads-flatWires at n passed
+
+    -- No two wires enter one input;
+    pub accepted-wires-distinct : Distinct (entered (wires at n))
+    accepted-wires-distinct = wires-distinct at n passed
+
+    -- nor do they by flat indexes.
+    pub accepted-flatWires-distinct : Distinct (entered (flatWires at n))
+    accepted-flatWires-distinct = flatWires-distinct at n passed
+
+    -- The wire table has room for all wires: they are at most 1,024,
+    pub accepted-wires-bound : length (wires at n) ≤ 1024
+    accepted-wires-bound = wires-bound at n passed
+
+    -- and as many by flat indexes.
+    pub accepted-flatWires-bound : length (flatWires at n) ≤ 1024
+    accepted-flatWires-bound = flatWires-bound at n passed
+
+    -- Each wire leaves an output that a primitive has,
+    pub accepted-wires-leave : (w : Wire) → In w (wires at n) → IsOutput at (w .src)
+    accepted-wires-leave = wires-leave at n passed
+
+    -- enters an input that a primitive has,
+    pub accepted-wires-enter : (w : Wire) → In w (wires at n) → IsInput at (w .dst)
+    accepted-wires-enter = wires-enter at n passed
+
+    -- and the two have the same width.
+    pub accepted-wires-width : (w : Wire) → In w (wires at n)
+        → outputWidth (fieldsOf (at (w .src .comp))) ≡ inputWidth (fieldsOf (at (w .dst .comp)))
+    accepted-wires-width = wires-width at n passed
+
+    -- The tables have room for all primitives, which are at most 256,
+    pub accepted-primitives-bound : length (primitivesBefore at n n) ≤ 256
+    accepted-primitives-bound = primitives-bound at n passed
+
+    -- for their inputs, at most 1,024,
+    pub accepted-inputs-bound : inputsBefore at n n ≤ 1024
+    accepted-inputs-bound = inputs-bound at n passed
+
+    -- and for their outputs, at most 1,024.
+    pub accepted-outputs-bound : outputsBefore at n n ≤ 1024
+    accepted-outputs-bound = outputs-bound at n passed
+
+    -- Each primitive has a flat index below the number of primitives,
+    pub accepted-flat-below : (c : ℕ) → isPrimitive (at c) ≡ true → flat at n c < length (primitivesBefore at n n)
+    accepted-flat-below = flat-below at n passed
+
+    -- which no other primitive has.
+    pub accepted-flat-inj : (b c : ℕ) → isPrimitive (at b) ≡ true → isPrimitive (at c) ≡ true
+        → flat at n b ≡ flat at n c → b ≡ c
+    accepted-flat-inj = flat-inj at n
+
+    -- Each primitive obeys the table of kinds.
+    pub accepted-obeys : (c : ℕ) → isPrimitive (at c) ≡ true → obeys (fieldsOf (at c)) ≡ true
+    accepted-obeys = primitive-obeys at n passed
+
+    -- No two primitives have one id.
+    pub accepted-ids-distinct : Distinct (map (λ c. idOf (at c)) (primitivesBefore at n n))
+    accepted-ids-distinct = ids-distinct at n passed

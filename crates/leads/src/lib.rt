@@ -1,0 +1,1 @@
+// What an accepted drawing leads to: theorems only, no code.
