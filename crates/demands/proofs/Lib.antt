@@ -1,1 +1,2 @@
+pub mod LampHold
 pub mod MarkedHold

@@ -1,14 +1,20 @@
 -- The marked cases: one table. docs/SPECIFICATION.md, "The lamp drawing and marked cases".
 --   marked   what the definitions find in each case, and what the document wants
 -- Assumes nothing.
-use Prim.Native.Nat.{ℕ}
+use Prim.Native.Nat.{ℕ, _+_, _*_}
 use mathlib.Core.List.{List, [], _∷_}
 use lib.ListN.{length, replicate}
+use Rattle.lists.specs.Lists.{joined}
 use Rattle.primitive.specs.declared.table.Fields.{Fields}
 use Rattle.primitive.specs.declared.kinds.Kind.{Kind}
 use Rattle.primitive.specs.declared.kinds.Kind.the-variants.{And, Or, Nor, Xor, Splitter, Joiner, Clock}
 use Rattle.primitive.specs.Kinds.{numberOf}
 use Rattle.primitive.specs.Evaluate.{evaluateAnswer, evaluateGives, evaluateOutputs}
+use Rattle.component.specs.Record.{recordAt, recordCount}
+use Rattle.flatten.specs.Descent.{flatWires}
+use Rattle.flatten.specs.Verdict.{verdict, spoken}
+use Rattle.load.specs.Load.{wireWords}
+use Rattle.demands.specs.Lamp.{lamp, lampTwice}
 
 -- What the definitions find, and what the document wants.
 pub record Case : Type 0 where
@@ -28,7 +34,8 @@ evaluating k p xs v o w t =
     evaluateGives (evaluateAnswer f xs vs (replicate o 0) (replicate o w))
     ∷ evaluateOutputs f xs vs (replicate o 0) (replicate o w) t
 
--- The cases (a) to (j), in their order; the leading 0 says that the call is not refused.
+-- The cases (a) to (l), in their order. In (a) to (j) the leading 0 says that the call is not refused; (k) has the words of the
+-- lamp drawing's wires, (l) the host's number of the lamp drawing with a second connection into 2.0.
 abbrev pub marked : List Case
 marked =
     (evaluating And 0 [] 1 1 1 0 gives 0 ∷ 1 ∷ [])
@@ -41,4 +48,6 @@ marked =
     ∷ (evaluating Clock 10 [] 1 1 1 11 gives 0 ∷ 1 ∷ [])
     ∷ (evaluating Clock 10 [] 1 1 1 20 gives 0 ∷ 0 ∷ [])
     ∷ (evaluating Clock 1 [] 1 1 1 1 gives 0 ∷ 0 ∷ [])
+    ∷ (joined wireWords (flatWires (recordAt lamp) (recordCount lamp)) gives 0 ∷ 0 ∷ 2 ∷ 0 ∷ 1 ∷ 0 ∷ 2 ∷ 1 ∷ 2 ∷ 0 ∷ 3 ∷ 0 ∷ [])
+    ∷ (spoken (verdict lampTwice) ∷ [] gives (65536 * 13 + 9) ∷ [])
     ∷ []

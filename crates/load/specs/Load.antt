@@ -1,0 +1,87 @@
+-- A load: its answer and the tables it leaves. docs/SPECIFICATION.md, "Numbers given back", "Flattening" and "Rounds" (the state at load).
+use Prim.Native.Nat.{ℕ}
+use mathlib.Core.Bool.{Bool, true, false, cond, _||_}
+use mathlib.Core.List.{List, [], _∷_, map}
+use lib.ListN.{length, replicate}
+use Rattle.lists.specs.Lists.{from, keep, joined, overlay}
+use Rattle.primitive.specs.declared.kinds.Kind.the-variants.{Clock, Const}
+use Rattle.primitive.specs.Kinds.{is}
+use Rattle.primitive.specs.Evaluate.{starting}
+use Rattle.component.specs.declared.Record.{Record}
+use Rattle.component.specs.declared.Verdict.{Verdict}
+use Rattle.component.specs.declared.Verdict.the-variants.{Accepted, Refused}
+use Rattle.component.specs.Record.{recordAt, recordCount, fieldsOf, idOf, inputsOf, outputsOf}
+use Rattle.component.specs.Drawing.{primitivesBefore, inputsBefore, outputsBefore}
+use Rattle.flatten.specs.declared.Wire.{Wire}
+use Rattle.tables.specs.declared.Answer.{Answer}
+use Rattle.tables.specs.declared.Answer.the-variants.{Done, Refused as Declined}
+use Rattle.flatten.specs.Descent.{sourceOf, targetsOf, flat, flatWires}
+use Rattle.flatten.specs.Verdict.{sized, refused, verdict}
+use Rattle.tables.specs.Tables.{Tables, fullSize}
+
+-- The words of a wire's entry.
+abbrev pub wireWords : Wire → List ℕ
+wireWords w = w .src .comp ∷ w .src .port ∷ w .dst .comp ∷ w .dst .port ∷ []
+
+module _ (at : ℕ → Record) (n : ℕ) where
+  -- The primitives, in file order.
+  abbrev pub primitives : List ℕ
+  primitives = primitivesBefore at n n
+
+  -- The words of a primitive's entry; its ports follow those of the primitives before.
+  abbrev pub componentWords : ℕ → List ℕ
+  componentWords x =
+      fieldsOf (at x) .kind ∷ idOf (at x) ∷ fieldsOf (at x) .width ∷ fieldsOf (at x) .parameter ∷ inputsOf (at x) ∷ outputsOf (at x)
+      ∷ inputsBefore at n x ∷ outputsBefore at n x ∷ []
+
+  -- The standing list at load: every Const and Clock, ascending.
+  abbrev pub standingAtLoad : List ℕ
+  standingAtLoad = map (flat at n) (keep (λ x. is Const (fieldsOf (at x)) || is Clock (fieldsOf (at x))) primitives)
+
+  -- The tables after the load of an accepted drawing: all ports 0, a Const's output its value; following a copy of standing; current all components.
+  unfoldable pub loaded : Tables → Tables
+  loaded T =
+      record {
+        components = overlay (joined componentWords primitives) (T .components);
+        inputs = overlay (replicate (inputsBefore at n n) 0) (T .inputs);
+        outputs = overlay (joined (λ x. starting (fieldsOf (at x))) primitives) (T .outputs);
+        wires = overlay (joined wireWords (flatWires at n)) (T .wires);
+        current = overlay (from 0 (length primitives)) (T .current);
+        following = overlay standingAtLoad (T .following);
+        standing = overlay standingAtLoad (T .standing);
+        counts =
+            record {
+              components = length primitives;
+              inputs = inputsBefore at n n;
+              outputs = outputsBefore at n n;
+              wires = length (flatWires at n);
+              current = length primitives;
+              following = length standingAtLoad;
+              standing = length standingAtLoad;
+            };
+      }
+
+-- The verdict of a load: check 2 stands between 1 and 3.
+unfoldable pub loadVerdict : List ℕ → Tables → Verdict
+loadVerdict file T = cond (sized file) (cond (fullSize T) (verdict file) (refused 2 0)) (refused 1 0)
+
+-- The tables after a load, counts included: a refusal changes none.
+abbrev pub tablesBy : Verdict → Tables → Tables → Tables
+tablesBy Accepted new old = new
+tablesBy (Refused r) new old = old
+
+unfoldable pub loadTables : List ℕ → Tables → Tables
+loadTables file T = tablesBy (loadVerdict file T) (loaded (recordAt file) (recordCount file) T) T
+
+-- The answer to a load.
+abbrev pub answerBy : Verdict → Tables → Answer
+answerBy Accepted new = Done (new .counts)
+answerBy (Refused r) new = Declined r
+
+unfoldable pub loadAnswer : List ℕ → Tables → Answer
+loadAnswer file T = answerBy (loadVerdict file T) (loadTables file T)
+
+-- The document's number and position of each answer.
+abbrev pub verdictOf : Answer → Verdict
+verdictOf (Done m) = Accepted
+verdictOf (Declined r) = Refused r

@@ -1,0 +1,82 @@
+-- When tables are a net, clause by clause. docs/SPECIFICATION.md, "Numbers given back", after the table. Only words below the counts are looked at.
+use Prim.Native.Nat.{ℕ}
+use mathlib.Core.Bool.{Bool, true, false, not, _&&_, _||_}
+use mathlib.Core.List.{List, [], _∷_, map}
+use lib.ListN.{length, getD}
+use lib.Dec.{eqb, leb, ltb}
+use Rattle.lists.specs.Lists.{from, every, total, distinct}
+use Rattle.value.specs.Value.{below}
+use Rattle.primitive.specs.declared.kinds.Kind.the-variants.{Const}
+use Rattle.primitive.specs.Kinds.{is, primitive, obeys, inputWidth, outputWidth}
+use Rattle.flatten.specs.declared.Pin.{Pin}
+use Rattle.flatten.specs.declared.Wire.{Wire}
+use Rattle.tables.specs.declared.Counts.{Counts}
+use Rattle.tables.specs.Tables.{Tables, fieldsAt, idAt, firstInput, firstOutput, inputPlace, inputsAt, outputsAt, indexes, wiresIn, currentList, followingList, standingList}
+
+-- Counts are within the limits.
+unfoldable pub countsWithin : Counts → Bool
+countsWithin m =
+    leb (m .components) 256 && leb (m .inputs) 1024 && leb (m .outputs) 1024 && leb (m .wires) 1024
+    && leb (m .current) 256 && leb (m .following) 256 && leb (m .standing) 256
+
+module _ (T : Tables) where
+  -- Components are of kinds 1 to 13 and obey the table of kinds.
+  unfoldable pub kindsObeyed : Bool
+  kindsObeyed = every (λ i. primitive (fieldsAt T i) && obeys (fieldsAt T i)) (indexes T)
+
+  -- They have distinct ids, and an id has 32 bits.
+  unfoldable pub idsDistinct : Bool
+  idsDistinct = every (λ i. below (idAt T i) 32) (indexes T) && distinct (map (idAt T) (indexes T))
+
+  -- The inputs of the components below index i.
+  abbrev pub inputsBelow : ℕ → ℕ
+  inputsBelow i = total (λ j. fieldsAt T j .inputs) (from 0 i)
+
+  -- The outputs of the components below index i.
+  abbrev pub outputsBelow : ℕ → ℕ
+  outputsBelow i = total (λ j. fieldsAt T j .outputs) (from 0 i)
+
+  -- Ports follow each other without gaps: a component's start where those before end, and the last end at the counts.
+  unfoldable pub portsFollow : Bool
+  portsFollow =
+      every (λ i. eqb (firstInput T i) (inputsBelow i) && eqb (firstOutput T i) (outputsBelow i)) (indexes T)
+      && eqb (T .counts .inputs) (inputsBelow (T .counts .components)) && eqb (T .counts .outputs) (outputsBelow (T .counts .components))
+
+  -- Values fit.
+  unfoldable pub valuesFit : Bool
+  valuesFit =
+      every (λ i.
+      every (λ x. below x (inputWidth (fieldsAt T i))) (inputsAt T (T .inputs) i)
+      && every (λ x. below x (outputWidth (fieldsAt T i))) (outputsAt T (T .outputs) i)) (indexes T)
+
+  -- Each Const's output is its value.
+  unfoldable pub constsHeld : Bool
+  constsHeld = every (λ i. not (is Const (fieldsAt T i)) || eqb (getD (T .outputs) (firstOutput T i) 0) (fieldsAt T i .parameter)) (indexes T)
+
+  -- An output exists.
+  abbrev pub isOutput : Pin → Bool
+  isOutput s = ltb (s .comp) (T .counts .components) && ltb (s .port) (fieldsAt T (s .comp) .outputs)
+
+  -- An input exists.
+  abbrev pub isInput : Pin → Bool
+  isInput t = ltb (t .comp) (T .counts .components) && ltb (t .port) (fieldsAt T (t .comp) .inputs)
+
+  -- Wires have ends that exist and equal widths.
+  unfoldable pub wiresFit : Bool
+  wiresFit =
+      every (λ (w : Wire).
+      isOutput (w .src) && isInput (w .dst) && eqb (outputWidth (fieldsAt T (w .src .comp))) (inputWidth (fieldsAt T (w .dst .comp)))) (wiresIn T)
+
+  -- No input has two wires.
+  unfoldable pub inputsOnce : Bool
+  inputsOnce = distinct (map (λ (w : Wire). inputPlace T (w .dst)) (wiresIn T))
+
+  -- A list names existing components without repeats.
+  unfoldable pub names : List ℕ → Bool
+  names xs = every (λ i. ltb i (T .counts .components)) xs && distinct xs
+
+  -- The tables are a net.
+  unfoldable pub isNet : Bool
+  isNet =
+      countsWithin (T .counts) && kindsObeyed && idsDistinct && portsFollow && valuesFit && constsHeld && wiresFit && inputsOnce
+      && names (currentList T) && names (followingList T) && names (standingList T)
