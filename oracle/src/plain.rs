@@ -1,4 +1,4 @@
-//! A plain second coding of document 01's numbers, written from its text alone.
+//! A plain second coding of the specification's numbers, written from its text alone.
 //!
 //! Every function here is total: any bytes, any tables and any counts get an
 //! answer. Nothing here evaluates, builds a net or runs one; that is logix's part.

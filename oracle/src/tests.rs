@@ -30,7 +30,7 @@ fn output_map(owner: u16, (a, b): (u16, u16)) -> Record {
     Record { owner, a, b, ..blank(OUTPUT_MAP) }
 }
 
-/// The lamp drawing of document 01.
+/// The lamp drawing of the specification.
 fn lamp() -> Vec<Record> {
     vec![
         component(0, 0, 0, 0, 100),

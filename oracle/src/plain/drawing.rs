@@ -1,4 +1,4 @@
-//! The drawing file (document 01, "The drawing file"): its records, the children
+//! The drawing file (the specification, "The drawing file"): its records, the children
 //! and maps of each owner, and where a connection leads.
 
 use super::kinds::Fields;

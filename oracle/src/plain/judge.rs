@@ -1,4 +1,4 @@
-//! The judge: checks 1 and 3 to 15 (document 01, "Numbers given back").
+//! The judge: checks 1 and 3 to 15 (the specification, "Numbers given back").
 //!
 //! Each `check_n` says whether the record at a position fails check n. It may
 //! lean on the checks before n having passed over all records, and on check n

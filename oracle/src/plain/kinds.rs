@@ -1,4 +1,4 @@
-//! The table of kinds (document 01, "The drawing file"), and widths of ports.
+//! The table of kinds (the specification, "The drawing file"), and widths of ports.
 
 /// The greatest period of a Clock.
 pub const PERIOD_MAX: u64 = 1 << 62;

@@ -1,6 +1,6 @@
 //! Stand-in for the crate asmhdl, which is not part of the source text.
 //!
-//! `Data` is written from document 01: "A port's value is a number with its
+//! `Data` is written from the specification: "A port's value is a number with its
 //! width, 1 to 32 bits, and lies below 2^width. Bit 0 is the lowest;
 //! complement flips exactly the width's bits."
 
