@@ -1,6 +1,9 @@
 // The records of a drawing file. Rules: docs/SPECIFICATION.md, "The drawing file" and "Numbers given back". Source: component.rs.
+mod reader;
+
 use primitive::Fields;
 use primitive::Refusal;
+pub use reader::record_at;
 
 // An id as drawn.
 pub struct Id(pub u32);
