@@ -1,6 +1,20 @@
 // The records of a drawing file. Rules: docs/SPECIFICATION.md, "The drawing file" and "Numbers given back". Source: component.rs.
+mod fields;
 mod reader;
 
+pub use fields::form_of;
+pub use fields::from_of;
+pub use fields::id_of;
+pub use fields::input_of;
+pub use fields::inputs_of;
+pub use fields::is_composite;
+pub use fields::is_primitive;
+pub use fields::kind_of;
+pub use fields::output_of;
+pub use fields::outputs_of;
+pub use fields::owner_of;
+pub use fields::port_of;
+pub use fields::to_of;
 use primitive::Fields;
 use primitive::Refusal;
 pub use reader::record_at;
