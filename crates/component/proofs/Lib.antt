@@ -1,1 +1,3 @@
 pub mod ReaderLaws
+pub mod RecordLaws
+pub mod ChecksLaws

@@ -1,0 +1,154 @@
+// The checks 3 to 14, each of one record. Rule: docs/SPECIFICATION.md, "Numbers given back".
+// Only crate flatten calls them: over all records of a file, in number order.
+ghost use mathlib.Core.Path.{_≡_};
+ghost use mathlib.Core.Bool.{cond, _&&_};
+ghost use Prim.Native.Nat.{_+_, _≤_, _<_};
+ghost use lib.Dec.{eqb};
+ghost use lib.ListN.{length};
+ghost use Rattle.lists.specs.Lists.{from, any};
+ghost use Rattle.component.specs.Record.{recordAt, formOf, ownerOf, idOf, toOf, inputOf, isPrimitive};
+ghost use Rattle.component.specs.Record.{inputsOf, outputsOf};
+ghost use Rattle.component.specs.Drawing.{deepest, holds, deeper, enters, sameEntry, outMaps};
+ghost use Rattle.component.specs.Drawing.{inputsBefore, outputsBefore};
+ghost use Rattle.component.specs.Drawing.{fails3, fails4, fails5, fails6, fails7, fails8, fails9};
+ghost use Rattle.component.specs.Drawing.{fails10, fails11, fails13, fails14};
+use crate::Id;
+use crate::Record;
+use crate::fields::form_of;
+use crate::fields::id_of;
+use crate::fields::input_of;
+use crate::fields::inputs_of;
+use crate::fields::is_composite;
+use crate::fields::is_primitive;
+use crate::fields::outputs_of;
+use crate::fields::owner_of;
+use crate::fields::to_of;
+use crate::reader::record_at;
+
+// 3: the record's bytes are no record.
+pub fn check3(file: &[u8], n: usize, p: usize) -> bool
+    ensures { λ r. ⌜ r ≡ fails3 (recordAt (now (file .entry))) n p ⌝ }
+{
+    form_of(record_at(file, p)) == 0
+}
+
+// 4: kinds do not fall, nor owners among equal kinds 2 to 4; the first record is of kind 1.
+pub fn check4(file: &[u8], n: usize, p: usize) -> bool
+    ensures { λ r. ⌜ r ≡ fails4 (recordAt (now (file .entry))) n p ⌝ }
+{
+    let here = record_at(file, p);
+    let form = form_of(here);
+    if p == 0 {
+        return form != 1;
+    }
+    let before = record_at(file, p - 1);
+    let was = form_of(before);
+    (form < was) | ((form == was) & (2 <= was) & (owner_of(here) < owner_of(before)))
+}
+
+// Whether composite o holds component q, at most f owners up.
+fn holds(file: &[u8], n: usize, f: usize, o: usize, q: usize) -> bool
+    ensures { λ r. ⌜ r ≡ holds (recordAt (now (file .entry))) n f o q ⌝ }
+{
+    let mut left = f;
+    let mut inner = q;
+    while 0 < left {
+        if inner == 0 {
+            return false;
+        }
+        let outer = owner_of(record_at(file, inner));
+        if outer == o {
+            return true;
+        }
+        inner = outer;
+        left -= 1;
+    }
+    false
+}
+
+// 5: the root's owner is 0; any other is a composite, a component's one that is the component before or holds it.
+pub fn check5(file: &[u8], n: usize, p: usize) -> bool
+    ensures { λ r. ⌜ r ≡ fails5 (recordAt (now (file .entry))) n p ⌝ }
+{
+    let here = record_at(file, p);
+    let owner = owner_of(here);
+    if p == 0 {
+        return owner != 0;
+    }
+    if !is_composite(record_at(file, owner)) {
+        return true;
+    }
+    if form_of(here) != 1 {
+        return false;
+    }
+    if owner == p - 1 {
+        return false;
+    }
+    !holds(file, n, p - 1, owner, p - 1)
+}
+
+// The greatest depth, the root's being 1.
+fn deepest() -> u8
+    ensures { λ r. ⌜ r ≡ deepest ⌝ }
+{
+    16
+}
+
+// Whether the depth of component p is over d.
+fn deeper(file: &[u8], n: usize, d: u8, p: usize) -> bool
+    ensures { λ r. ⌜ r ≡ deeper (recordAt (now (file .entry))) n d p ⌝ }
+{
+    let mut left = d;
+    let mut inner = p;
+    while 0 < left {
+        if inner == 0 {
+            return false;
+        }
+        inner = owner_of(record_at(file, inner));
+        left -= 1;
+    }
+    true
+}
+
+// 6: component number 256 or more, or too deep.
+pub fn check6(file: &[u8], n: usize, p: usize) -> bool
+    ensures { λ r. ⌜ r ≡ fails6 (recordAt (now (file .entry))) n p ⌝ }
+{
+    if form_of(record_at(file, p)) != 1 {
+        return false;
+    }
+    if 256 <= p {
+        return true;
+    }
+    deeper(file, n, deepest(), p)
+}
+
+// 7: the kind is the one kept for Custom.
+pub fn check7(file: &[u8], n: usize, p: usize) -> bool
+    ensures { λ r. ⌜ r ≡ fails7 (recordAt (now (file .entry))) n p ⌝ }
+{
+    let Record::Component { fields, .. } = record_at(file, p) else {
+        return false;
+    };
+    fields.kind == 14
+}
+
+// 8: the kind is none.
+pub fn check8(file: &[u8], n: usize, p: usize) -> bool
+    ensures { λ r. ⌜ r ≡ fails8 (recordAt (now (file .entry))) n p ⌝ }
+{
+    let Record::Component { fields, .. } = record_at(file, p) else {
+        return false;
+    };
+    15 <= fields.kind
+}
+
+// 9: the component breaks the table of kinds.
+pub fn check9(file: &[u8], n: usize, p: usize) -> bool
+    ensures { λ r. ⌜ r ≡ fails9 (recordAt (now (file .entry))) n p ⌝ }
+{
+    let Record::Component { fields, .. } = record_at(file, p) else {
+        return false;
+    };
+    !primitive::obeys(fields)
+}
