@@ -4,21 +4,28 @@ use mathlib.Core.Path.{_≡_, refl, sym, ap, _∙_}
 use mathlib.Core.Bool.{Bool, true, false, not, _&&_, _||_}
 use mathlib.Core.List.{List, [], _∷_}
 use Prim.Native.Nat.{ℕ, zero, suc, _+_, _-_, _<_, _≤_}
+use native.Mathlib.Nat.{sub-zero}
+use native.Mathlib.Numerals.{add-one}
 use native.Mathlib.Omega.{arith}
 use borrow.Author.Tests.{eq-eqb, ne-eqb, lt-ltb, le-ltb, le-leb, lt-leb, not-true, not-false}
 use lib.Dec.{eqb, leb, ltb}
+use lib.ListN.{length}
 use types.Run.{OneOf}
+use Rattle.lists.specs.Lists.{from, any}
 use denote.Enum.Declared.{tagOf}
 use Rattle.primitive.specs.Kinds.{kept, unknown, obeys}
 use Rattle.primitive.specs.declared.table.Fields.{Fields}
 use Rattle.component.specs.declared.Id.{Id}
 use Rattle.component.specs.declared.Record.{Record}
 use Rattle.component.specs.declared.Record.the-variants.{Component}
-use Rattle.component.specs.Record.{recordAt, formOf, ownerOf, fieldsOf, composite}
-use Rattle.component.specs.Drawing.{deepest, holds, deeper}
+use Rattle.component.specs.Record.{recordAt, formOf, ownerOf, idOf, outputsOf, composite}
+use Rattle.component.specs.Index.{hasId, entering, enteringAs}
+use Rattle.component.specs.Drawing.{deepest, holds, deeper, outMaps, inputsBefore, outputsBefore}
 use Rattle.component.specs.Drawing.{fails3, fails4, fails5, fails6, fails7, fails8, fails9}
+use Rattle.component.specs.Drawing.{fails10, fails11, fails13, fails14}
 use Rattle.component.proofs.Record.{the-type}
 use Rattle.component.proofs.RecordLaws.{formOf-no-component}
+use Rattle.component.proofs.ScanLaws.{tested}
 
 module _ (s : List ℕ) (n : ℕ) where
   pub fails3-at : (p f : ℕ) (r : Record) → r ≡ recordAt s p → f ≡ formOf r → eqb f 0 ≡ fails3 (recordAt s) n p
@@ -30,8 +37,8 @@ module _ (s : List ℕ) (n : ℕ) where
 
   fails4-pred : (p : ℕ) → (p ≡ 0 → ⊥) → fails4 (recordAt s) n p
       ≡ (ltb (formOf (recordAt s p)) (formOf (recordAt s (p - 1)))
-        || (eqb (formOf (recordAt s p)) (formOf (recordAt s (p - 1))) && leb 2 (formOf (recordAt s (p - 1)))
-           && ltb (ownerOf (recordAt s p)) (ownerOf (recordAt s (p - 1)))))
+      || (eqb (formOf (recordAt s p)) (formOf (recordAt s (p - 1))) && leb 2 (formOf (recordAt s (p - 1)))
+      && ltb (ownerOf (recordAt s p)) (ownerOf (recordAt s (p - 1)))))
   fails4-pred zero z = absurd (z refl)
   fails4-pred (suc q) z = let e : suc q - 1 ≡ q = omega arith in rw e
 
@@ -92,8 +99,8 @@ module _ (s : List ℕ) (n : ℕ) where
       where
         by-place : (p : ℕ) → (p ≡ 0 → ⊥) → fails5 (recordAt s) n p
             ≡ not (composite (recordAt s (ownerOf (recordAt s p)))
-              && (not (eqb (formOf (recordAt s p)) 1) || eqb (ownerOf (recordAt s p)) (p - 1)
-              || holds (recordAt s) n (p - 1) (ownerOf (recordAt s p)) (p - 1)))
+            && (not (eqb (formOf (recordAt s p)) 1) || eqb (ownerOf (recordAt s p)) (p - 1)
+            || holds (recordAt s) n (p - 1) (ownerOf (recordAt s p)) (p - 1)))
         by-place zero z = absurd (z refl)
         by-place (suc q) z = let k : suc q - 1 ≡ q = omega arith in rw k
 
@@ -144,3 +151,38 @@ module _ (s : List ℕ) (n : ℕ) where
 
     pub fails9-component : (b : Bool) → b ≡ obeys f → not b ≡ fails9 (recordAt s) n p
     fails9-component b h = rw (← e, c, h)
+
+  -- 10 and 11: no component; a component
+  module _ (p f : ℕ) (r : Record) (e : r ≡ recordAt s p) (h : f ≡ formOf r) where
+    pub fails10-other : (f ≡ 1 → ⊥) → false ≡ fails10 (recordAt s) n p
+    fails10-other g = rw (← e, ← h, ne-eqb f 1 g)
+
+    pub fails10-component : (d : Id) (b : Bool) → f ≡ 1 → d .0 ≡ idOf r → b ≡ any (λ q. hasId (d .0) (recordAt s q)) (from 0 p)
+        → b ≡ fails10 (recordAt s) n p
+    fails10-component d b g k j = j ∙ rw (k, e, ← e, ← h, eq-eqb f 1 g)
+
+    pub fails11-other : (f ≡ 1 → ⊥) → false ≡ fails11 (recordAt s) n p
+    fails11-other g = rw (← e, ← h, ne-eqb f 1 g)
+
+    pub fails11-component : (a b : ℕ) → f ≡ 1 → a ≡ inputsBefore (recordAt s) n (p + 1) → b ≡ outputsBefore (recordAt s) n (p + 1)
+        → (ltb 1024 a || ltb 1024 b) ≡ fails11 (recordAt s) n p
+    fails11-component a b g i j = rw (i, j, add-one p, ← e, ← h, eq-eqb f 1 g)
+
+  -- 13: it enters no input; it enters one, and those before it are to be looked at
+  module _ (p : ℕ) (r : Record) (b : Bool) (e : r ≡ recordAt s p) (h : b ≡ entering r) where
+    pub fails13-other : not b ≡ true → false ≡ fails13 (recordAt s) n p
+    fails13-other k = rw (← e, ← h, not-true b k)
+
+    pub fails13-start : not b ≡ false → any (tested s (enteringAs r)) (from 0 (p - 0)) ≡ fails13 (recordAt s) n p
+    fails13-start k =
+        let t : entering (recordAt s p) ≡ true = sym (ap entering e) ∙ sym h ∙ not-false b k in
+        ap (λ (x : Record). any (tested s (enteringAs x)) (from 0 (p - 0))) e ∙ rw (sub-zero p, t)
+
+  -- 14: no composite; a composite
+  module _ (p : ℕ) (r : Record) (b : Bool) (e : r ≡ recordAt s p) (h : b ≡ composite r) where
+    pub fails14-other : not b ≡ true → false ≡ fails14 (recordAt s) n p
+    fails14-other k = rw (← e, ← h, not-true b k)
+
+    pub fails14-composite : (u m : ℕ) → not b ≡ false → u ≡ outputsOf r → m ≡ length (outMaps (recordAt s) n p)
+        → not (eqb u m) ≡ fails14 (recordAt s) n p
+    fails14-composite u m k i j = rw (i, j, e, ← e, ← h, not-false b k)

@@ -1,3 +1,4 @@
 pub mod ReaderLaws
 pub mod RecordLaws
+pub mod ScanLaws
 pub mod ChecksLaws

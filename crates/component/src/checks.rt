@@ -1,15 +1,13 @@
 // The checks 3 to 14, each of one record. Rule: docs/SPECIFICATION.md, "Numbers given back".
 // Only crate flatten calls them: over all records of a file, in number order.
 ghost use mathlib.Core.Path.{_≡_};
-ghost use mathlib.Core.Bool.{cond, _&&_};
-ghost use Prim.Native.Nat.{_+_, _≤_, _<_};
-ghost use lib.Dec.{eqb};
+ghost use mathlib.Core.Bool.{cond};
+ghost use Prim.Native.Nat.{_≤_, _<_};
 ghost use lib.ListN.{length};
 ghost use Rattle.lists.specs.Lists.{from, any};
-ghost use Rattle.component.specs.Record.{recordAt, formOf, ownerOf, idOf, toOf, inputOf, isPrimitive};
-ghost use Rattle.component.specs.Record.{inputsOf, outputsOf};
-ghost use Rattle.component.specs.Drawing.{deepest, holds, deeper, enters, sameEntry, outMaps};
-ghost use Rattle.component.specs.Drawing.{inputsBefore, outputsBefore};
+ghost use Rattle.component.specs.Record.{recordAt, isPrimitive};
+ghost use Rattle.component.specs.Index.{hasId, entering, enteringAs, mapsOut};
+ghost use Rattle.component.specs.Drawing.{deepest, holds, deeper, outMaps, inputsBefore, outputsBefore};
 ghost use Rattle.component.specs.Drawing.{fails3, fails4, fails5, fails6, fails7, fails8, fails9};
 ghost use Rattle.component.specs.Drawing.{fails10, fails11, fails13, fails14};
 use crate::Id;
@@ -151,4 +149,156 @@ pub fn check9(file: &[u8], n: usize, p: usize) -> bool
         return false;
     };
     !primitive::obeys(fields)
+}
+
+// Whether a record has the id.
+fn has_id(r: Record, id: Id) -> bool
+    ensures { λ x. ⌜ x ≡ hasId (id .0) r ⌝ }
+{
+    id_of(r).0 == id.0
+}
+
+// Whether a record before p has the id.
+fn id_before(file: &[u8], p: usize, id: Id) -> bool
+    ensures { λ r. ⌜ r ≡ any (λ q. hasId (id .0) (recordAt (now (file .entry)) q)) (from 0 p) ⌝ }
+{
+    let mut q: usize = 0;
+    while q < p {
+        if has_id(record_at(file, q), id) {
+            return true;
+        }
+        q += 1;
+    }
+    false
+}
+
+// 10: an earlier component's id.
+pub fn check10(file: &[u8], n: usize, p: usize) -> bool
+    ensures { λ r. ⌜ r ≡ fails10 (recordAt (now (file .entry))) n p ⌝ }
+{
+    let here = record_at(file, p);
+    if form_of(here) != 1 {
+        return false;
+    }
+    id_before(file, p, id_of(here))
+}
+
+// A number of ports, if the record is a primitive.
+fn counted(r: Record, ports: u16) -> usize
+    ensures { λ x. ⌜ (x ≡ cond (isPrimitive r) ports 0) × (x ≤ 65535) ⌝ }
+{
+    if is_primitive(r) {
+        return ports as usize;
+    }
+    0
+}
+
+// The inputs of the primitives before position p.
+pub fn inputs_before(file: &[u8], n: usize, p: usize) -> usize
+    requires { ⌜ p ≤ 1024 ⌝ }
+    ensures { λ r. ⌜ r ≡ inputsBefore (recordAt (now (file .entry))) n p ⌝ }
+{
+    let mut sum: usize = 0;
+    let mut q: usize = 0;
+    while q < p {
+        let r = record_at(file, q);
+        sum += counted(r, inputs_of(r));
+        q += 1;
+    }
+    sum
+}
+
+// The outputs of those primitives.
+pub fn outputs_before(file: &[u8], n: usize, p: usize) -> usize
+    requires { ⌜ p ≤ 1024 ⌝ }
+    ensures { λ r. ⌜ r ≡ outputsBefore (recordAt (now (file .entry))) n p ⌝ }
+{
+    let mut sum: usize = 0;
+    let mut q: usize = 0;
+    while q < p {
+        let r = record_at(file, q);
+        sum += counted(r, outputs_of(r));
+        q += 1;
+    }
+    sum
+}
+
+// 11: the primitives so far, this one counted, have too many inputs or outputs.
+pub fn check11(file: &[u8], n: usize, p: usize) -> bool
+    requires { ⌜ p < 1024 ⌝ }
+    ensures { λ r. ⌜ r ≡ fails11 (recordAt (now (file .entry))) n p ⌝ }
+{
+    if form_of(record_at(file, p)) != 1 {
+        return false;
+    }
+    (1024 < inputs_before(file, n, p + 1)) | (1024 < outputs_before(file, n, p + 1))
+}
+
+// Whether a record enters a child's input.
+pub fn enters(r: Record) -> bool
+    ensures { λ x. ⌜ x ≡ entering r ⌝ }
+{
+    let form = form_of(r);
+    (form == 2) | (form == 3)
+}
+
+// Whether a record enters the child's input that another enters.
+fn same_entry(r: Record, other: Record) -> bool
+    ensures { λ x. ⌜ x ≡ enteringAs other r ⌝ }
+{
+    enters(r)
+        & (owner_of(r) == owner_of(other))
+        & (to_of(r).0 == to_of(other).0)
+        & (input_of(r) == input_of(other))
+}
+
+// 13: an earlier record of kind 2 or 3 entered the same input.
+pub fn check13(file: &[u8], n: usize, p: usize) -> bool
+    ensures { λ r. ⌜ r ≡ fails13 (recordAt (now (file .entry))) n p ⌝ }
+{
+    let here = record_at(file, p);
+    if !enters(here) {
+        return false;
+    }
+    let mut q: usize = 0;
+    while q < p {
+        if same_entry(record_at(file, q), here) {
+            return true;
+        }
+        q += 1;
+    }
+    false
+}
+
+// Whether a record is an output map of composite c.
+pub fn maps_output(r: Record, c: usize) -> bool
+    ensures { λ x. ⌜ x ≡ mapsOut c r ⌝ }
+{
+    (form_of(r) == 4) & (owner_of(r) == c)
+}
+
+// How many output maps composite c has.
+fn out_map_count(file: &[u8], n: usize, c: usize) -> usize
+    ensures { λ r. ⌜ r ≡ length (outMaps (recordAt (now (file .entry))) n c) ⌝ }
+{
+    let mut count: usize = 0;
+    let mut q: usize = 0;
+    while q < n {
+        if maps_output(record_at(file, q), c) {
+            count += 1;
+        }
+        q += 1;
+    }
+    count
+}
+
+// 14: a composite's output maps differ in number from its outputs.
+pub fn check14(file: &[u8], n: usize, p: usize) -> bool
+    ensures { λ r. ⌜ r ≡ fails14 (recordAt (now (file .entry))) n p ⌝ }
+{
+    let here = record_at(file, p);
+    if !is_composite(here) {
+        return false;
+    }
+    outputs_of(here) as usize != out_map_count(file, n, p)
 }

@@ -1,9 +1,11 @@
--- Laws of the words of specs/Lists.antt: a test of two parts, and loops over positions against `from`.
+-- Laws of the words of specs/Lists.antt: a test of two parts; loops over positions against `from`, by what they look for: whether
+-- one passes, the first that passes, the kth that passes, how many pass, the sum over those that pass; and `every`.
 -- Not here: laws of length, getD, take, drop and _++_ (lib.ListN, lib.Seq).
 -- Assumes nothing.
 use mathlib.Core.Path.{_≡_, refl, sym, ap, _∙_}
-use mathlib.Core.Bool.{Bool, true, false, _&&_, false≢true}
+use mathlib.Core.Bool.{Bool, true, false, cond, _&&_, false≢true}
 use mathlib.Core.List.{List, [], _∷_}
+use mathlib.Core.Option.{Option, none, some}
 use Prim.Native.Nat.{ℕ, zero, suc, _+_, _-_, _≤_, _<_}
 use native.Mathlib.Nat.{sub-zero}
 use native.Mathlib.Numerals.{add-one}
@@ -11,7 +13,8 @@ use native.Mathlib.Decide.{decLt}
 use native.Mathlib.Omega.{arith}
 use borrow.Author.Tests.{leb-true}
 use lib.Dec.{leb}
-use Rattle.lists.specs.Lists.{within, from, every}
+use lib.ListN.{length, getD}
+use Rattle.lists.specs.Lists.{within, from, keep, every, any, total, first}
 
 pub and-left : (a b : Bool) → (a && b) ≡ true → a ≡ true
 and-left true b e = refl
@@ -37,6 +40,83 @@ pub from-end : (q n : ℕ) → n ≤ q → from q (n - q) ≡ []
 from-end q n h =
     let e : n - q ≡ 0 = omega arith in
     ap (λ (k : ℕ). from q k) e
+
+-- Such a loop against a definition over `from`, in the form "what the definition says of the positions still to come is the answer":
+-- position q decides it, or leaves it to the later ones; or there are no later ones.
+module _ (f : ℕ → Bool) (q n : ℕ) where
+  -- whether one passes
+  pub any-here : (x : Bool) → any f (from q (n - q)) ≡ x → q < n → f q ≡ true → true ≡ x
+  any-here x e h t =
+      let z : any f (from q (n - q)) ≡ true = rw (from-step q n h, t) in
+      sym z ∙ e
+
+  pub any-next : (x : Bool) → any f (from q (n - q)) ≡ x → q < n → f q ≡ false → any f (from (q + 1) (n - (q + 1))) ≡ x
+  any-next x e h t =
+      let z : any f (from q (n - q)) ≡ any f (from (q + 1) (n - (q + 1))) = rw (from-step q n h, t) in
+      sym z ∙ e
+
+  pub any-none : (x : Bool) → any f (from q (n - q)) ≡ x → n ≤ q → false ≡ x
+  any-none x e h = ap (any f) (sym (from-end q n h)) ∙ e
+
+  -- the first that passes
+  pub first-here : (x : Option ℕ) → first f (from q (n - q)) ≡ x → q < n → f q ≡ true → some q ≡ x
+  first-here x e h t =
+      let z : first f (from q (n - q)) ≡ some q = rw (from-step q n h, t) in
+      sym z ∙ e
+
+  pub first-next : (x : Option ℕ) → first f (from q (n - q)) ≡ x → q < n → f q ≡ false → first f (from (q + 1) (n - (q + 1))) ≡ x
+  first-next x e h t =
+      let z : first f (from q (n - q)) ≡ first f (from (q + 1) (n - (q + 1))) = rw (from-step q n h, t) in
+      sym z ∙ e
+
+  pub first-none : (x : Option ℕ) → first f (from q (n - q)) ≡ x → n ≤ q → none ≡ x
+  first-none x e h = ap (first f) (sym (from-end q n h)) ∙ e
+
+  -- those that pass
+  pub keep-here : q < n → f q ≡ true → keep f (from q (n - q)) ≡ q ∷ keep f (from (q + 1) (n - (q + 1)))
+  keep-here h t = rw (from-step q n h, t)
+
+  pub keep-next : q < n → f q ≡ false → keep f (from q (n - q)) ≡ keep f (from (q + 1) (n - (q + 1)))
+  keep-next h t = rw (from-step q n h, t)
+
+  pub keep-none : n ≤ q → keep f (from q (n - q)) ≡ []
+  keep-none h = ap (keep f) (from-end q n h)
+
+  -- the kth that passes: it is the one sought; it counts; it does not pass; there is none, and d stands for it
+  pub kth-here : (k d x : ℕ) → getD (keep f (from q (n - q))) k d ≡ x → q < n → f q ≡ true → k ≡ 0 → q ≡ x
+  kth-here k d x e h t z =
+      ap (λ (j : ℕ). getD (q ∷ keep f (from (q + 1) (n - (q + 1)))) j d) (sym z) ∙ ap (λ (l : List ℕ). getD l k d) (sym (keep-here h t)) ∙ e
+
+  pub kth-counts : (k d x : ℕ) → getD (keep f (from q (n - q))) k d ≡ x → q < n → f q ≡ true → (k ≡ 0 → ⊥)
+      → getD (keep f (from (q + 1) (n - (q + 1)))) (k - 1) d ≡ x
+  kth-counts k d x e h t z =
+      let j : k ≡ suc (k - 1) = omega arith in
+      sym (ap (λ (m : ℕ). getD (q ∷ keep f (from (q + 1) (n - (q + 1)))) m d) j) ∙ ap (λ (l : List ℕ). getD l k d) (sym (keep-here h t)) ∙ e
+
+  pub kth-next : (k d x : ℕ) → getD (keep f (from q (n - q))) k d ≡ x → q < n → f q ≡ false
+      → getD (keep f (from (q + 1) (n - (q + 1)))) k d ≡ x
+  kth-next k d x e h t = ap (λ (l : List ℕ). getD l k d) (sym (keep-next h t)) ∙ e
+
+  pub kth-none : (k d x : ℕ) → getD (keep f (from q (n - q))) k d ≡ x → n ≤ q → d ≡ x
+  kth-none k d x e h = ap (λ (l : List ℕ). getD l k d) (sym (keep-none h)) ∙ e
+
+  -- how many pass, and the sum of g over them: one step for a position that passes or not
+  pub length-keep-step : q < n → length (keep f (from q (n - q))) ≡ cond (f q) 1 0 + length (keep f (from (q + 1) (n - (q + 1))))
+  length-keep-step h = ap (λ (l : List ℕ). length (keep f l)) (from-step q n h) ∙ by-test (f q)
+    where
+      by-test : (b : Bool) → length (cond b (q ∷ keep f (from (q + 1) (n - (q + 1)))) (keep f (from (q + 1) (n - (q + 1)))))
+          ≡ cond b 1 0 + length (keep f (from (q + 1) (n - (q + 1))))
+      by-test true = omega arith
+      by-test false = omega arith
+
+  pub total-keep-step : (g : ℕ → ℕ) → q < n
+      → total g (keep f (from q (n - q))) ≡ cond (f q) (g q) 0 + total g (keep f (from (q + 1) (n - (q + 1))))
+  total-keep-step g h = ap (λ (l : List ℕ). total g (keep f l)) (from-step q n h) ∙ by-test (f q)
+    where
+      by-test : (b : Bool) → total g (cond b (q ∷ keep f (from (q + 1) (n - (q + 1)))) (keep f (from (q + 1) (n - (q + 1)))))
+          ≡ cond b (g q) 0 + total g (keep f (from (q + 1) (n - (q + 1))))
+      by-test true = refl
+      by-test false = omega arith
 
 -- Each of the numbers from q on passes a test that every one of them passes.
 every-at : (f : ℕ → Bool) (q k i : ℕ) → every f (from q k) ≡ true → q ≤ i → i < q + k → f i ≡ true
