@@ -1,16 +1,22 @@
--- Words for the tests that the functions of src/checks.rt and src/index.rt make of one record. Nobody has to believe anything here:
--- each is the test of a definition of specs/Drawing.antt, and the proofs show it.
---   hasId i r          a record has the id i
---   entering r         it enters a child's input
---   enteringAs s r     it enters the child's input that s enters
---   ownedBy o r        it is a component of owner o
---   mapsOut c r        it is an output map of composite c
+-- What the functions of src/checks.rt and src/index.rt test of one record, and what the tables of src/index.rt hold.
+-- Nobody has to believe anything here: each word only shortens what a definition of specs/Drawing.antt says.
+--   hasId i r             a record has the id i
+--   entering r            it enters a child's input
+--   enteringAs s r        it enters the child's input that s enters
+--   ownedAs form o r      it is of a record kind and of owner o
+--   nthOwned s n form first o k   the kth such record from `first` on; n where there is none
+--   IsTable w g t         a table of w words for each of 256 owners: word k of owner o is g o k
+--   IsRange s n lo hi     for each of 256 composites, its input maps stand from lo to below hi
 -- Assumes nothing.
-use Prim.Native.Nat.{ℕ}
-use mathlib.Core.Bool.{Bool, _&&_, _||_}
+use mathlib.Core.Path.{_≡_}
+use Prim.Native.Nat.{ℕ, _+_, _-_, _*_, _≤_, _<_}
+use mathlib.Core.Bool.{Bool, true, _&&_, _||_}
+use mathlib.Core.List.{List}
 use lib.Dec.{eqb}
+use lib.ListN.{length, getD}
+use Rattle.lists.specs.Lists.{from, keep}
 use Rattle.component.specs.declared.Record.{Record}
-use Rattle.component.specs.Record.{formOf, ownerOf, idOf, toOf, inputOf}
+use Rattle.component.specs.Record.{recordAt, formOf, ownerOf, idOf, toOf, inputOf}
 
 abbrev pub hasId : ℕ → Record → Bool
 hasId i r = eqb (idOf r) i
@@ -21,8 +27,19 @@ entering r = eqb (formOf r) 2 || eqb (formOf r) 3
 abbrev pub enteringAs : Record → Record → Bool
 enteringAs s r = entering r && eqb (ownerOf r) (ownerOf s) && eqb (toOf r) (toOf s) && eqb (inputOf r) (inputOf s)
 
-abbrev pub ownedBy : ℕ → Record → Bool
-ownedBy o r = eqb (formOf r) 1 && eqb (ownerOf r) o
+abbrev pub ownedAs : ℕ → ℕ → Record → Bool
+ownedAs form o r = eqb (formOf r) form && eqb (ownerOf r) o
 
-abbrev pub mapsOut : ℕ → Record → Bool
-mapsOut c r = eqb (formOf r) 4 && eqb (ownerOf r) c
+abbrev pub nthOwned : List ℕ → ℕ → ℕ → ℕ → ℕ → ℕ → ℕ
+nthOwned s n form first o k = getD (keep (λ q. ownedAs form o (recordAt s q)) (from first (n - first))) k n
+
+pub record IsTable (w : ℕ) (g : ℕ → ℕ → ℕ) (t : List ℕ) : Type 0 where
+  pub size : length t ≡ 256 * w
+  pub word : (o k : ℕ) → o < 256 → k < w → getD t (w * o + k) 0 ≡ g o k
+
+pub record IsRange (s : List ℕ) (n : ℕ) (lo hi : List ℕ) : Type 0 where
+  pub lo-size : length lo ≡ 256
+  pub hi-size : length hi ≡ 256
+  pub within : (c : ℕ) → c < 256 → getD hi c 0 ≤ n
+  pub least : (q c : ℕ) → q < n → c < 256 → ownedAs 3 c (recordAt s q) ≡ true → getD lo c 0 ≤ q
+  pub most : (q c : ℕ) → q < n → c < 256 → ownedAs 3 c (recordAt s q) ≡ true → q < getD hi c 0

@@ -6,7 +6,7 @@ ghost use Prim.Native.Nat.{_≤_, _<_};
 ghost use lib.ListN.{length};
 ghost use Rattle.lists.specs.Lists.{from, any};
 ghost use Rattle.component.specs.Record.{recordAt, isPrimitive};
-ghost use Rattle.component.specs.Index.{hasId, entering, enteringAs, mapsOut};
+ghost use Rattle.component.specs.Index.{hasId, entering, enteringAs};
 ghost use Rattle.component.specs.Drawing.{deepest, holds, deeper, outMaps, inputsBefore, outputsBefore};
 ghost use Rattle.component.specs.Drawing.{fails3, fails4, fails5, fails6, fails7, fails8, fails9};
 ghost use Rattle.component.specs.Drawing.{fails10, fails11, fails13, fails14};
@@ -21,6 +21,7 @@ use crate::fields::is_primitive;
 use crate::fields::outputs_of;
 use crate::fields::owner_of;
 use crate::fields::to_of;
+use crate::index::is_owned;
 use crate::reader::record_at;
 
 // 3: the record's bytes are no record.
@@ -270,13 +271,6 @@ pub fn check13(file: &[u8], n: usize, p: usize) -> bool
     false
 }
 
-// Whether a record is an output map of composite c.
-pub fn maps_output(r: Record, c: usize) -> bool
-    ensures { λ x. ⌜ x ≡ mapsOut c r ⌝ }
-{
-    (form_of(r) == 4) & (owner_of(r) == c)
-}
-
 // How many output maps composite c has.
 fn out_map_count(file: &[u8], n: usize, c: usize) -> usize
     ensures { λ r. ⌜ r ≡ length (outMaps (recordAt (now (file .entry))) n c) ⌝ }
@@ -284,7 +278,7 @@ fn out_map_count(file: &[u8], n: usize, c: usize) -> usize
     let mut count: usize = 0;
     let mut q: usize = 0;
     while q < n {
-        if maps_output(record_at(file, q), c) {
+        if is_owned(record_at(file, q), 4, c) {
             count += 1;
         }
         q += 1;

@@ -1,6 +1,7 @@
 // The records of a drawing file. Rules: docs/SPECIFICATION.md, "The drawing file" and "Numbers given back". Source: component.rs.
 mod checks;
 mod fields;
+mod index;
 mod reader;
 
 pub use checks::check3;

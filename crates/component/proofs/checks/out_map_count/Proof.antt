@@ -8,7 +8,7 @@ use native.Mathlib.Omega.{arith}
 use lib.ListN.{length}
 use Rattle.lists.specs.Lists.{from, keep}
 use Rattle.component.specs.Record.{recordAt}
-use Rattle.component.specs.Index.{mapsOut}
+use Rattle.component.specs.Index.{ownedAs}
 use Rattle.component.specs.Drawing.{outMaps}
 use Rattle.component.proofs.ScanLaws.{tested, scan-length-here, scan-length-next, scan-length-all}
 use borrow.Author.Needs.{needs}
@@ -17,7 +17,7 @@ use Rattle.component.proofs.checks.out_map_count.Tie as tie
 
 abbrev Inv-loop : tie.InvT-loop
 Inv-loop file n c count₀ q₀ count q =
-    (count + length (keep (tested file (mapsOut c)) (from q (n - q))) ≡ length (outMaps (recordAt file) n c)) × (count ≤ q)
+    (count + length (keep (tested file (ownedAs 4 c)) (from q (n - q))) ≡ length (outMaps (recordAt file) n c)) × (count ≤ q)
 
 abbrev μ-loop : tie.MeasureT-loop
 μ-loop file n c count₀ q₀ count q = n - q
@@ -28,8 +28,8 @@ loop-holds c = (rw (zero-add, sub-zero), search needs)
 record-at-requires : tie.Need-record-at-requires Inv-loop μ-loop
 record-at-requires c κs = search needs
 
-maps-output-requires : tie.Need-maps-output-requires Inv-loop μ-loop
-maps-output-requires c κs = search needs
+is-owned-requires : tie.Need-is-owned-requires Inv-loop μ-loop
+is-owned-requires c κs = search needs
 
 add-count : tie.Need-add-count Inv-loop μ-loop
 add-count c = search needs
@@ -45,11 +45,11 @@ loop-again c =
     let s = c .before .before .before .before in
     let a = s .before .before .args in
     ⊎-elim
-    (λ w. (rw (w .1) (search (scan-length-here (a .file .now) (mapsOut (a .c)))), omega arith))
-    (λ w. (rw (w .1) (search (scan-length-next (a .file .now) (mapsOut (a .c)))), omega arith)) (c .if1 .came)
+    (λ w. (rw (w .1) (search (scan-length-here (a .file .now) (ownedAs 4 (a .c)))), omega arith))
+    (λ w. (rw (w .1) (search (scan-length-next (a .file .now) (ownedAs 4 (a .c)))), omega arith)) (c .if1 .came)
 
 returns : tie.Need-returns Inv-loop μ-loop
-returns c = search (scan-length-all (c .before .before .before .args .file .now) (mapsOut (c .before .before .before .args .c)))
+returns c = search (scan-length-all (c .before .before .before .args .file .now) (ownedAs 4 (c .before .before .before .args .c)))
 
 pub out-map-count-spec : {M : Type 1} → statement M
 out-map-count-spec =
@@ -59,7 +59,7 @@ out-map-count-spec =
     μ-loop
     loop-holds
     record-at-requires
-    maps-output-requires
+    is-owned-requires
     add-count
     add-q
     loop-less
