@@ -2,3 +2,4 @@ pub mod ReaderLaws
 pub mod RecordLaws
 pub mod ScanLaws
 pub mod ChecksLaws
+pub mod IndexLaws

@@ -5,15 +5,16 @@
 --   enteringAs s r        it enters the child's input that s enters
 --   ownedAs form o r      it is of a record kind and of owner o
 --   nthOwned s n form first o k   the kth such record from `first` on; n where there is none
+--   putWord, putCount     one step of filling a table
 --   IsTable w g t         a table of w words for each of 256 owners: word k of owner o is g o k
 --   IsRange s n lo hi     for each of 256 composites, its input maps stand from lo to below hi
 -- Assumes nothing.
 use mathlib.Core.Path.{_≡_}
 use Prim.Native.Nat.{ℕ, _+_, _-_, _*_, _≤_, _<_}
-use mathlib.Core.Bool.{Bool, true, _&&_, _||_}
+use mathlib.Core.Bool.{Bool, true, cond, _&&_, _||_}
 use mathlib.Core.List.{List}
-use lib.Dec.{eqb}
-use lib.ListN.{length, getD}
+use lib.Dec.{eqb, ltb}
+use lib.ListN.{length, getD, set}
 use Rattle.lists.specs.Lists.{from, keep}
 use Rattle.component.specs.declared.Record.{Record}
 use Rattle.component.specs.Record.{recordAt, formOf, ownerOf, idOf, toOf, inputOf}
@@ -32,6 +33,17 @@ ownedAs form o r = eqb (formOf r) form && eqb (ownerOf r) o
 
 abbrev pub nthOwned : List ℕ → ℕ → ℕ → ℕ → ℕ → ℕ → ℕ
 nthOwned s n form first o k = getD (keep (λ q. ownedAs form o (recordAt s q)) (from first (n - first))) k n
+
+-- One step of filling such a table: r at position q is the next record of its owner, where it is of the kind; past w it is only counted.
+abbrev pub putWord : ℕ → ℕ → Record → ℕ → List ℕ → List ℕ → List ℕ
+putWord w form r q counts t =
+    cond (eqb (formOf r) form && ltb (ownerOf r) 256 && ltb (getD counts (ownerOf r) 0) w)
+    (set t (w * ownerOf r + getD counts (ownerOf r) 0) q)
+    t
+
+abbrev pub putCount : ℕ → Record → List ℕ → List ℕ
+putCount form r counts =
+    cond (eqb (formOf r) form && ltb (ownerOf r) 256) (set counts (ownerOf r) (getD counts (ownerOf r) 0 + 1)) counts
 
 pub record IsTable (w : ℕ) (g : ℕ → ℕ → ℕ) (t : List ℕ) : Type 0 where
   pub size : length t ≡ 256 * w

@@ -3,10 +3,10 @@
 // owners; past them the records are searched one by one.
 // Only crate flatten calls these functions, with the number of records for n.
 ghost use mathlib.Core.Path.{_≡_};
-ghost use Prim.Native.Nat.{_*_, _≤_, _<_};
+ghost use Prim.Native.Nat.{ℕ, _*_, _≤_, _<_};
 ghost use lib.ListN.{length, getD};
 ghost use Rattle.component.specs.Record.{recordAt};
-ghost use Rattle.component.specs.Index.{ownedAs, nthOwned, IsTable, IsRange};
+ghost use Rattle.component.specs.Index.{ownedAs, nthOwned, putWord, putCount, IsTable, IsRange};
 ghost use Rattle.component.specs.Drawing.{child, outMap};
 use crate::ChildNo;
 use crate::Record;
@@ -37,4 +37,36 @@ fn nth_owned(file: &[u8], n: usize, form: u8, first: usize, o: usize, k: usize) 
         q += 1;
     }
     n
+}
+
+// Writes x into every word of a table.
+fn clear(table: &mut [u16], x: u16)
+    ensures { λ _. ⌜ (length (now (table .exit)) ≡ length (now (table .entry))) × ((i : ℕ) → i < length (now (table .exit)) → getD (now (table .exit)) i 0 ≡ x) ⌝ }
+{
+    let mut i: usize = 0;
+    while i < table.len() {
+        table[i] = x;
+        i += 1;
+    }
+}
+
+// Puts a record of the kind into the table as the next of its owner, where the table has a place for it, and counts it.
+fn put(table: &mut [u16], counts: &mut [u16; 256], w: usize, form: u8, r: Record, q: u16)
+    requires { ⌜ (length (now table) ≡ 256 * w) × (w ≤ 256) × ((o : ℕ) → getD (now counts) o 0 ≤ 1024) ⌝ }
+    ensures { λ _. ⌜ now (table .exit) ≡ putWord w form r q (now (counts .entry)) (now (table .entry)) ⌝ }
+    ensures { λ _. ⌜ now (counts .exit) ≡ putCount form r (now (counts .entry)) ⌝ }
+{
+    let o = owner_of(r);
+    if form_of(r) != form {
+        return;
+    }
+    if 256 <= o {
+        return;
+    }
+    let k = counts[o];
+    counts[o] = k + 1;
+    let at = k as usize;
+    if at < w {
+        table[w * o + at] = q;
+    }
 }

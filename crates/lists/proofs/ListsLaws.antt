@@ -4,7 +4,7 @@
 -- Assumes nothing.
 use mathlib.Core.Path.{_≡_, refl, sym, ap, _∙_}
 use mathlib.Core.Bool.{Bool, true, false, cond, _&&_, false≢true}
-use mathlib.Core.List.{List, [], _∷_}
+use mathlib.Core.List.{List, [], _∷_, _++_, append-nil}
 use mathlib.Core.Option.{Option, none, some}
 use Prim.Native.Nat.{ℕ, zero, suc, _+_, _-_, _≤_, _<_}
 use native.Mathlib.Nat.{sub-zero}
@@ -14,6 +14,7 @@ use native.Mathlib.Omega.{arith}
 use borrow.Author.Tests.{leb-true}
 use lib.Dec.{leb}
 use lib.ListN.{length, getD}
+use lib.Seq.{getD-append-seam}
 use Rattle.lists.specs.Lists.{within, from, keep, every, any, total, first}
 
 pub and-left : (a b : Bool) → (a && b) ≡ true → a ≡ true
@@ -117,6 +118,56 @@ module _ (f : ℕ → Bool) (q n : ℕ) where
           ≡ cond b (g q) 0 + total g (keep f (from (q + 1) (n - (q + 1))))
       by-test true = refl
       by-test false = omega arith
+
+-- A loop that builds as it goes, against what the positions passed so far say: one position more.
+pub from-snoc : (a q : ℕ) → a ≤ q → from a (q + 1 - a) ≡ from a (q - a) ++ (q ∷ [])
+from-snoc a q h =
+    let e : q + 1 - a ≡ suc (q - a) = omega arith in
+    let d : a + (q - a) ≡ q = omega arith in
+    ap (from a) e ∙ by-count (q - a) a ∙ ap (λ (p : ℕ). from a (q - a) ++ (p ∷ [])) d
+  where
+    by-count : (k a : ℕ) → from a (suc k) ≡ from a k ++ ((a + k) ∷ [])
+    by-count zero a = let e : a ≡ a + 0 = omega arith in ap (λ (p : ℕ). p ∷ []) e
+    by-count (suc k) a =
+        let e : suc a + k ≡ a + suc k = omega arith in
+        ap (λ (l : List ℕ). a ∷ l) (by-count k (suc a) ∙ ap (λ (p : ℕ). from (suc a) k ++ (p ∷ [])) e)
+
+keep-append : (f : ℕ → Bool) (xs ys : List ℕ) → keep f (xs ++ ys) ≡ keep f xs ++ keep f ys
+keep-append f [] ys = refl
+keep-append f (x ∷ xs) ys = by-test (f x) (keep-append f xs ys)
+  where
+    by-test : (b : Bool) → keep f (xs ++ ys) ≡ keep f xs ++ keep f ys
+        → cond b (x ∷ keep f (xs ++ ys)) (keep f (xs ++ ys)) ≡ cond b (x ∷ keep f xs) (keep f xs) ++ keep f ys
+    by-test true e = ap (λ (l : List ℕ). x ∷ l) e
+    by-test false e = e
+
+module _ (f : ℕ → Bool) (a q : ℕ) (h : a ≤ q) where
+  pub keep-snoc-here : f q ≡ true → keep f (from a (q + 1 - a)) ≡ keep f (from a (q - a)) ++ (q ∷ [])
+  keep-snoc-here t = ap (keep f) (from-snoc a q h) ∙ keep-append f (from a (q - a)) (q ∷ []) ∙ rw t
+
+  pub keep-snoc-next : f q ≡ false → keep f (from a (q + 1 - a)) ≡ keep f (from a (q - a))
+  keep-snoc-next t = ap (keep f) (from-snoc a q h) ∙ keep-append f (from a (q - a)) (q ∷ []) ∙ rw t (append-nil (keep f (from a (q - a))))
+
+  pub length-keep-le : length (keep f (from a (q - a))) ≤ q - a
+  length-keep-le = by-count (q - a) a
+    where
+      by-test : (b : Bool) (x : ℕ) (xs : List ℕ) (k : ℕ) → length xs ≤ k → length (cond b (x ∷ xs) xs) ≤ suc k
+      by-test true x xs k e = omega arith
+      by-test false x xs k e = omega arith
+
+      by-count : (k a : ℕ) → length (keep f (from a k)) ≤ k
+      by-count zero a = omega arith
+      by-count (suc k) a = by-test (f a) a (keep f (from (suc a) k)) k (by-count k (suc a))
+
+-- One element more: the new one at the end, and elsewhere what was there.
+pub getD-snoc-end : (xs : List ℕ) (x k d : ℕ) → k ≡ length xs → getD (xs ++ (x ∷ [])) k d ≡ x
+getD-snoc-end xs x k d e = rw e (getD-append-seam xs x [] d)
+
+pub getD-snoc-else : (xs : List ℕ) (x k d : ℕ) → (k ≡ length xs → ⊥) → getD (xs ++ (x ∷ [])) k d ≡ getD xs k d
+getD-snoc-else [] x zero d h = absurd (h refl)
+getD-snoc-else [] x (suc k) d h = refl
+getD-snoc-else (y ∷ xs) x zero d h = refl
+getD-snoc-else (y ∷ xs) x (suc k) d h = getD-snoc-else xs x k d (λ e. h (ap suc e))
 
 -- Each of the numbers from q on passes a test that every one of them passes.
 every-at : (f : ℕ → Bool) (q k i : ℕ) → every f (from q k) ≡ true → q ≤ i → i < q + k → f i ≡ true
