@@ -70,3 +70,61 @@ fn put(table: &mut [u16], counts: &mut [u16; 256], w: usize, form: u8, r: Record
         table[w * o + at] = q;
     }
 }
+
+// Fills a table with the records of a kind from position `first` on, w words for each owner.
+fn fill(file: &[u8], n: usize, form: u8, first: usize, w: usize, table: &mut [u16])
+    requires { ⌜ (n ≤ 1024) × (w ≤ 256) × (length (now table) ≡ 256 * w) ⌝ }
+    ensures { λ _. ⌜ IsTable w (nthOwned (now (file .entry)) n form first) (now (table .exit)) ⌝ }
+{
+    clear(table, n as u16);
+    let mut counts = [0u16; 256];
+    let mut q = first;
+    while q < n {
+        put(table, &mut counts, w, form, record_at(file, q), q as u16);
+        q += 1;
+    }
+}
+
+// Fills the table of children: word 256 * o + k is child k of owner o.
+pub fn index_children(file: &[u8], n: usize, children: &mut [u16])
+    requires { ⌜ (n ≤ 1024) × (length (now children) ≡ 65536) ⌝ }
+    ensures { λ _. ⌜ IsTable 256 (child (recordAt (now (file .entry))) n) (now (children .exit)) ⌝ }
+{
+    fill(file, n, 1, 1, 256, children);
+}
+
+// Fills the table of output maps: word 64 * c + i is the record that maps output i of composite c.
+pub fn index_outs(file: &[u8], n: usize, outs: &mut [u16])
+    requires { ⌜ (n ≤ 1024) × (length (now outs) ≡ 16384) ⌝ }
+    ensures { λ _. ⌜ IsTable 64 (outMap (recordAt (now (file .entry))) n) (now (outs .exit)) ⌝ }
+{
+    fill(file, n, 4, 0, 64, outs);
+}
+
+// Child k of owner o; n where there is none.
+pub fn child_of(file: &[u8], n: usize, children: &[u16], o: usize, k: ChildNo) -> usize
+    requires { ⌜ IsTable 256 (child (recordAt (now file)) n) (now children) ⌝ }
+    ensures { λ r. ⌜ r ≡ child (recordAt (now (file .entry))) n o (k .0) ⌝ }
+{
+    let at = k.0 as usize;
+    if o < 256 {
+        if at < 256 {
+            return children[256 * o + at] as usize;
+        }
+    }
+    nth_owned(file, n, 1, 1, o, at)
+}
+
+// The record that maps output i of composite c; n where there is none.
+pub fn out_map_of(file: &[u8], n: usize, outs: &[u16], c: usize, i: u16) -> usize
+    requires { ⌜ IsTable 64 (outMap (recordAt (now file)) n) (now outs) ⌝ }
+    ensures { λ r. ⌜ r ≡ outMap (recordAt (now (file .entry))) n c i ⌝ }
+{
+    let at = i as usize;
+    if c < 256 {
+        if at < 64 {
+            return outs[64 * c + at] as usize;
+        }
+    }
+    nth_owned(file, n, 4, 0, c, at)
+}
