@@ -10,7 +10,7 @@ use native.Mathlib.Nat.{sub-zero, mul-suc, mul-comm, mul-le-mul-left}
 use native.Mathlib.Numerals.{add-one}
 use native.Mathlib.Decide.{decLt}
 use native.Mathlib.Omega.{arith}
-use borrow.Author.Tests.{eq-eqb, ne-eqb, lt-ltb, le-ltb, eqb-true, eqb-false, ltb-true}
+use borrow.Author.Tests.{eq-eqb, ne-eqb, lt-ltb, le-ltb, eqb-true, eqb-false, ltb-true, ltb-false}
 use lib.Dec.{eqb, ltb}
 use lib.ListN.{length, getD, set, length-set, length-append, List·getD-eq-default}
 use lib.Seq.{getD-set-same, getD-set-other}
@@ -18,7 +18,7 @@ use Rattle.lists.specs.Lists.{from, keep}
 use Rattle.lists.proofs.ListsLaws.{and-left, and-right, keep-snoc-here, keep-snoc-next, length-keep-le, getD-snoc-end, getD-snoc-else}
 use Rattle.component.specs.declared.Record.{Record}
 use Rattle.component.specs.Record.{recordAt, formOf, ownerOf}
-use Rattle.component.specs.Index.{ownedAs, nthOwned, putWord, putCount, IsTable}
+use Rattle.component.specs.Index.{ownedAs, nthOwned, putWord, putCount, widenLow, widenHigh, IsTable, IsRange}
 use Rattle.component.specs.Drawing.{child, outMap}
 use Rattle.component.proofs.ScanLaws.{tested}
 
@@ -260,3 +260,163 @@ outMap-table s n t h = record {
   size = h .size;
   word = λ c i a b. h .word c i a b ∙ outMap-nth s n c i;
 }
+
+-- A step of the ranges, by the tests made: no input map; an owner past the tables; one that is not the first; the first.
+module _ (r : Record) (q : ℕ) (lo hi : List ℕ) (c f : ℕ) (ec : c ≡ ownerOf r) (ef : f ≡ formOf r) where
+  pub widen-other : (f ≡ 3 → ⊥) → (lo ≡ widenLow r q lo) × (hi ≡ widenHigh r q hi)
+  widen-other h = (rw (← ef, ne-eqb f 3 h), rw (← ef, ne-eqb f 3 h))
+
+  pub widen-far : f ≡ 3 → 256 ≤ c → (lo ≡ widenLow r q lo) × (hi ≡ widenHigh r q hi)
+  widen-far h g = (rw (← ef, eq-eqb f 3 h, ← ec, le-ltb c 256 g), rw (← ef, eq-eqb f 3 h, ← ec, le-ltb c 256 g))
+
+  pub widen-later : f ≡ 3 → c < 256 → getD lo c 0 ≤ q → (lo ≡ widenLow r q lo) × (set hi c (q + 1) ≡ widenHigh r q hi)
+  widen-later h g k = (
+    rw (← ef, eq-eqb f 3 h, ← ec, lt-ltb c 256 g, le-ltb q (getD lo c 0) k),
+    rw (← ef, eq-eqb f 3 h, ← ec, lt-ltb c 256 g),
+  )
+
+  pub widen-first : f ≡ 3 → c < 256 → q < getD lo c 0 → (set lo c q ≡ widenLow r q lo) × (set hi c (q + 1) ≡ widenHigh r q hi)
+  widen-first h g k = (
+    rw (← ef, eq-eqb f 3 h, ← ec, lt-ltb c 256 g, lt-ltb q (getD lo c 0) k),
+    rw (← ef, eq-eqb f 3 h, ← ec, lt-ltb c 256 g),
+  )
+
+-- What a step does to the range of composite c: its low end never rises, its high end never falls, and they take in a map of c's own.
+module _ (r : Record) (q : ℕ) (t : List ℕ) (size : length t ≡ 256) (c : ℕ) (g : c < 256) where
+  abbrev mapping : Bool
+  mapping = eqb (formOf r) 3 && ltb (ownerOf r) 256
+
+  set-at : (m x : ℕ) → getD (set t m x) c 0 ≡ cond (eqb c m) x (getD t c 0)
+  set-at m x = by-place (eqb c m) refl
+    where
+      by-place : (b : Bool) → eqb c m ≡ b → getD (set t m x) c 0 ≡ cond b x (getD t c 0)
+      by-place true e = let z : c ≡ m = eqb-true c m e in rw (← z) (getD-set-same t c x 0 (omega arith))
+      by-place false e = getD-set-other t m c x 0 (eqb-false c m e)
+
+  widenLow-le : getD (widenLow r q t) c 0 ≤ getD t c 0
+  widenLow-le = by-test (mapping && ltb q (getD t (ownerOf r) 0)) refl
+    where
+      by-place : (b : Bool) → eqb c (ownerOf r) ≡ b → q < getD t (ownerOf r) 0 → cond b q (getD t c 0) ≤ getD t c 0
+      by-place true e l = omega (arith, ap (λ (x : ℕ). getD t x 0) (eqb-true c (ownerOf r) e))
+      by-place false e l = omega arith
+
+      by-test : (b : Bool) → (mapping && ltb q (getD t (ownerOf r) 0)) ≡ b → getD (cond b (set t (ownerOf r) q) t) c 0 ≤ getD t c 0
+      by-test true e =
+          let l : q < getD t (ownerOf r) 0 = ltb-true q (getD t (ownerOf r) 0) (and-right mapping (ltb q (getD t (ownerOf r) 0)) e) in
+          rw (set-at (ownerOf r) q) (by-place (eqb c (ownerOf r)) refl l)
+      by-test false e = omega arith
+
+  widenHigh-le : getD t c 0 ≤ q → getD (widenHigh r q t) c 0 ≤ q + 1
+  widenHigh-le h = by-test mapping
+    where
+      by-place : (b : Bool) → cond b (q + 1) (getD t c 0) ≤ q + 1
+      by-place true = omega arith
+      by-place false = omega arith
+
+      by-test : (b : Bool) → getD (cond b (set t (ownerOf r) (q + 1)) t) c 0 ≤ q + 1
+      by-test true = rw (set-at (ownerOf r) (q + 1)) (by-place (eqb c (ownerOf r)))
+      by-test false = omega arith
+
+  widenHigh-ge : getD t c 0 ≤ q → getD t c 0 ≤ getD (widenHigh r q t) c 0
+  widenHigh-ge h = by-test mapping
+    where
+      by-place : (b : Bool) → getD t c 0 ≤ cond b (q + 1) (getD t c 0)
+      by-place true = omega arith
+      by-place false = omega arith
+
+      by-test : (b : Bool) → getD t c 0 ≤ getD (cond b (set t (ownerOf r) (q + 1)) t) c 0
+      by-test true = rw (set-at (ownerOf r) (q + 1)) (by-place (eqb c (ownerOf r)))
+      by-test false = omega arith
+
+  module _ (e : ownedAs 3 c r ≡ true) where
+    mapper-is : ownerOf r ≡ c
+    mapper-is = eqb-true (ownerOf r) c (and-right (eqb (formOf r) 3) (eqb (ownerOf r) c) e)
+
+    mapping-is : mapping ≡ true
+    mapping-is =
+        both-true (eqb (formOf r) 3) (ltb (ownerOf r) 256) (and-left (eqb (formOf r) 3) (eqb (ownerOf r) c) e)
+        (lt-ltb (ownerOf r) 256 (omega (arith, mapper-is)))
+
+    widenLow-own : getD (widenLow r q t) c 0 ≤ q
+    widenLow-own = rw (mapping-is, mapper-is) (by-test (ltb q (getD t c 0)) refl)
+      where
+        by-test : (b : Bool) → ltb q (getD t c 0) ≡ b → getD (cond b (set t c q) t) c 0 ≤ q
+        by-test true d = rw (getD-set-same t c q 0 (omega arith)) (omega arith)
+        by-test false d = ltb-false q (getD t c 0) d
+
+    widenHigh-own : q < getD (widenHigh r q t) c 0
+    widenHigh-own = rw (mapping-is, mapper-is, getD-set-same t c (q + 1) 0 (omega arith)) (omega arith)
+
+  widenLow-length : length (widenLow r q t) ≡ 256
+  widenLow-length = by-test (mapping && ltb q (getD t (ownerOf r) 0)) ∙ size
+    where
+      by-test : (b : Bool) → length (cond b (set t (ownerOf r) q) t) ≡ length t
+      by-test true = length-set t (ownerOf r) q
+      by-test false = refl
+
+  widenHigh-length : length (widenHigh r q t) ≡ 256
+  widenHigh-length = by-test mapping ∙ size
+    where
+      by-test : (b : Bool) → length (cond b (set t (ownerOf r) (q + 1)) t) ≡ length t
+      by-test true = length-set t (ownerOf r) (q + 1)
+      by-test false = refl
+
+-- The invariant of the pass over the ranges: they hold the input maps before q.
+pub record Widening (s : List ℕ) (n q : ℕ) (lo hi : List ℕ) : Type 0 where
+  pub lo-size : length lo ≡ 256
+  pub hi-size : length hi ≡ 256
+  pub reached : q ≤ n
+  pub within : (c : ℕ) → c < 256 → getD hi c 0 ≤ q
+  pub least : (p c : ℕ) → p < q → c < 256 → ownedAs 3 c (recordAt s p) ≡ true → getD lo c 0 ≤ p
+  pub most : (p c : ℕ) → p < q → c < 256 → ownedAs 3 c (recordAt s p) ≡ true → p < getD hi c 0
+
+module _ (s : List ℕ) (n : ℕ) where
+  pub widening-start : (lo hi : List ℕ) → length lo ≡ 256 → length hi ≡ 256 → ((c : ℕ) → c < length hi → getD hi c 0 ≡ 0) → Widening s n 0 lo hi
+  widening-start lo hi e d h = record {
+    lo-size = e;
+    hi-size = d;
+    reached = omega arith;
+    within = λ c g. omega (arith, h c (omega arith));
+    least = λ p c l g o. absurd (omega arith);
+    most = λ p c l g o. absurd (omega arith);
+  }
+
+  pub widening-end : (q : ℕ) (lo hi : List ℕ) → Widening s n q lo hi → n ≤ q → IsRange s n lo hi
+  widening-end q lo hi h e = record {
+    lo-size = h .lo-size;
+    hi-size = h .hi-size;
+    within = λ c g. omega (arith, h .within c g, h .reached);
+    least = λ p c l g o. h .least p c (omega arith) g o;
+    most = λ p c l g o. h .most p c (omega arith) g o;
+  }
+
+  module _ (q : ℕ) (lo hi : List ℕ) (h : Widening s n q lo hi) (r : Record) (er : r ≡ recordAt s q) where
+    last-own : (p c : ℕ) → p < q + 1 → (p < q → ⊥) → ownedAs 3 c (recordAt s p) ≡ true → ownedAs 3 c r ≡ true
+    last-own p c l k o =
+        let z : q ≡ p = omega arith in
+        ap (ownedAs 3 c) (er ∙ ap (recordAt s) z) ∙ o
+
+    step-least : (p c : ℕ) → p < q + 1 → c < 256 → ownedAs 3 c (recordAt s p) ≡ true → getD (widenLow r q lo) c 0 ≤ p
+    step-least p c l g o = by-place (decLt p q)
+      where
+        by-place : Dec (p < q) → getD (widenLow r q lo) c 0 ≤ p
+        by-place (yes a) = omega (arith, widenLow-le r q lo (h .lo-size) c g, h .least p c a g o)
+        by-place (no a) = omega (arith, widenLow-own r q lo (h .lo-size) c g (last-own p c l a o))
+
+    step-most : (p c : ℕ) → p < q + 1 → c < 256 → ownedAs 3 c (recordAt s p) ≡ true → p < getD (widenHigh r q hi) c 0
+    step-most p c l g o = by-place (decLt p q)
+      where
+        by-place : Dec (p < q) → p < getD (widenHigh r q hi) c 0
+        by-place (yes a) = omega (arith, widenHigh-ge r q hi (h .hi-size) c g (h .within c g), h .most p c a g o)
+        by-place (no a) = omega (arith, widenHigh-own r q hi (h .hi-size) c g (last-own p c l a o))
+
+    pub widening-step : (lo' hi' : List ℕ) → q < n → lo' ≡ widenLow r q lo → hi' ≡ widenHigh r q hi → Widening s n (q + 1) lo' hi'
+    widening-step lo' hi' l el eh =
+        rw (el, eh) (record {
+          lo-size = widenLow-length r q lo (h .lo-size) 0 (omega arith);
+          hi-size = widenHigh-length r q hi (h .hi-size) 0 (omega arith);
+          reached = omega arith;
+          within = λ c g. widenHigh-le r q hi (h .hi-size) c g (h .within c g);
+          least = step-least;
+          most = step-most;
+        })

@@ -3,10 +3,12 @@
 --   hasId i r             a record has the id i
 --   entering r            it enters a child's input
 --   enteringAs s r        it enters the child's input that s enters
+--   fromThere s n r, portThere s r, toThere s n r   the ports at its ends exist
 --   ownedAs form o r      it is of a record kind and of owner o
 --   nthOwned s n form first o k   the kth such record from `first` on; n where there is none
 --   putWord, putCount     one step of filling a table
 --   IsTable w g t         a table of w words for each of 256 owners: word k of owner o is g o k
+--   widenLow, widenHigh   one step of filling the ranges
 --   IsRange s n lo hi     for each of 256 composites, its input maps stand from lo to below hi
 -- Assumes nothing.
 use mathlib.Core.Path.{_≡_}
@@ -17,7 +19,9 @@ use lib.Dec.{eqb, ltb}
 use lib.ListN.{length, getD, set}
 use Rattle.lists.specs.Lists.{from, keep}
 use Rattle.component.specs.declared.Record.{Record}
-use Rattle.component.specs.Record.{recordAt, formOf, ownerOf, idOf, toOf, inputOf}
+use Rattle.component.specs.Record.{recordAt, formOf, ownerOf, idOf, fromOf, outputOf, toOf, inputOf, portOf}
+use Rattle.component.specs.Record.{inputsOf, outputsOf}
+use Rattle.component.specs.Drawing.{child}
 
 abbrev pub hasId : ℕ → Record → Bool
 hasId i r = eqb (idOf r) i
@@ -27,6 +31,15 @@ entering r = eqb (formOf r) 2 || eqb (formOf r) 3
 
 abbrev pub enteringAs : Record → Record → Bool
 enteringAs s r = entering r && eqb (ownerOf r) (ownerOf s) && eqb (toOf r) (toOf s) && eqb (inputOf r) (inputOf s)
+
+abbrev pub fromThere : List ℕ → ℕ → Record → Bool
+fromThere s n r = ltb (outputOf r) (outputsOf (recordAt s (child (recordAt s) n (ownerOf r) (fromOf r))))
+
+abbrev pub portThere : List ℕ → Record → Bool
+portThere s r = ltb (portOf r) (inputsOf (recordAt s (ownerOf r)))
+
+abbrev pub toThere : List ℕ → ℕ → Record → Bool
+toThere s n r = ltb (inputOf r) (inputsOf (recordAt s (child (recordAt s) n (ownerOf r) (toOf r))))
 
 abbrev pub ownedAs : ℕ → ℕ → Record → Bool
 ownedAs form o r = eqb (formOf r) form && eqb (ownerOf r) o
@@ -48,6 +61,14 @@ putCount form r counts =
 pub record IsTable (w : ℕ) (g : ℕ → ℕ → ℕ) (t : List ℕ) : Type 0 where
   pub size : length t ≡ 256 * w
   pub word : (o k : ℕ) → o < 256 → k < w → getD t (w * o + k) 0 ≡ g o k
+
+-- The same of the first and of the last of a composite's input maps: r at position q widens its owner's range.
+abbrev pub widenLow : Record → ℕ → List ℕ → List ℕ
+widenLow r q lo =
+    cond (eqb (formOf r) 3 && ltb (ownerOf r) 256 && ltb q (getD lo (ownerOf r) 0)) (set lo (ownerOf r) q) lo
+
+abbrev pub widenHigh : Record → ℕ → List ℕ → List ℕ
+widenHigh r q hi = cond (eqb (formOf r) 3 && ltb (ownerOf r) 256) (set hi (ownerOf r) (q + 1)) hi
 
 pub record IsRange (s : List ℕ) (n : ℕ) (lo hi : List ℕ) : Type 0 where
   pub lo-size : length lo ≡ 256

@@ -6,21 +6,25 @@ ghost use Prim.Native.Nat.{_≤_, _<_};
 ghost use lib.ListN.{length};
 ghost use Rattle.lists.specs.Lists.{from, any};
 ghost use Rattle.component.specs.Record.{recordAt, isPrimitive};
-ghost use Rattle.component.specs.Index.{hasId, entering, enteringAs};
-ghost use Rattle.component.specs.Drawing.{deepest, holds, deeper, outMaps, inputsBefore, outputsBefore};
+ghost use Rattle.component.specs.Index.{IsTable, hasId, entering, enteringAs, fromThere, portThere, toThere};
+ghost use Rattle.component.specs.Drawing.{child, deepest, holds, deeper, outMaps, inputsBefore, outputsBefore};
 ghost use Rattle.component.specs.Drawing.{fails3, fails4, fails5, fails6, fails7, fails8, fails9};
-ghost use Rattle.component.specs.Drawing.{fails10, fails11, fails13, fails14};
+ghost use Rattle.component.specs.Drawing.{fails10, fails11, fails12, fails13, fails14};
 use crate::Id;
 use crate::Record;
 use crate::fields::form_of;
+use crate::fields::from_of;
 use crate::fields::id_of;
 use crate::fields::input_of;
 use crate::fields::inputs_of;
 use crate::fields::is_composite;
 use crate::fields::is_primitive;
+use crate::fields::output_of;
 use crate::fields::outputs_of;
 use crate::fields::owner_of;
+use crate::fields::port_of;
 use crate::fields::to_of;
+use crate::index::child_of;
 use crate::index::is_owned;
 use crate::reader::record_at;
 
@@ -233,6 +237,50 @@ pub fn check11(file: &[u8], n: usize, p: usize) -> bool
         return false;
     }
     (1024 < inputs_before(file, n, p + 1)) | (1024 < outputs_before(file, n, p + 1))
+}
+
+// Whether the child's output that a record starts at exists.
+fn has_from(file: &[u8], n: usize, children: &[u16], r: Record) -> bool
+    requires { ⌜ IsTable 256 (child (recordAt (now file)) n) (now children) ⌝ }
+    ensures { λ x. ⌜ x ≡ fromThere (now (file .entry)) n r ⌝ }
+{
+    let from = child_of(file, n, children, owner_of(r), from_of(r));
+    output_of(r) < outputs_of(record_at(file, from))
+}
+
+// Whether the owner's input that a record starts at exists.
+fn has_port(file: &[u8], r: Record) -> bool
+    ensures { λ x. ⌜ x ≡ portThere (now (file .entry)) r ⌝ }
+{
+    port_of(r) < inputs_of(record_at(file, owner_of(r)))
+}
+
+// Whether the child's input that a record enters exists.
+fn has_to(file: &[u8], n: usize, children: &[u16], r: Record) -> bool
+    requires { ⌜ IsTable 256 (child (recordAt (now file)) n) (now children) ⌝ }
+    ensures { λ x. ⌜ x ≡ toThere (now (file .entry)) n r ⌝ }
+{
+    let to = child_of(file, n, children, owner_of(r), to_of(r));
+    input_of(r) < inputs_of(record_at(file, to))
+}
+
+// 12: a child or port in kinds 2 to 4 does not exist.
+pub fn check12(file: &[u8], n: usize, children: &[u16], p: usize) -> bool
+    requires { ⌜ IsTable 256 (child (recordAt (now file)) n) (now children) ⌝ }
+    ensures { λ r. ⌜ r ≡ fails12 (recordAt (now (file .entry))) n p ⌝ }
+{
+    let r = record_at(file, p);
+    let form = form_of(r);
+    if form == 2 {
+        return !(has_from(file, n, children, r) & has_to(file, n, children, r));
+    }
+    if form == 3 {
+        return !(has_port(file, r) & has_to(file, n, children, r));
+    }
+    if form == 4 {
+        return !has_from(file, n, children, r);
+    }
+    false
 }
 
 // Whether a record enters a child's input.

@@ -6,7 +6,7 @@ ghost use mathlib.Core.Path.{_≡_};
 ghost use Prim.Native.Nat.{ℕ, _*_, _≤_, _<_};
 ghost use lib.ListN.{length, getD};
 ghost use Rattle.component.specs.Record.{recordAt};
-ghost use Rattle.component.specs.Index.{ownedAs, nthOwned, putWord, putCount, IsTable, IsRange};
+ghost use Rattle.component.specs.Index.{ownedAs, nthOwned, putWord, putCount, widenLow, widenHigh, IsTable, IsRange};
 ghost use Rattle.component.specs.Drawing.{child, outMap};
 use crate::ChildNo;
 use crate::Record;
@@ -127,4 +127,37 @@ pub fn out_map_of(file: &[u8], n: usize, outs: &[u16], c: usize, i: u16) -> usiz
         }
     }
     nth_owned(file, n, 4, 0, c, at)
+}
+
+// Widens the range of an input map's owner to its position.
+fn widen(lo: &mut [u16], hi: &mut [u16], r: Record, q: u16)
+    requires { ⌜ (length (now lo) ≡ 256) × (length (now hi) ≡ 256) × (q < 1024) ⌝ }
+    ensures { λ _. ⌜ now (lo .exit) ≡ widenLow r q (now (lo .entry)) ⌝ }
+    ensures { λ _. ⌜ now (hi .exit) ≡ widenHigh r q (now (hi .entry)) ⌝ }
+{
+    let c = owner_of(r);
+    if form_of(r) != 3 {
+        return;
+    }
+    if 256 <= c {
+        return;
+    }
+    hi[c] = q + 1;
+    if q < lo[c] {
+        lo[c] = q;
+    }
+}
+
+// Fills the ranges of input maps: those of composite c stand from lo[c] to before hi[c].
+pub fn index_ranges(file: &[u8], n: usize, lo: &mut [u16], hi: &mut [u16])
+    requires { ⌜ (n ≤ 1024) × (length (now lo) ≡ 256) × (length (now hi) ≡ 256) ⌝ }
+    ensures { λ _. ⌜ IsRange (now (file .entry)) n (now (lo .exit)) (now (hi .exit)) ⌝ }
+{
+    clear(lo, n as u16);
+    clear(hi, 0);
+    let mut q: usize = 0;
+    while q < n {
+        widen(lo, hi, record_at(file, q), q as u16);
+        q += 1;
+    }
 }
