@@ -1,6 +1,46 @@
 // The records of a drawing file. Rules: docs/SPECIFICATION.md, "The drawing file" and "Numbers given back". Source: component.rs.
+mod checks;
+mod fields;
+mod index;
+mod reader;
+
+pub use checks::check3;
+pub use checks::check4;
+pub use checks::check5;
+pub use checks::check6;
+pub use checks::check7;
+pub use checks::check8;
+pub use checks::check9;
+pub use checks::check10;
+pub use checks::check11;
+pub use checks::check12;
+pub use checks::check13;
+pub use checks::check14;
+pub use checks::enters;
+pub use checks::inputs_before;
+pub use checks::outputs_before;
+pub use fields::form_of;
+pub use fields::from_of;
+pub use fields::id_of;
+pub use fields::input_of;
+pub use fields::inputs_of;
+pub use fields::is_composite;
+pub use fields::is_primitive;
+pub use fields::kind_of;
+pub use fields::output_of;
+pub use fields::outputs_of;
+pub use fields::owner_of;
+pub use fields::port_of;
+pub use fields::to_of;
+pub use index::child_of;
+pub use index::index_children;
+pub use index::index_outs;
+pub use index::index_ranges;
+pub use index::is_owned;
+pub use index::out_map_of;
 use primitive::Fields;
 use primitive::Refusal;
+pub use reader::record_at;
 
 // An id as drawn.
 pub struct Id(pub u32);

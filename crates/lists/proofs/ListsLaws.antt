@@ -1,9 +1,11 @@
--- Laws of the words of specs/Lists.antt: a test of two parts, and loops over positions against `from`.
+-- Laws of the words of specs/Lists.antt: a test of two parts; loops over positions against `from`, by what they look for: whether
+-- one passes, the first that passes, the kth that passes, how many pass, the sum over those that pass; and `every`.
 -- Not here: laws of length, getD, take, drop and _++_ (lib.ListN, lib.Seq).
 -- Assumes nothing.
 use mathlib.Core.Path.{_≡_, refl, sym, ap, _∙_}
-use mathlib.Core.Bool.{Bool, true, false, _&&_, _||_, false≢true}
-use mathlib.Core.List.{List, [], _∷_}
+use mathlib.Core.Bool.{Bool, true, false, cond, _&&_, _||_, false≢true}
+use mathlib.Core.List.{List, [], _∷_, _++_, append-nil}
+use mathlib.Core.Option.{Option, none, some}
 use Prim.Native.Nat.{ℕ, zero, suc, _+_, _-_, _≤_, _<_}
 use native.Mathlib.Nat.{sub-zero}
 use native.Mathlib.Numerals.{add-one}
@@ -11,7 +13,9 @@ use native.Mathlib.Decide.{decLt}
 use native.Mathlib.Omega.{arith}
 use borrow.Author.Tests.{leb-true}
 use lib.Dec.{leb}
-use Rattle.lists.specs.Lists.{within, from, every, refusal, _if_}
+use lib.ListN.{length, getD}
+use lib.Seq.{getD-append-seam}
+use Rattle.lists.specs.Lists.{within, from, keep, every, any, total, first, refusal, _if_}
 
 pub and-left : (a b : Bool) → (a && b) ≡ true → a ≡ true
 and-left true b e = refl
@@ -70,6 +74,133 @@ module _ (f : ℕ → Bool) (q n : ℕ) (x : Bool) where
 
   pub every-end : n ≤ q → every f (from q (n - q)) ≡ x → true ≡ x
   every-end h inv = ap (every f) (sym (from-end q n h)) ∙ inv
+
+-- Such a loop against a definition over `from`, in the form "what the definition says of the positions still to come is the answer":
+-- position q decides it, or leaves it to the later ones; or there are no later ones.
+module _ (f : ℕ → Bool) (q n : ℕ) where
+  -- whether one passes
+  pub any-here : (x : Bool) → any f (from q (n - q)) ≡ x → q < n → f q ≡ true → true ≡ x
+  any-here x e h t =
+      let z : any f (from q (n - q)) ≡ true = rw (from-step q n h, t) in
+      sym z ∙ e
+
+  pub any-next : (x : Bool) → any f (from q (n - q)) ≡ x → q < n → f q ≡ false → any f (from (q + 1) (n - (q + 1))) ≡ x
+  any-next x e h t =
+      let z : any f (from q (n - q)) ≡ any f (from (q + 1) (n - (q + 1))) = rw (from-step q n h, t) in
+      sym z ∙ e
+
+  pub any-none : (x : Bool) → any f (from q (n - q)) ≡ x → n ≤ q → false ≡ x
+  any-none x e h = ap (any f) (sym (from-end q n h)) ∙ e
+
+  -- the first that passes
+  pub first-here : (x : Option ℕ) → first f (from q (n - q)) ≡ x → q < n → f q ≡ true → some q ≡ x
+  first-here x e h t =
+      let z : first f (from q (n - q)) ≡ some q = rw (from-step q n h, t) in
+      sym z ∙ e
+
+  pub first-next : (x : Option ℕ) → first f (from q (n - q)) ≡ x → q < n → f q ≡ false → first f (from (q + 1) (n - (q + 1))) ≡ x
+  first-next x e h t =
+      let z : first f (from q (n - q)) ≡ first f (from (q + 1) (n - (q + 1))) = rw (from-step q n h, t) in
+      sym z ∙ e
+
+  pub first-none : (x : Option ℕ) → first f (from q (n - q)) ≡ x → n ≤ q → none ≡ x
+  first-none x e h = ap (first f) (sym (from-end q n h)) ∙ e
+
+  -- those that pass
+  pub keep-here : q < n → f q ≡ true → keep f (from q (n - q)) ≡ q ∷ keep f (from (q + 1) (n - (q + 1)))
+  keep-here h t = rw (from-step q n h, t)
+
+  pub keep-next : q < n → f q ≡ false → keep f (from q (n - q)) ≡ keep f (from (q + 1) (n - (q + 1)))
+  keep-next h t = rw (from-step q n h, t)
+
+  pub keep-none : n ≤ q → keep f (from q (n - q)) ≡ []
+  keep-none h = ap (keep f) (from-end q n h)
+
+  -- the kth that passes: it is the one sought; it counts; it does not pass; there is none, and d stands for it
+  pub kth-here : (k d x : ℕ) → getD (keep f (from q (n - q))) k d ≡ x → q < n → f q ≡ true → k ≡ 0 → q ≡ x
+  kth-here k d x e h t z =
+      ap (λ (j : ℕ). getD (q ∷ keep f (from (q + 1) (n - (q + 1)))) j d) (sym z) ∙ ap (λ (l : List ℕ). getD l k d) (sym (keep-here h t)) ∙ e
+
+  pub kth-counts : (k d x : ℕ) → getD (keep f (from q (n - q))) k d ≡ x → q < n → f q ≡ true → (k ≡ 0 → ⊥)
+      → getD (keep f (from (q + 1) (n - (q + 1)))) (k - 1) d ≡ x
+  kth-counts k d x e h t z =
+      let j : k ≡ suc (k - 1) = omega arith in
+      sym (ap (λ (m : ℕ). getD (q ∷ keep f (from (q + 1) (n - (q + 1)))) m d) j) ∙ ap (λ (l : List ℕ). getD l k d) (sym (keep-here h t)) ∙ e
+
+  pub kth-next : (k d x : ℕ) → getD (keep f (from q (n - q))) k d ≡ x → q < n → f q ≡ false
+      → getD (keep f (from (q + 1) (n - (q + 1)))) k d ≡ x
+  kth-next k d x e h t = ap (λ (l : List ℕ). getD l k d) (sym (keep-next h t)) ∙ e
+
+  pub kth-none : (k d x : ℕ) → getD (keep f (from q (n - q))) k d ≡ x → n ≤ q → d ≡ x
+  kth-none k d x e h = ap (λ (l : List ℕ). getD l k d) (sym (keep-none h)) ∙ e
+
+  -- how many pass, and the sum of g over them: one step for a position that passes or not
+  pub length-keep-step : q < n → length (keep f (from q (n - q))) ≡ cond (f q) 1 0 + length (keep f (from (q + 1) (n - (q + 1))))
+  length-keep-step h = ap (λ (l : List ℕ). length (keep f l)) (from-step q n h) ∙ by-test (f q)
+    where
+      by-test : (b : Bool) → length (cond b (q ∷ keep f (from (q + 1) (n - (q + 1)))) (keep f (from (q + 1) (n - (q + 1)))))
+          ≡ cond b 1 0 + length (keep f (from (q + 1) (n - (q + 1))))
+      by-test true = omega arith
+      by-test false = omega arith
+
+  pub total-keep-step : (g : ℕ → ℕ) → q < n
+      → total g (keep f (from q (n - q))) ≡ cond (f q) (g q) 0 + total g (keep f (from (q + 1) (n - (q + 1))))
+  total-keep-step g h = ap (λ (l : List ℕ). total g (keep f l)) (from-step q n h) ∙ by-test (f q)
+    where
+      by-test : (b : Bool) → total g (cond b (q ∷ keep f (from (q + 1) (n - (q + 1)))) (keep f (from (q + 1) (n - (q + 1)))))
+          ≡ cond b (g q) 0 + total g (keep f (from (q + 1) (n - (q + 1))))
+      by-test true = refl
+      by-test false = omega arith
+
+-- A loop that builds as it goes, against what the positions passed so far say: one position more.
+pub from-snoc : (a q : ℕ) → a ≤ q → from a (q + 1 - a) ≡ from a (q - a) ++ (q ∷ [])
+from-snoc a q h =
+    let e : q + 1 - a ≡ suc (q - a) = omega arith in
+    let d : a + (q - a) ≡ q = omega arith in
+    ap (from a) e ∙ by-count (q - a) a ∙ ap (λ (p : ℕ). from a (q - a) ++ (p ∷ [])) d
+  where
+    by-count : (k a : ℕ) → from a (suc k) ≡ from a k ++ ((a + k) ∷ [])
+    by-count zero a = let e : a ≡ a + 0 = omega arith in ap (λ (p : ℕ). p ∷ []) e
+    by-count (suc k) a =
+        let e : suc a + k ≡ a + suc k = omega arith in
+        ap (λ (l : List ℕ). a ∷ l) (by-count k (suc a) ∙ ap (λ (p : ℕ). from (suc a) k ++ (p ∷ [])) e)
+
+keep-append : (f : ℕ → Bool) (xs ys : List ℕ) → keep f (xs ++ ys) ≡ keep f xs ++ keep f ys
+keep-append f [] ys = refl
+keep-append f (x ∷ xs) ys = by-test (f x) (keep-append f xs ys)
+  where
+    by-test : (b : Bool) → keep f (xs ++ ys) ≡ keep f xs ++ keep f ys
+        → cond b (x ∷ keep f (xs ++ ys)) (keep f (xs ++ ys)) ≡ cond b (x ∷ keep f xs) (keep f xs) ++ keep f ys
+    by-test true e = ap (λ (l : List ℕ). x ∷ l) e
+    by-test false e = e
+
+module _ (f : ℕ → Bool) (a q : ℕ) (h : a ≤ q) where
+  pub keep-snoc-here : f q ≡ true → keep f (from a (q + 1 - a)) ≡ keep f (from a (q - a)) ++ (q ∷ [])
+  keep-snoc-here t = ap (keep f) (from-snoc a q h) ∙ keep-append f (from a (q - a)) (q ∷ []) ∙ rw t
+
+  pub keep-snoc-next : f q ≡ false → keep f (from a (q + 1 - a)) ≡ keep f (from a (q - a))
+  keep-snoc-next t = ap (keep f) (from-snoc a q h) ∙ keep-append f (from a (q - a)) (q ∷ []) ∙ rw t (append-nil (keep f (from a (q - a))))
+
+  pub length-keep-le : length (keep f (from a (q - a))) ≤ q - a
+  length-keep-le = by-count (q - a) a
+    where
+      by-test : (b : Bool) (x : ℕ) (xs : List ℕ) (k : ℕ) → length xs ≤ k → length (cond b (x ∷ xs) xs) ≤ suc k
+      by-test true x xs k e = omega arith
+      by-test false x xs k e = omega arith
+
+      by-count : (k a : ℕ) → length (keep f (from a k)) ≤ k
+      by-count zero a = omega arith
+      by-count (suc k) a = by-test (f a) a (keep f (from (suc a) k)) k (by-count k (suc a))
+
+-- One element more: the new one at the end, and elsewhere what was there.
+pub getD-snoc-end : (xs : List ℕ) (x k d : ℕ) → k ≡ length xs → getD (xs ++ (x ∷ [])) k d ≡ x
+getD-snoc-end xs x k d e = rw e (getD-append-seam xs x [] d)
+
+pub getD-snoc-else : (xs : List ℕ) (x k d : ℕ) → (k ≡ length xs → ⊥) → getD (xs ++ (x ∷ [])) k d ≡ getD xs k d
+getD-snoc-else [] x zero d h = absurd (h refl)
+getD-snoc-else [] x (suc k) d h = refl
+getD-snoc-else (y ∷ xs) x zero d h = refl
+getD-snoc-else (y ∷ xs) x (suc k) d h = getD-snoc-else xs x k d (λ e. h (ap suc e))
 
 -- Each of the numbers from q on passes a test that every one of them passes.
 every-at : (f : ℕ → Bool) (q k i : ℕ) → every f (from q k) ≡ true → q ≤ i → i < q + k → f i ≡ true

@@ -1,0 +1,5 @@
+pub mod ReaderLaws
+pub mod RecordLaws
+pub mod ScanLaws
+pub mod ChecksLaws
+pub mod IndexLaws

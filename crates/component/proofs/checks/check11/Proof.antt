@@ -1,0 +1,45 @@
+-- `check11`: a record is tested only where it is a component.
+-- Assumes nothing.
+use Rattle.component.proofs.ChecksLaws.{fails11-other, fails11-component}
+use borrow.Author.Needs.{needs}
+use Rattle.component.proofs.checks.check11.Statement.{statement}
+use Rattle.component.proofs.checks.check11.Tie as tie
+
+record-at-requires : tie.Need-record-at-requires
+record-at-requires c κs = search needs
+
+form-of-requires : tie.Need-form-of-requires
+form-of-requires c κs = search needs
+
+-- no component
+returns : tie.Need-returns
+returns c = search (fails11-other)
+
+add-inputs-before : tie.Need-add-inputs-before
+add-inputs-before c = search needs
+
+inputs-before-requires : tie.Need-inputs-before-requires
+inputs-before-requires c κs = search needs
+
+add-outputs-before : tie.Need-add-outputs-before
+add-outputs-before c = search needs
+
+outputs-before-requires : tie.Need-outputs-before-requires
+outputs-before-requires c κs = search needs
+
+-- a component
+returns-2 : tie.Need-returns-2
+returns-2 c = search (fails11-component)
+
+pub check11-spec : {M : Type 1} → statement M
+check11-spec =
+    tie.close
+    (tie.spec
+    record-at-requires
+    form-of-requires
+    returns
+    add-inputs-before
+    inputs-before-requires
+    add-outputs-before
+    outputs-before-requires
+    returns-2)

@@ -1,0 +1,73 @@
+-- `check13`: the invariant: whether one of the records to come enters the input is the answer.
+-- Assumes nothing.
+use mathlib.Core.Path.{_≡_}
+use Prim.Native.Nat.{_-_}
+use Rattle.lists.specs.Lists.{from, any}
+use Rattle.component.specs.Record.{recordAt}
+use Rattle.component.specs.Index.{enteringAs}
+use Rattle.component.specs.Drawing.{fails13}
+use Rattle.component.proofs.ChecksLaws.{fails13-other, fails13-start}
+use Rattle.component.proofs.ScanLaws.{tested, scan-any-here, scan-any-next, scan-any-none}
+use borrow.Author.Needs.{needs}
+use Rattle.component.proofs.checks.check13.Statement.{statement}
+use Rattle.component.proofs.checks.check13.Tie as tie
+
+abbrev Inv-loop : tie.InvT-loop
+Inv-loop file n p here q₀ q = any (tested file (enteringAs here)) (from q (p - q)) ≡ fails13 (recordAt file) n p
+
+abbrev μ-loop : tie.MeasureT-loop
+μ-loop file n p here q₀ q = p - q
+
+record-at-requires : tie.Need-record-at-requires Inv-loop μ-loop
+record-at-requires c κs = search needs
+
+enters-requires : tie.Need-enters-requires Inv-loop μ-loop
+enters-requires c κs = search needs
+
+-- it enters no input
+returns : tie.Need-returns Inv-loop μ-loop
+returns c = search (fails13-other)
+
+loop-holds : tie.Need-loop-holds Inv-loop μ-loop
+loop-holds c = search (fails13-start)
+
+record-at-requires-2 : tie.Need-record-at-requires-2 Inv-loop μ-loop
+record-at-requires-2 c κs = search needs
+
+same-entry-requires : tie.Need-same-entry-requires Inv-loop μ-loop
+same-entry-requires c κs = search needs
+
+-- this one
+returns-2 : tie.Need-returns-2 Inv-loop μ-loop
+returns-2 c = search (scan-any-here (c .before .before .before .before .before .before .before .before .before .args .file .now) (enteringAs (c .before .before .before .before .before .before .before .record-at .result)))
+
+add-q : tie.Need-add-q Inv-loop μ-loop
+add-q c = search needs
+
+loop-less : tie.Need-loop-less Inv-loop μ-loop
+loop-less c = search needs
+
+loop-again : tie.Need-loop-again Inv-loop μ-loop
+loop-again c = search (scan-any-next (c .before .before .before .before .before .before .before .before .before .args .file .now) (enteringAs (c .before .before .before .before .before .before .before .record-at .result)))
+
+-- none
+returns-3 : tie.Need-returns-3 Inv-loop μ-loop
+returns-3 c = search (scan-any-none (c .before .before .before .before .before .before .args .file .now) (enteringAs (c .before .before .before .before .record-at .result)))
+
+pub check13-spec : {M : Type 1} → statement M
+check13-spec =
+    tie.close
+    (tie.spec
+    Inv-loop
+    μ-loop
+    record-at-requires
+    enters-requires
+    returns
+    loop-holds
+    record-at-requires-2
+    same-entry-requires
+    returns-2
+    add-q
+    loop-less
+    loop-again
+    returns-3)

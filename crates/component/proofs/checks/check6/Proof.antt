@@ -1,0 +1,42 @@
+-- `check6`: the tests stand in the order of the definition, and each decides it at its way out.
+-- Assumes nothing.
+use Rattle.component.proofs.ChecksLaws.{fails6-other, fails6-number, fails6-depth}
+use borrow.Author.Needs.{needs}
+use Rattle.component.proofs.checks.check6.Statement.{statement}
+use Rattle.component.proofs.checks.check6.Tie as tie
+
+record-at-requires : tie.Need-record-at-requires
+record-at-requires c κs = search needs
+
+form-of-requires : tie.Need-form-of-requires
+form-of-requires c κs = search needs
+
+-- no component
+returns : tie.Need-returns
+returns c = search (fails6-other)
+
+-- a number past 255
+returns-2 : tie.Need-returns-2
+returns-2 c = search (fails6-number)
+
+deepest-requires : tie.Need-deepest-requires
+deepest-requires c κs = search needs
+
+deeper-requires : tie.Need-deeper-requires
+deeper-requires c κs = search needs
+
+-- the depth decides
+returns-3 : tie.Need-returns-3
+returns-3 c = search (fails6-depth)
+
+pub check6-spec : {M : Type 1} → statement M
+check6-spec =
+    tie.close
+    (tie.spec
+    record-at-requires
+    form-of-requires
+    returns
+    returns-2
+    deepest-requires
+    deeper-requires
+    returns-3)

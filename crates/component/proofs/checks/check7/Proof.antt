@@ -1,0 +1,23 @@
+-- `check7`: a record is tested only where it is a component.
+-- Assumes nothing.
+use Rattle.component.proofs.ChecksLaws.{fails7-other, fails7-component}
+use borrow.Author.Needs.{needs}
+use Rattle.component.proofs.checks.check7.Statement.{statement}
+use Rattle.component.proofs.checks.check7.Tie as tie
+
+record-at-requires : tie.Need-record-at-requires
+record-at-requires c κs = search needs
+
+enum-known-fields : tie.Need-enum-known-fields
+enum-known-fields c = search needs
+
+-- no component
+returns : tie.Need-returns
+returns c = search (fails7-other)
+
+-- a component
+returns-2 : tie.Need-returns-2
+returns-2 c = search (fails7-component)
+
+pub check7-spec : {M : Type 1} → statement M
+check7-spec = tie.close (tie.spec record-at-requires enum-known-fields returns returns-2)

@@ -1,0 +1,62 @@
+-- `holds`: the invariant: what is asked of the present component, with the owners left, is the answer.
+-- Assumes nothing.
+use mathlib.Core.Path.{_≡_, refl}
+use borrow.Author.Needs.{needs}
+use Rattle.component.specs.Record.{recordAt}
+use Rattle.component.specs.Drawing.{holds}
+use Rattle.component.proofs.ChecksLaws.{holds-root, holds-owner, holds-outer, holds-none}
+use Rattle.component.proofs.checks.holds.Statement.{statement}
+use Rattle.component.proofs.checks.holds.Tie as tie
+
+abbrev Inv-loop : tie.InvT-loop
+Inv-loop file n f o q left₀ inner₀ left inner =
+    holds (recordAt file) n left o inner ≡ holds (recordAt file) n f o q
+
+abbrev μ-loop : tie.MeasureT-loop
+μ-loop file n f o q left₀ inner₀ left inner = left
+
+loop-holds : tie.Need-loop-holds Inv-loop μ-loop
+loop-holds c = refl
+
+-- the root
+returns : tie.Need-returns Inv-loop μ-loop
+returns c = search (holds-root (c .before .before .before .before .args .file .now))
+
+record-at-requires : tie.Need-record-at-requires Inv-loop μ-loop
+record-at-requires c κs = search needs
+
+owner-of-requires : tie.Need-owner-of-requires Inv-loop μ-loop
+owner-of-requires c κs = search needs
+
+-- its owner is the one asked for
+returns-2 : tie.Need-returns-2 Inv-loop μ-loop
+returns-2 c = search (holds-owner)
+
+sub-left : tie.Need-sub-left Inv-loop μ-loop
+sub-left c = search needs
+
+loop-less : tie.Need-loop-less Inv-loop μ-loop
+loop-less c = search needs
+
+loop-again : tie.Need-loop-again Inv-loop μ-loop
+loop-again c = search (holds-outer)
+
+-- no owner left to look at
+returns-3 : tie.Need-returns-3 Inv-loop μ-loop
+returns-3 c = search (holds-none (c .before .before .before .args .file .now))
+
+pub holds-spec : {M : Type 1} → statement M
+holds-spec =
+    tie.close
+    (tie.spec
+    Inv-loop
+    μ-loop
+    loop-holds
+    returns
+    record-at-requires
+    owner-of-requires
+    returns-2
+    sub-left
+    loop-less
+    loop-again
+    returns-3)

@@ -1,0 +1,163 @@
+// An index of the records: where child k of a component stands, and output map i of a composite, and between which records its
+// input maps stand. Rule: docs/SPECIFICATION.md, "The drawing file". The tables are filled in one pass each, for the first 256
+// owners; past them the records are searched one by one.
+// Only crate flatten calls these functions, with the number of records for n.
+ghost use mathlib.Core.Path.{_≡_};
+ghost use Prim.Native.Nat.{ℕ, _*_, _≤_, _<_};
+ghost use lib.ListN.{length, getD};
+ghost use Rattle.component.specs.Record.{recordAt};
+ghost use Rattle.component.specs.Index.{ownedAs, nthOwned, putWord, putCount, widenLow, widenHigh, IsTable, IsRange};
+ghost use Rattle.component.specs.Drawing.{child, outMap};
+use crate::ChildNo;
+use crate::Record;
+use crate::fields::form_of;
+use crate::fields::owner_of;
+use crate::reader::record_at;
+
+// Whether a record is of a kind and of an owner.
+pub fn is_owned(r: Record, form: u8, o: usize) -> bool
+    ensures { λ x. ⌜ x ≡ ownedAs form o r ⌝ }
+{
+    (form_of(r) == form) & (owner_of(r) == o)
+}
+
+// The kth record of a kind and an owner, from position `first` on; n where there is none.
+fn nth_owned(file: &[u8], n: usize, form: u8, first: usize, o: usize, k: usize) -> usize
+    ensures { λ r. ⌜ r ≡ nthOwned (now (file .entry)) n form first o k ⌝ }
+{
+    let mut left = k;
+    let mut q = first;
+    while q < n {
+        if is_owned(record_at(file, q), form, o) {
+            if left == 0 {
+                return q;
+            }
+            left -= 1;
+        }
+        q += 1;
+    }
+    n
+}
+
+// Writes x into every word of a table.
+fn clear(table: &mut [u16], x: u16)
+    ensures { λ _. ⌜ (length (now (table .exit)) ≡ length (now (table .entry))) × ((i : ℕ) → i < length (now (table .exit)) → getD (now (table .exit)) i 0 ≡ x) ⌝ }
+{
+    let mut i: usize = 0;
+    while i < table.len() {
+        table[i] = x;
+        i += 1;
+    }
+}
+
+// Puts a record of the kind into the table as the next of its owner, where the table has a place for it, and counts it.
+fn put(table: &mut [u16], counts: &mut [u16; 256], w: usize, form: u8, r: Record, q: u16)
+    requires { ⌜ (length (now table) ≡ 256 * w) × (w ≤ 256) × ((o : ℕ) → getD (now counts) o 0 ≤ 1024) ⌝ }
+    ensures { λ _. ⌜ now (table .exit) ≡ putWord w form r q (now (counts .entry)) (now (table .entry)) ⌝ }
+    ensures { λ _. ⌜ now (counts .exit) ≡ putCount form r (now (counts .entry)) ⌝ }
+{
+    let o = owner_of(r);
+    if form_of(r) != form {
+        return;
+    }
+    if 256 <= o {
+        return;
+    }
+    let k = counts[o];
+    counts[o] = k + 1;
+    let at = k as usize;
+    if at < w {
+        table[w * o + at] = q;
+    }
+}
+
+// Fills a table with the records of a kind from position `first` on, w words for each owner.
+fn fill(file: &[u8], n: usize, form: u8, first: usize, w: usize, table: &mut [u16])
+    requires { ⌜ (n ≤ 1024) × (w ≤ 256) × (length (now table) ≡ 256 * w) ⌝ }
+    ensures { λ _. ⌜ IsTable w (nthOwned (now (file .entry)) n form first) (now (table .exit)) ⌝ }
+{
+    clear(table, n as u16);
+    let mut counts = [0u16; 256];
+    let mut q = first;
+    while q < n {
+        put(table, &mut counts, w, form, record_at(file, q), q as u16);
+        q += 1;
+    }
+}
+
+// Fills the table of children: word 256 * o + k is child k of owner o.
+pub fn index_children(file: &[u8], n: usize, children: &mut [u16])
+    requires { ⌜ (n ≤ 1024) × (length (now children) ≡ 65536) ⌝ }
+    ensures { λ _. ⌜ IsTable 256 (child (recordAt (now (file .entry))) n) (now (children .exit)) ⌝ }
+{
+    fill(file, n, 1, 1, 256, children);
+}
+
+// Fills the table of output maps: word 64 * c + i is the record that maps output i of composite c.
+pub fn index_outs(file: &[u8], n: usize, outs: &mut [u16])
+    requires { ⌜ (n ≤ 1024) × (length (now outs) ≡ 16384) ⌝ }
+    ensures { λ _. ⌜ IsTable 64 (outMap (recordAt (now (file .entry))) n) (now (outs .exit)) ⌝ }
+{
+    fill(file, n, 4, 0, 64, outs);
+}
+
+// Child k of owner o; n where there is none.
+pub fn child_of(file: &[u8], n: usize, children: &[u16], o: usize, k: ChildNo) -> usize
+    requires { ⌜ IsTable 256 (child (recordAt (now file)) n) (now children) ⌝ }
+    ensures { λ r. ⌜ r ≡ child (recordAt (now (file .entry))) n o (k .0) ⌝ }
+{
+    let at = k.0 as usize;
+    if o < 256 {
+        if at < 256 {
+            return children[256 * o + at] as usize;
+        }
+    }
+    nth_owned(file, n, 1, 1, o, at)
+}
+
+// The record that maps output i of composite c; n where there is none.
+pub fn out_map_of(file: &[u8], n: usize, outs: &[u16], c: usize, i: u16) -> usize
+    requires { ⌜ IsTable 64 (outMap (recordAt (now file)) n) (now outs) ⌝ }
+    ensures { λ r. ⌜ r ≡ outMap (recordAt (now (file .entry))) n c i ⌝ }
+{
+    let at = i as usize;
+    if c < 256 {
+        if at < 64 {
+            return outs[64 * c + at] as usize;
+        }
+    }
+    nth_owned(file, n, 4, 0, c, at)
+}
+
+// Widens the range of an input map's owner to its position.
+fn widen(lo: &mut [u16], hi: &mut [u16], r: Record, q: u16)
+    requires { ⌜ (length (now lo) ≡ 256) × (length (now hi) ≡ 256) × (q < 1024) ⌝ }
+    ensures { λ _. ⌜ now (lo .exit) ≡ widenLow r q (now (lo .entry)) ⌝ }
+    ensures { λ _. ⌜ now (hi .exit) ≡ widenHigh r q (now (hi .entry)) ⌝ }
+{
+    let c = owner_of(r);
+    if form_of(r) != 3 {
+        return;
+    }
+    if 256 <= c {
+        return;
+    }
+    hi[c] = q + 1;
+    if q < lo[c] {
+        lo[c] = q;
+    }
+}
+
+// Fills the ranges of input maps: those of composite c stand from lo[c] to before hi[c].
+pub fn index_ranges(file: &[u8], n: usize, lo: &mut [u16], hi: &mut [u16])
+    requires { ⌜ (n ≤ 1024) × (length (now lo) ≡ 256) × (length (now hi) ≡ 256) ⌝ }
+    ensures { λ _. ⌜ IsRange (now (file .entry)) n (now (lo .exit)) (now (hi .exit)) ⌝ }
+{
+    clear(lo, n as u16);
+    clear(hi, 0);
+    let mut q: usize = 0;
+    while q < n {
+        widen(lo, hi, record_at(file, q), q as u16);
+        q += 1;
+    }
+}
