@@ -51,3 +51,18 @@ pub fn put_numbers(out: &mut [u8], at: usize, numbers: &[u64]) -> usize {
     }
     next
 }
+
+// The same of numbers of 16 bits.
+pub fn put_shorts(out: &mut [u8], at: usize, numbers: &[u16]) -> usize {
+    let mut next = at;
+    let mut i: usize = 0;
+    while i < numbers.len() {
+        next = put_number(out, next, wide(numbers[i]));
+        i += 1;
+    }
+    next
+}
+
+fn wide(short: u16) -> u64 {
+    short as u64
+}
