@@ -5,12 +5,11 @@ mod rows;
 mod sizes;
 mod words;
 
-use primitive::Refusal;
-
 pub use named::append_new;
 pub use named::contains;
 pub use named::copy;
 pub use named::strike;
+use primitive::Refusal;
 pub use rows::fields_at;
 pub use rows::fields_fit;
 pub use sizes::full_size;

@@ -8,11 +8,7 @@ ghost use Rattle.tables.specs.Tables.{wordIn};
 pub fn word(table: &[u64], at: usize) -> u64
     ensures { λ r. ⌜ r ≡ getD (now (table .entry)) at 0 ⌝ }
 {
-    if at < table.len() {
-        table[at]
-    } else {
-        0
-    }
+    if at < table.len() { table[at] } else { 0 }
 }
 
 // A word of a table of 16-bit numbers: a component's index, or a port.
