@@ -2,11 +2,12 @@ use mathlib.Core.Path.{_≡_}
 use Prim.Native.Nat.{_≤_, _-_}
 use lib.ListN.{length}
 use borrow.Author.Needs.{needs}
-use Rattle.trace.proofs.output.put_numbers.Statement.{statement}
-use Rattle.trace.proofs.output.put_numbers.Tie as tie
-use Rattle.trace.proofs.output.put_numbers.Reads as reads
-use Rattle.trace.proofs.output.put_numbers.Lts as lts
-use Rattle.trace.proofs.output.put_number.Reads as put-number-reads
+use Rattle.text.proofs.put_numbers.Statement.{statement}
+use Rattle.text.proofs.put_numbers.Tie as tie
+use Rattle.text.proofs.put_numbers.Reads as reads
+use Rattle.text.proofs.put_numbers.Lts as lts
+use Rattle.text.proofs.put.Reads as put-reads
+use Rattle.text.proofs.put_number.Reads as put-number-reads
 
 abbrev Inv-loop : tie.InvT-loop
 Inv-loop out₀ at numbers next₀ i₀ out next i = (i ≤ length numbers) × (length out ≡ length out₀)
@@ -16,6 +17,9 @@ abbrev μ-loop : tie.MeasureT-loop
 
 loop-holds : tie.Need-loop-holds Inv-loop μ-loop
 loop-holds c = search needs
+
+put-requires : tie.Need-put-requires Inv-loop μ-loop
+put-requires c κs = search needs
 
 mul-put-number : tie.Need-mul-put-number Inv-loop μ-loop
 mul-put-number c = search needs
@@ -48,6 +52,7 @@ put-numbers-spec =
     Inv-loop
     μ-loop
     loop-holds
+    put-requires
     mul-put-number
     shared-slice-read-put-number
     put-number-requires

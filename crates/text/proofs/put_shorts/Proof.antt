@@ -2,12 +2,13 @@ use mathlib.Core.Path.{_≡_}
 use Prim.Native.Nat.{_≤_, _-_}
 use lib.ListN.{length}
 use borrow.Author.Needs.{needs}
-use Rattle.trace.proofs.output.put_shorts.Statement.{statement}
-use Rattle.trace.proofs.output.put_shorts.Tie as tie
-use Rattle.trace.proofs.output.put_shorts.Reads as reads
-use Rattle.trace.proofs.output.put_shorts.Lts as lts
-use Rattle.trace.proofs.output.put_number.Reads as put-number-reads
-use Rattle.trace.proofs.output.wide.Reads as wide-reads
+use Rattle.text.proofs.put_shorts.Statement.{statement}
+use Rattle.text.proofs.put_shorts.Tie as tie
+use Rattle.text.proofs.put_shorts.Reads as reads
+use Rattle.text.proofs.put_shorts.Lts as lts
+use Rattle.text.proofs.put.Reads as put-reads
+use Rattle.text.proofs.put_number.Reads as put-number-reads
+use Rattle.text.proofs.wide.Reads as wide-reads
 
 abbrev Inv-loop : tie.InvT-loop
 Inv-loop out₀ at numbers next₀ i₀ out next i = (i ≤ length numbers) × (length out ≡ length out₀)
@@ -17,6 +18,9 @@ abbrev μ-loop : tie.MeasureT-loop
 
 loop-holds : tie.Need-loop-holds Inv-loop μ-loop
 loop-holds c = search needs
+
+put-requires : tie.Need-put-requires Inv-loop μ-loop
+put-requires c κs = search needs
 
 mul-wide : tie.Need-mul-wide Inv-loop μ-loop
 mul-wide c = search needs
@@ -52,6 +56,7 @@ put-shorts-spec =
     Inv-loop
     μ-loop
     loop-holds
+    put-requires
     mul-wide
     shared-slice-read-wide
     wide-requires

@@ -1,10 +1,10 @@
 use mathlib.Core.Path.{sym}
 use lib.Seq.{length-take-le}
 use borrow.Author.Needs.{needs}
-use Rattle.trace.proofs.output.flush.Statement.{statement}
-use Rattle.trace.proofs.output.flush.Tie as tie
-use Rattle.trace.proofs.output.flush.Reads as reads
-use Rattle.trace.proofs.output.flush.Lts as lts
+use Rattle.text.proofs.flush.Statement.{statement}
+use Rattle.text.proofs.flush.Tie as tie
+use Rattle.text.proofs.flush.Reads as reads
+use Rattle.text.proofs.flush.Lts as lts
 use Rattle.io.proofs.write_all.Reads as write-all-reads
 
 slice-aggregate-write-all : tie.Need-slice-aggregate-write-all
