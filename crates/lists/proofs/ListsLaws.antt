@@ -1,5 +1,6 @@
--- Laws of the words of specs/Lists.antt: a test of two parts; loops over positions against `from`, by what they look for: whether
--- one passes, the first that passes, the kth that passes, how many pass, the sum over those that pass; and `every`.
+-- Laws of the words of specs/Lists.antt: a test of two parts; loops over positions against `from`, by what they look
+-- for: whether one passes, the first that passes, the kth that passes, how many pass, the sum over those that pass; and
+-- `every`.
 -- Not here: laws of length, getD, take, drop and _++_ (lib.ListN, lib.Seq).
 -- Assumes nothing.
 use mathlib.Core.Path.{_≡_, refl, sym, ap, _∙_}
@@ -42,8 +43,8 @@ from-end q n h =
     let e : n - q ≡ 0 = omega arith in
     ap (λ (k : ℕ). from q k) e
 
--- Such a loop against a definition over `from`, in the form "what the definition says of the positions still to come is the answer":
--- position q decides it, or leaves it to the later ones; or there are no later ones.
+-- Such a loop against a definition over `from`, in the form "what the definition says of the positions still to come is
+-- the answer": position q decides it, or leaves it to the later ones; or there are no later ones.
 module _ (f : ℕ → Bool) (q n : ℕ) where
   -- whether one passes
   pub any-here : (x : Bool) → any f (from q (n - q)) ≡ x → q < n → f q ≡ true → true ≡ x
@@ -65,7 +66,8 @@ module _ (f : ℕ → Bool) (q n : ℕ) where
       let z : first f (from q (n - q)) ≡ some q = rw (from-step q n h, t) in
       sym z ∙ e
 
-  pub first-next : (x : Option ℕ) → first f (from q (n - q)) ≡ x → q < n → f q ≡ false → first f (from (q + 1) (n - (q + 1))) ≡ x
+  pub first-next : (x : Option ℕ) → first f (from q (n - q)) ≡ x → q < n → f q ≡ false
+      → first f (from (q + 1) (n - (q + 1))) ≡ x
   first-next x e h t =
       let z : first f (from q (n - q)) ≡ first f (from (q + 1) (n - (q + 1))) = rw (from-step q n h, t) in
       sym z ∙ e
@@ -86,13 +88,15 @@ module _ (f : ℕ → Bool) (q n : ℕ) where
   -- the kth that passes: it is the one sought; it counts; it does not pass; there is none, and d stands for it
   pub kth-here : (k d x : ℕ) → getD (keep f (from q (n - q))) k d ≡ x → q < n → f q ≡ true → k ≡ 0 → q ≡ x
   kth-here k d x e h t z =
-      ap (λ (j : ℕ). getD (q ∷ keep f (from (q + 1) (n - (q + 1)))) j d) (sym z) ∙ ap (λ (l : List ℕ). getD l k d) (sym (keep-here h t)) ∙ e
+      ap (λ (j : ℕ). getD (q ∷ keep f (from (q + 1) (n - (q + 1)))) j d) (sym z)
+      ∙ ap (λ (l : List ℕ). getD l k d) (sym (keep-here h t)) ∙ e
 
   pub kth-counts : (k d x : ℕ) → getD (keep f (from q (n - q))) k d ≡ x → q < n → f q ≡ true → (k ≡ 0 → ⊥)
       → getD (keep f (from (q + 1) (n - (q + 1)))) (k - 1) d ≡ x
   kth-counts k d x e h t z =
       let j : k ≡ suc (k - 1) = omega arith in
-      sym (ap (λ (m : ℕ). getD (q ∷ keep f (from (q + 1) (n - (q + 1)))) m d) j) ∙ ap (λ (l : List ℕ). getD l k d) (sym (keep-here h t)) ∙ e
+      sym (ap (λ (m : ℕ). getD (q ∷ keep f (from (q + 1) (n - (q + 1)))) m d) j)
+      ∙ ap (λ (l : List ℕ). getD l k d) (sym (keep-here h t)) ∙ e
 
   pub kth-next : (k d x : ℕ) → getD (keep f (from q (n - q))) k d ≡ x → q < n → f q ≡ false
       → getD (keep f (from (q + 1) (n - (q + 1)))) k d ≡ x
@@ -102,10 +106,12 @@ module _ (f : ℕ → Bool) (q n : ℕ) where
   kth-none k d x e h = ap (λ (l : List ℕ). getD l k d) (sym (keep-none h)) ∙ e
 
   -- how many pass, and the sum of g over them: one step for a position that passes or not
-  pub length-keep-step : q < n → length (keep f (from q (n - q))) ≡ cond (f q) 1 0 + length (keep f (from (q + 1) (n - (q + 1))))
+  pub length-keep-step : q < n
+      → length (keep f (from q (n - q))) ≡ cond (f q) 1 0 + length (keep f (from (q + 1) (n - (q + 1))))
   length-keep-step h = ap (λ (l : List ℕ). length (keep f l)) (from-step q n h) ∙ by-test (f q)
     where
-      by-test : (b : Bool) → length (cond b (q ∷ keep f (from (q + 1) (n - (q + 1)))) (keep f (from (q + 1) (n - (q + 1)))))
+      by-test : (b : Bool)
+          → length (cond b (q ∷ keep f (from (q + 1) (n - (q + 1)))) (keep f (from (q + 1) (n - (q + 1)))))
           ≡ cond b 1 0 + length (keep f (from (q + 1) (n - (q + 1))))
       by-test true = omega arith
       by-test false = omega arith
@@ -114,7 +120,8 @@ module _ (f : ℕ → Bool) (q n : ℕ) where
       → total g (keep f (from q (n - q))) ≡ cond (f q) (g q) 0 + total g (keep f (from (q + 1) (n - (q + 1))))
   total-keep-step g h = ap (λ (l : List ℕ). total g (keep f l)) (from-step q n h) ∙ by-test (f q)
     where
-      by-test : (b : Bool) → total g (cond b (q ∷ keep f (from (q + 1) (n - (q + 1)))) (keep f (from (q + 1) (n - (q + 1)))))
+      by-test : (b : Bool)
+          → total g (cond b (q ∷ keep f (from (q + 1) (n - (q + 1)))) (keep f (from (q + 1) (n - (q + 1)))))
           ≡ cond b (g q) 0 + total g (keep f (from (q + 1) (n - (q + 1))))
       by-test true = refl
       by-test false = omega arith
@@ -146,7 +153,9 @@ module _ (f : ℕ → Bool) (a q : ℕ) (h : a ≤ q) where
   keep-snoc-here t = ap (keep f) (from-snoc a q h) ∙ keep-append f (from a (q - a)) (q ∷ []) ∙ rw t
 
   pub keep-snoc-next : f q ≡ false → keep f (from a (q + 1 - a)) ≡ keep f (from a (q - a))
-  keep-snoc-next t = ap (keep f) (from-snoc a q h) ∙ keep-append f (from a (q - a)) (q ∷ []) ∙ rw t (append-nil (keep f (from a (q - a))))
+  keep-snoc-next t =
+      ap (keep f) (from-snoc a q h) ∙ keep-append f (from a (q - a)) (q ∷ [])
+      ∙ rw t (append-nil (keep f (from a (q - a))))
 
   pub length-keep-le : length (keep f (from a (q - a))) ≤ q - a
   length-keep-le = by-count (q - a) a
@@ -173,7 +182,8 @@ getD-snoc-else (y ∷ xs) x (suc k) d h = getD-snoc-else xs x k d (λ e. h (ap s
 every-at : (f : ℕ → Bool) (q k i : ℕ) → every f (from q k) ≡ true → q ≤ i → i < q + k → f i ≡ true
 every-at f q zero i e h l = absurd (omega arith)
 every-at f q (suc k) i e h l =
-    by-place (decLt q i) (λ (g : q < i). every-at f (suc q) k i (and-right (f q) (every f (from (suc q) k)) e) g (omega arith))
+    by-place (decLt q i)
+    (λ (g : q < i). every-at f (suc q) k i (and-right (f q) (every f (from (suc q) k)) e) g (omega arith))
   where
     by-place : Dec (q < i) → (q < i → f i ≡ true) → f i ≡ true
     by-place (yes g) later = later g
