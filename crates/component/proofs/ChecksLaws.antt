@@ -8,13 +8,13 @@ use Prim.Native.Nat.{ℕ, zero, suc, _+_, _-_, _<_, _≤_}
 use native.Mathlib.Nat.{sub-zero}
 use native.Mathlib.Numerals.{add-one}
 use native.Mathlib.Omega.{arith}
-use borrow.Author.Tests.{eq-eqb, ne-eqb, lt-ltb, le-ltb, le-leb, lt-leb, not-true, not-false}
+use borrow.Author.Tests.{eq-eqb, ne-eqb, le-leb, lt-leb, not-true, not-false}
 use lib.Dec.{eqb, leb, ltb}
 use lib.ListN.{length}
 use types.Run.{OneOf}
 use Rattle.lists.specs.Lists.{from, any}
 use denote.Enum.Declared.{tagOf}
-use Rattle.primitive.specs.Kinds.{kept, unknown, obeys}
+use Rattle.primitive.specs.Kinds.{obeys}
 use Rattle.primitive.specs.declared.table.Fields.{Fields}
 use Rattle.component.specs.declared.ChildNo.{ChildNo}
 use Rattle.component.specs.declared.Id.{Id}

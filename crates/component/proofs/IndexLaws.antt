@@ -5,10 +5,8 @@
 use mathlib.Core.Path.{_≡_, refl, sym, ap, _∙_}
 use mathlib.Core.Bool.{Bool, true, false, cond, _&&_, false≢true}
 use mathlib.Core.List.{List, [], _∷_, _++_}
-use mathlib.Core.Logic.{_⊎_, inl, inr, ⊎-elim}
-use Prim.Native.Nat.{ℕ, zero, suc, _+_, _-_, _*_, _≤_, _<_}
+use Prim.Native.Nat.{ℕ, _+_, _-_, _*_, _≤_, _<_}
 use native.Mathlib.Nat.{sub-zero, mul-suc, mul-comm, mul-le-mul-left}
-use native.Mathlib.Numerals.{add-one}
 use native.Mathlib.Decide.{decLt}
 use native.Mathlib.Omega.{arith}
 use borrow.Author.Tests.{eq-eqb, ne-eqb, lt-ltb, le-ltb, eqb-true, eqb-false, ltb-true, ltb-false}
@@ -21,7 +19,7 @@ use Rattle.lists.proofs.ListsLaws.{getD-snoc-else}
 use Rattle.component.specs.declared.Record.{Record}
 use Rattle.component.specs.Record.{recordAt, formOf, ownerOf}
 use Rattle.component.specs.Index.{ownedAs, nthOwned, putWord, putCount, widenLow, widenHigh, IsTable, IsRange}
-use Rattle.component.specs.Drawing.{child, outMap}
+use Rattle.component.specs.Drawing.{outMap}
 use Rattle.component.proofs.ScanLaws.{tested}
 
 -- One word more of a table is x.

@@ -10,7 +10,7 @@ use lib.ListN.{length, getD, take, drop}
 use Rattle.component.specs.declared.Record.{Record}
 use Rattle.component.specs.declared.Record.the-variants.{Component, Connection, InputMap, OutputMap, Refused}
 use Rattle.component.specs.Record.{le16, le32, le64, componentIn, connectionIn, inputMapIn, outputMapIn, lineIn}
-use Rattle.component.specs.Record.{readRecord, recordCount, recordAt}
+use Rattle.component.specs.Record.{readRecord, recordAt}
 
 module _ (s : List ℕ) where
   -- kind 1: D is not 0; D is 0

@@ -8,7 +8,6 @@ use mathlib.Core.Bool.{Bool, true, false, cond, _&&_, false≢true}
 use mathlib.Core.List.{List, [], _∷_, _++_, append-nil}
 use mathlib.Core.Option.{Option, none, some}
 use Prim.Native.Nat.{ℕ, zero, suc, _+_, _-_, _≤_, _<_}
-use native.Mathlib.Nat.{sub-zero}
 use native.Mathlib.Numerals.{add-one}
 use native.Mathlib.Decide.{decLt}
 use native.Mathlib.Omega.{arith}
@@ -16,7 +15,7 @@ use borrow.Author.Tests.{leb-true}
 use lib.Dec.{leb}
 use lib.ListN.{length, getD}
 use lib.Seq.{getD-append-seam}
-use Rattle.lists.specs.Lists.{within, from, keep, every, any, total, first}
+use Rattle.lists.specs.Lists.{within, from, keep, every, any, total, joined, first}
 
 pub and-left : (a b : Bool) → (a && b) ≡ true → a ≡ true
 and-left true b e = refl
@@ -125,6 +124,23 @@ module _ (f : ℕ → Bool) (q n : ℕ) where
           ≡ cond b (g q) 0 + total g (keep f (from (q + 1) (n - (q + 1))))
       by-test true = refl
       by-test false = omega arith
+
+-- What each position gives, one after the other: one position; positions that give nothing, as those outside a range.
+module _ {B : Type 0} (f : ℕ → List B) where
+  pub joined-step : (q n : ℕ) → q < n → joined f (from q (n - q)) ≡ f q ++ joined f (from (q + 1) (n - (q + 1)))
+  joined-step q n h = rw (from-step q n h)
+
+  pub joined-skip : (a b n : ℕ) → a ≤ b → b ≤ n → ((q : ℕ) → a ≤ q → q < b → f q ≡ [])
+      → joined f (from a (n - a)) ≡ joined f (from b (n - b))
+  joined-skip a b n h g e = by-count (b - a) a (omega arith) (λ q l k. e q l k)
+    where
+      by-count : (k a : ℕ) → a + k ≡ b → ((q : ℕ) → a ≤ q → q < b → f q ≡ [])
+          → joined f (from a (n - a)) ≡ joined f (from b (n - b))
+      by-count zero a z e = let y : a ≡ b = omega arith in ap (λ (m : ℕ). joined f (from m (n - m))) y
+      by-count (suc k) a z e =
+          joined-step a n (omega arith)
+          ∙ ap (λ (l : List B). l ++ joined f (from (a + 1) (n - (a + 1)))) (e a (omega arith) (omega arith))
+          ∙ by-count k (a + 1) (omega arith) (λ q l m. e q (omega arith) m)
 
 -- A loop that builds as it goes, against what the positions passed so far say: one position more.
 pub from-snoc : (a q : ℕ) → a ≤ q → from a (q + 1 - a) ≡ from a (q - a) ++ (q ∷ [])

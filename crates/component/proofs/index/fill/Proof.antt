@@ -1,9 +1,9 @@
 -- `fill`: the invariant is `Filling`: the table and the counts say what the records passed so far say.
 -- Assumes nothing.
 use lib.ListN.{replicate, getD-replicate}
-use mathlib.Core.Path.{_≡_, refl, sym, _∙_}
+use mathlib.Core.Path.{refl, sym, _∙_}
 use borrow.Author.Needs.{needs}
-use Prim.Native.Nat.{ℕ, _-_}
+use Prim.Native.Nat.{_-_}
 use native.Mathlib.Omega.{arith}
 use Rattle.component.proofs.IndexLaws.{Filling, filling-start, filling-counts, filling-step, filling-end}
 use Rattle.component.proofs.index.fill.Statement.{statement}

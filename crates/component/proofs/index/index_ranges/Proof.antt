@@ -1,7 +1,7 @@
 -- `index_ranges`: the invariant is `Widening`: the ranges hold the input maps passed so far.
 -- Assumes nothing.
 use mathlib.Core.Path.{sym, _∙_}
-use Prim.Native.Nat.{ℕ, _-_}
+use Prim.Native.Nat.{_-_}
 use native.Mathlib.Omega.{arith}
 use Rattle.component.proofs.IndexLaws.{Widening, widening-start, widening-step, widening-end}
 use borrow.Author.Needs.{needs}
