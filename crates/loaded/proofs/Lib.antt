@@ -1,0 +1,4 @@
+pub mod Entries
+pub mod Starting
+pub mod Ports
+pub mod Sizes
