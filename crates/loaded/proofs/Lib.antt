@@ -6,3 +6,6 @@ pub mod ComponentClauses
 pub mod WireClauses
 pub mod Bytes
 pub mod Net
+pub mod SameNet
+pub mod Drawn
+pub mod Theorems

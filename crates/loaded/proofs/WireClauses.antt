@@ -9,14 +9,14 @@ use native.Mathlib.Omega.{arith}
 use borrow.Author.Tests.{lt-ltb, eq-eqb}
 use lib.ListN.{length}
 use lib.Dec.{eqb, ltb}
-use Rattle.lists.specs.Lists.{from, keep, every, distinct}
+use Rattle.lists.specs.Lists.{from, keep, every, total, distinct}
 use Rattle.lists.proofs.MembersLaws.{In, Distinct, every-complete, map-sound, keep-sound, from0-sound, distinct-from, distinct-keep, distinct-map, distinct-complete}
 use Rattle.primitive.specs.declared.kinds.Kind.the-variants.{Clock, Const}
 use Rattle.primitive.specs.declared.table.Fields.{Fields}
 use Rattle.primitive.specs.Kinds.{is, inputWidth, outputWidth}
 use Rattle.component.specs.declared.Record.{Record}
 use Rattle.component.specs.Record.{fieldsOf, inputsOf, outputsOf, isPrimitive}
-use Rattle.component.specs.Drawing.{inputsBefore}
+use Rattle.component.specs.Drawing.{primitivesBefore, inputsBefore}
 use Rattle.flatten.specs.declared.Pin.{Pin}
 use Rattle.flatten.specs.declared.Wire.{Wire}
 use Rattle.flatten.specs.Descent.{pin, wires, flat, flatPin, flatWires}
@@ -31,16 +31,19 @@ use Rattle.net.specs.Net.{isOutput, isInput, wiresFit, inputsOnce, names}
 use Rattle.loaded.proofs.Entries.{loaded-wires, loaded-fields, loaded-firstInput}
 use Rattle.loaded.proofs.Sizes.{loaded-current, loaded-following, loaded-standing}
 
--- Two inputs of primitives that have one place among all inputs are one.
-pub place-inj : (at : ℕ → Record) (n : ℕ) (s t : Pin) → IsInput at s → IsInput at t
-    → inputsBefore at n (s .comp) + s .port ≡ inputsBefore at n (t .comp) + t .port → s ≡ t
-place-inj at n s t i j e =
-    let below : s .comp < t .comp → ⊥ =
-    λ u. omega (arith, portsBefore-within at n inputsOf (s .comp) (t .comp) (i .of-primitive) u, i .there) in
-    let above : t .comp < s .comp → ⊥ =
-    λ u. omega (arith, portsBefore-within at n inputsOf (t .comp) (s .comp) (j .of-primitive) u, j .there) in
+-- Ports of primitives, f being `inputsOf` or `outputsOf`: two that have one place among all are one.
+pub place-inj : (at : ℕ → Record) (n : ℕ) (f : Record → ℕ) (s t : Pin)
+    → isPrimitive (at (s .comp)) ≡ true → isPrimitive (at (t .comp)) ≡ true
+    → s .port < f (at (s .comp)) → t .port < f (at (t .comp))
+    → total (λ q. f (at q)) (primitivesBefore at n (s .comp)) + s .port
+    ≡ total (λ q. f (at q)) (primitivesBefore at n (t .comp)) + t .port
+    → s ≡ t
+place-inj at n f s t i j h l e =
+    let below : s .comp < t .comp → ⊥ = λ u. omega (arith, portsBefore-within at n f (s .comp) (t .comp) i u) in
+    let above : t .comp < s .comp → ⊥ = λ u. omega (arith, portsBefore-within at n f (t .comp) (s .comp) j u) in
     let c : s .comp ≡ t .comp = omega arith in
-    let p : s .port ≡ t .port = omega (arith, ap (inputsBefore at n) c) in
+    let p : s .port ≡ t .port =
+    omega (arith, ap (λ (x : ℕ). total (λ q. f (at q)) (primitivesBefore at n x)) c) in
     λ k. pin (c k) (p k)
 
 -- A list that names only components below the count, none twice, is one that a net may have.
@@ -123,7 +126,9 @@ module _ (at : ℕ → Record) (n : ℕ) (d : Passed at n) (T : Tables) where
           let y = entered-input t v in
           let at-x = ap (inputPlace L) (x .2) ∙ loaded-inputPlace (x .0) (x .1 .of-primitive) in
           let at-y = ap (inputPlace L) (y .2) ∙ loaded-inputPlace (y .0) (y .1 .of-primitive) in
-          x .2 ∙ ap (flatPin at n) (place-inj at n (x .0) (y .0) (x .1) (y .1) (sym at-x ∙ e ∙ at-y)) ∙ sym (y .2)
+          let one = place-inj at n inputsOf (x .0) (y .0) (x .1 .of-primitive) (y .1 .of-primitive) (x .1 .there) (y .1 .there)
+          (sym at-x ∙ e ∙ at-y) in
+          x .2 ∙ ap (flatPin at n) one ∙ sym (y .2)
 
   -- Each list names existing components without repeats: the current list,
   pub loaded-names-current : names (loaded at n T) (currentList (loaded at n T)) ≡ true
