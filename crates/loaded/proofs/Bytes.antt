@@ -1,16 +1,16 @@
 -- A file of bytes: an id in it has 32 bits. docs/SPECIFICATION.md, "The drawing file".
 --   IsBytes file   each entry of the list is a byte; what is lent as `&[u8]` is such a list
 -- Assumes nothing.
-use mathlib.Core.Path.{_≡_, refl, sym, ap, _∙_, subst}
+use mathlib.Core.Path.{sym, _∙_, subst}
 use mathlib.Core.Bool.{Bool, true, false, cond, _&&_}
 use mathlib.Core.List.{List}
 use Prim.Native.Nat.{ℕ, _+_, _*_, _^_, _<_}
 use native.Mathlib.Omega.{arith}
-use lib.ListN.{getD, take, drop}
+use lib.ListN.{getD, drop}
 use lib.Seq.{getD-take, getD-drop}
 use lib.Dec.{eqb, ltb}
 use Rattle.component.specs.declared.Record.{Record}
-use Rattle.component.specs.declared.Record.the-variants.{Component, Refused}
+use Rattle.component.specs.declared.Record.the-variants.{Refused}
 use Rattle.component.specs.Record.{le16, le32, le64, componentIn, connectionIn, inputMapIn, outputMapIn, lineIn, readRecord, recordCount, partAt, recordAt, idOf}
 
 -- Each entry is a byte.

@@ -2,25 +2,21 @@
 -- fields, its id and where its ports start; and the wires in order. docs/SPECIFICATION.md, "Flattening".
 -- Entries of 8 and of 4 words are read back by the one law `overlay-entry` of crate lists.
 -- Assumes nothing.
-use mathlib.Core.Path.{_≡_, refl, sym, ap, _∙_}
-use mathlib.Core.Bool.{Bool, true, false}
-use mathlib.Core.List.{List, [], _∷_, map}
+use mathlib.Core.Path.{_≡_, refl, ap, _∙_}
+use mathlib.Core.Bool.{true}
 use Prim.Native.Nat.{ℕ, _+_, _*_, _<_}
 use native.Mathlib.Omega.{arith}
 use lib.ListN.{length, getD}
-use Rattle.lists.specs.Lists.{from, every, joined, overlay}
-use Rattle.lists.proofs.MembersLaws.{every-complete, from0-sound}
 use Rattle.lists.proofs.OverlayLaws.{overlay-entry, map-indexes}
-use Rattle.primitive.specs.declared.table.Fields.{Fields}
 use Rattle.component.specs.declared.Record.{Record}
 use Rattle.component.specs.Record.{fieldsOf, idOf, isPrimitive}
-use Rattle.component.specs.Drawing.{primitivesBefore, inputsBefore, outputsBefore}
+use Rattle.component.specs.Drawing.{inputsBefore, outputsBefore}
 use Rattle.flatten.specs.declared.Wire.{Wire}
 use Rattle.flatten.specs.Descent.{pin, flat, flatWires}
 use Rattle.leads.proofs.Accepted.{Passed}
 use Rattle.leads.proofs.Wires.{wire}
-use Rattle.leads.proofs.Primitives.{primitive-below, flat-below, flat-place, flat-onto}
-use Rattle.tables.specs.Tables.{Tables, wordOf, fieldsAt, idAt, firstInput, firstOutput, wireAt, indexes, wiresIn}
+use Rattle.leads.proofs.Primitives.{primitive-below, flat-below, flat-place}
+use Rattle.tables.specs.Tables.{Tables, wordOf, fieldsAt, idAt, firstInput, firstOutput, wireAt, wiresIn}
 use Rattle.load.specs.Load.{wireWords, primitives, componentWords, loaded}
 
 -- What stands past the last wire; no law depends on it.
@@ -84,12 +80,3 @@ module _ (at : ℕ → Record) (n : ℕ) (d : Passed at n) (T : Tables) where
   pub loaded-firstOutput : (c : ℕ) → isPrimitive (at c) ≡ true
       → firstOutput (loaded at n T) (flat at n c) ≡ outputsBefore at n c
   loaded-firstOutput c e = loaded-word c 7 e (omega arith)
-
-  -- A test that passes at the flat index of each primitive passes at each index of the tables.
-  pub indexes-every : (test : ℕ → Bool) → ((c : ℕ) → isPrimitive (at c) ≡ true → test (flat at n c) ≡ true)
-      → every test (indexes (loaded at n T)) ≡ true
-  unfolding loaded
-  indexes-every test h =
-      every-complete test (from 0 (flat at n n))
-      (λ i u. let r = flat-onto at n i n n (from0-sound (flat at n n) i u) in
-      ap test (sym (r .2)) ∙ h (getD (primitivesBefore at n n) i n) (r .0))

@@ -1,8 +1,8 @@
 -- A load that is accepted leaves a net: check 16 passes on its tables, and check 2 as well.
 -- docs/SPECIFICATION.md, "Numbers given back".
 -- Assumes nothing.
-use mathlib.Core.Path.{_≡_, refl, sym, ap, _∙_}
-use mathlib.Core.Bool.{Bool, true, false, cond, _&&_}
+use mathlib.Core.Path.{_≡_, refl, ap, _∙_}
+use mathlib.Core.Bool.{Bool, true, false, cond}
 use mathlib.Core.List.{List}
 use Prim.Native.Nat.{ℕ, _^_, _<_}
 use native.Mathlib.Omega.{arith}
@@ -12,11 +12,12 @@ use Rattle.component.specs.Record.{recordAt, recordCount, idOf, isPrimitive}
 use Rattle.flatten.specs.Verdict.{sized, refused, verdict}
 use Rattle.leads.proofs.Accepted.{Passed, accepted-passed}
 use Rattle.tables.specs.Tables.{Tables, fullSize}
-use Rattle.load.specs.Load.{loaded, loadVerdict, tablesBy, loadTables}
+use Rattle.load.specs.Load.{loaded, loadVerdict, loadTables}
 use Rattle.net.specs.Net.{isNet}
 use Rattle.loaded.proofs.Sizes.{loaded-lengths, fullSize-kept}
-use Rattle.loaded.proofs.ComponentClauses.{loaded-countsWithin, loaded-kindsObeyed, loaded-idsDistinct, loaded-portsFollow, loaded-valuesFit, loaded-constsHeld}
-use Rattle.loaded.proofs.WireClauses.{loaded-wiresFit, loaded-inputsOnce, loaded-names-current, loaded-names-following, loaded-names-standing}
+use Rattle.loaded.proofs.Drawn.{loaded-drawn}
+use Rattle.loaded.proofs.DrawnNet.{drawn-kindsObeyed, drawn-idsDistinct, drawn-portsFollow, drawn-wiresFit, drawn-inputsOnce}
+use Rattle.loaded.proofs.LoadedNet.{loaded-countsWithin, loaded-valuesFit, loaded-constsHeld, loaded-names-current, loaded-names-following, loaded-names-standing}
 use Rattle.loaded.proofs.Bytes.{IsBytes, recordAt-id}
 
 -- The tables that a drawing that passes every check is loaded into are a net, if its ids have 32 bits.
@@ -24,15 +25,16 @@ pub loaded-net : (at : ℕ → Record) (n : ℕ) → Passed at n → (T : Tables
     → ((c : ℕ) → isPrimitive (at c) ≡ true → idOf (at c) < 2 ^ 32) → isNet (loaded at n T) ≡ true
 unfolding isNet
 loaded-net at n d T narrow =
+    let drawn = loaded-drawn at n d T in
     rw (
       loaded-countsWithin at n d T,
-      loaded-kindsObeyed at n d T,
-      loaded-idsDistinct at n d T narrow,
-      loaded-portsFollow at n d T,
+      drawn-kindsObeyed at n d _ drawn,
+      drawn-idsDistinct at n d _ drawn narrow,
+      drawn-portsFollow at n d _ drawn,
       loaded-valuesFit at n d T,
       loaded-constsHeld at n d T,
-      loaded-wiresFit at n d T,
-      loaded-inputsOnce at n d T,
+      drawn-wiresFit at n d _ drawn,
+      drawn-inputsOnce at n d _ drawn,
       loaded-names-current at n d T,
       loaded-names-following at n d T,
       loaded-names-standing at n d T,

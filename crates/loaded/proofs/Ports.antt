@@ -1,13 +1,13 @@
 -- What the tables of ports hold after a load: all inputs 0, the outputs of each primitive its starting values.
 -- docs/SPECIFICATION.md, "Rounds".
 -- Assumes nothing.
-use mathlib.Core.Path.{_≡_, refl, sym, ap, _∙_}
+use mathlib.Core.Path.{_≡_, sym, _∙_}
 use mathlib.Core.Bool.{true, _&&_}
-use mathlib.Core.List.{List, [], _∷_, _++_}
-use Prim.Native.Nat.{ℕ, suc, _+_, _-_, _≤_, _<_}
+use mathlib.Core.List.{List, _++_}
+use Prim.Native.Nat.{ℕ, suc, _-_, _≤_, _<_}
 use native.Mathlib.Omega.{arith}
 use lib.ListN.{length, getD, drop, replicate, length-append, length-replicate, getD-replicate}
-use Rattle.lists.specs.Lists.{from, keep, total, joined, overlay}
+use Rattle.lists.specs.Lists.{from, keep, joined, overlay}
 use Rattle.lists.proofs.MembersLaws.{joined-length}
 use Rattle.lists.proofs.OverlayLaws.{overlay-at, slice-replicate, joined-part, total-members}
 use Rattle.primitive.specs.Kinds.{primitive, obeys}
@@ -18,7 +18,7 @@ use Rattle.component.specs.Drawing.{primitivesBefore, inputsBefore, outputsBefo
 use Rattle.flatten.specs.Descent.{flat}
 use Rattle.leads.proofs.Accepted.{Passed}
 use Rattle.leads.proofs.Primitives.{primitive-below, primitive-obeys, primitivesBefore-sound, primitivesBefore-split, portsBefore-within}
-use Rattle.tables.specs.Tables.{Tables, fieldsAt, firstInput, firstOutput, numbers, inputsAt, outputsAt}
+use Rattle.tables.specs.Tables.{Tables, numbers, inputsAt, outputsAt}
 use Rattle.load.specs.Load.{primitives, loaded}
 use Rattle.loaded.proofs.Starting.{starting-length}
 use Rattle.loaded.proofs.Entries.{loaded-fields, loaded-firstInput, loaded-firstOutput}

@@ -5,9 +5,7 @@
 use mathlib.Core.Path.{_≡_, refl, ap, _∙_}
 use mathlib.Core.List.{List}
 use Prim.Native.Nat.{ℕ}
-use Rattle.primitive.specs.declared.table.Fields.{Fields}
-use Rattle.tables.specs.declared.Counts.{Counts}
-use Rattle.tables.specs.Tables.{Tables, wordOf, fieldsAt, inputPlace, outputPlace, inputsAt, outputsAt, indexes, wiresIn}
+use Rattle.tables.specs.Tables.{Tables, wordOf, fieldsAt, inputPlace, outputPlace, inputsAt, outputsAt, wiresIn}
 use Rattle.flatten.specs.declared.Pin.{Pin}
 use Rattle.net.specs.Net.{kindsObeyed, idsDistinct, portsFollow, wiresFit, inputsOnce, names}
 
@@ -22,7 +20,14 @@ pub record SameNet (L U : Tables) : Type 0 where
 
 pub sameNet-refl : (L : Tables) → SameNet L L
 sameNet-refl L =
-    record { components = refl; wires = refl; component-count = refl; input-count = refl; output-count = refl; wire-count = refl }
+    record {
+      components = refl;
+      wires = refl;
+      component-count = refl;
+      input-count = refl;
+      output-count = refl;
+      wire-count = refl;
+    }
 
 pub sameNet-trans : (L M U : Tables) → SameNet L M → SameNet M U → SameNet L U
 sameNet-trans L M U s t =

@@ -4,22 +4,21 @@
 --   SameLengths T U  each table of U is as long as that of T
 -- Assumes nothing.
 use mathlib.Core.Path.{_≡_, refl, sym, ap, _∙_}
-use mathlib.Core.Bool.{Bool, true, false, _&&_, _||_}
-use mathlib.Core.List.{List, [], _∷_, map}
-use Prim.Native.Nat.{ℕ, _+_, _*_, _≤_, _<_}
+use mathlib.Core.Bool.{Bool, true, _&&_, _||_}
+use Prim.Native.Nat.{ℕ, _*_, _≤_}
 use native.Mathlib.Omega.{arith}
 use borrow.Author.Tests.{leb-true, le-leb}
 use lib.ListN.{length, take, replicate, length-replicate, length-map}
 use lib.Dec.{leb}
 use Rattle.lists.specs.Lists.{from, keep, joined, overlay}
 use Rattle.lists.proofs.ListsLaws.{and-left, and-right}
-use Rattle.lists.proofs.MembersLaws.{from-length, joined-length, keep-length}
+use Rattle.lists.proofs.MembersLaws.{from-length, keep-length}
 use Rattle.lists.proofs.OverlayLaws.{overlay-length, overlay-front, joined-width}
 use Rattle.primitive.specs.declared.kinds.Kind.the-variants.{Clock, Const}
 use Rattle.primitive.specs.Kinds.{is}
 use Rattle.component.specs.declared.Record.{Record}
 use Rattle.component.specs.Record.{fieldsOf}
-use Rattle.component.specs.Drawing.{primitivesBefore, inputsBefore, outputsBefore}
+use Rattle.component.specs.Drawing.{inputsBefore}
 use Rattle.flatten.specs.Descent.{flat, flatWires}
 use Rattle.leads.proofs.Accepted.{Passed}
 use Rattle.leads.proofs.Primitives.{primitives-bound, inputs-bound, outputs-bound}

@@ -1,16 +1,15 @@
 -- What a component's outputs are at load: as many as it has outputs, and each fits. docs/SPECIFICATION.md, "Rounds".
 -- Assumes nothing.
-use mathlib.Core.Path.{_≡_, refl, sym, ap, _∙_}
+use mathlib.Core.Path.{_≡_, refl, ap, _∙_}
 use mathlib.Core.Bool.{Bool, true, false, cond, _&&_}
-use mathlib.Core.List.{List, [], _∷_}
-use Prim.Native.Nat.{ℕ, zero, suc, _-_, _^_, _≤_, _<_, min}
+use mathlib.Core.List.{[], _∷_}
+use Prim.Native.Nat.{ℕ, zero, suc, _-_, _^_, _≤_, min}
 use native.Mathlib.Nat.{min-eq-left}
 use native.Mathlib.Omega.{arith}
 use borrow.Author.Tests.{eqb-true, lt-ltb}
 use lib.ListN.{length, replicate, length-replicate}
 use lib.Pow.{pow-pos}
-use Rattle.lists.specs.Lists.{every}
-use Rattle.value.specs.Value.{widest, ones, below}
+use Rattle.value.specs.Value.{widest, below}
 use Rattle.primitive.specs.declared.kinds.Kind.the-variants.{Const}
 use Rattle.primitive.specs.declared.table.Fields.{Fields}
 use Rattle.primitive.specs.Kinds.{numberOf, kindOf, is, primitive, obeys, row, outputWidth}
