@@ -6,3 +6,5 @@ pub mod Held
 pub mod Edited
 pub mod Left
 pub mod Kept
+pub mod Invariant
+pub mod EditInvariant
