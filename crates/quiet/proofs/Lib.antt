@@ -8,3 +8,5 @@ pub mod Left
 pub mod Kept
 pub mod Invariant
 pub mod EditInvariant
+pub mod Since
+pub mod Obeyed
