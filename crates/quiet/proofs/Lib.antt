@@ -10,3 +10,4 @@ pub mod Invariant
 pub mod EditInvariant
 pub mod Since
 pub mod Obeyed
+pub mod Third
