@@ -5,7 +5,7 @@ use mathlib.Core.Path.{_≡_, refl, sym, ap, _∙_, subst}
 use mathlib.Core.Bool.{Bool, true, false, cond}
 use mathlib.Core.List.{List}
 use Prim.Native.Nat.{ℕ, zero, suc, _<_}
-use borrow.Author.Tests.{eqb-true, eq-eqb}
+use borrow.Author.Tests.{eqb-true, ne-eqb}
 use lib.Dec.{eqb}
 use Rattle.flatten.specs.declared.Wire.{Wire}
 use Rattle.tables.specs.Tables.{Tables, fullSize, wiresIn, currentList}
@@ -16,7 +16,7 @@ use Rattle.quiet.proofs.Clauses.{netNumber-full, netNumber-net, netNumb
 use Rattle.quiet.proofs.Sound.{Sound, isNet-wiring}
 use Rattle.quiet.proofs.Held.{Held, Order, stored-order, round-held}
 use Rattle.quiet.proofs.Edited.{Editable, editNumber-full, editNumber-net, editNumber-editable, edited-held}
-use Rattle.quiet.proofs.Left.{SameWiring, SameLengths, sameWiring-none, sameLengths-none, leave-wiring, isNet-held, leave-lengths, fullSize-leave, isNet-leave}
+use Rattle.quiet.proofs.Left.{SameWiring, SameLengths, sameWiring-none, sameLengths-none, leave-wiring, isNet-held, leave-lengths, fullSize-kept, isNet-kept}
 
 -- On a net of full size.
 module _ (T : Tables) (full : fullSize T ≡ true) (net : isNet T ≡ true) where
@@ -29,10 +29,10 @@ module _ (T : Tables) (full : fullSize T ≡ true) (net : isNet T ≡ true) wher
     round-leaves = round-held T sound ws o t (stateOf T) (isNet-held T full net)
 
     pub round-isNet : isNet (leave T (round T ws t (stateOf T))) ≡ true
-    round-isNet = isNet-leave T full net (round T ws t (stateOf T)) round-leaves
+    round-isNet = isNet-kept T full net (round T ws t (stateOf T)) round-leaves
 
     pub round-fullSize : fullSize (leave T (round T ws t (stateOf T))) ≡ true
-    round-fullSize = fullSize-leave T full net (round T ws t (stateOf T)) round-leaves
+    round-fullSize = fullSize-kept T full net (round T ws t (stateOf T)) round-leaves
 
     pub round-lengths : SameLengths T (leave T (round T ws t (stateOf T)))
     round-lengths = leave-lengths T full net (round T ws t (stateOf T)) round-leaves
@@ -56,10 +56,10 @@ module _ (T : Tables) (full : fullSize T ≡ true) (net : isNet T ≡ true) wher
     edited-leaves = edited-held T sound i v (ok .exists) (stateOf T) (isNet-held T full net) ok
 
     pub edited-isNet : isNet (leave T (edited T i v (stateOf T))) ≡ true
-    edited-isNet = isNet-leave T full net (edited T i v (stateOf T)) edited-leaves
+    edited-isNet = isNet-kept T full net (edited T i v (stateOf T)) edited-leaves
 
     pub edited-fullSize : fullSize (leave T (edited T i v (stateOf T))) ≡ true
-    edited-fullSize = fullSize-leave T full net (edited T i v (stateOf T)) edited-leaves
+    edited-fullSize = fullSize-kept T full net (edited T i v (stateOf T)) edited-leaves
 
     pub edited-lengths : SameLengths T (leave T (edited T i v (stateOf T)))
     edited-lengths = leave-lengths T full net (edited T i v (stateOf T)) edited-leaves
@@ -81,6 +81,15 @@ roundTables-done T t e = rw e
 pub editTables-done : (T : Tables) (i v : ℕ) → editNumber T i v ≡ 0 → editTables T i v ≡ leave T (edited T i v (stateOf T))
 unfolding editTables
 editTables-done T i v e = rw e
+
+-- A refused round and a refused edit change no table.
+pub roundTables-refused : (T : Tables) (t : ℕ) → (netNumber T ≡ 0 → ⊥) → roundTables T t ≡ T
+unfolding roundTables
+roundTables-refused T t e = rw (ne-eqb (netNumber T) 0 e)
+
+pub editTables-refused : (T : Tables) (i v : ℕ) → (editNumber T i v ≡ 0 → ⊥) → editTables T i v ≡ T
+unfolding editTables
+editTables-refused T i v e = rw (ne-eqb (editNumber T i v) 0 e)
 
 -- An edit of tables that are a net is judged by its own checks: where it is not refused, neither 2 nor 16 was given.
 pub editNumber-netNumber : (T : Tables) (i v : ℕ) → editNumber T i v ≡ 0 → netNumber T ≡ 0

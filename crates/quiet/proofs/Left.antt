@@ -3,8 +3,8 @@
 -- Assumes nothing.
 use mathlib.Core.Path.{_≡_, refl, sym, ap, _∙_, subst}
 use mathlib.Core.Bool.{Bool, true, false, not, _&&_, _||_}
-use mathlib.Core.List.{List}
-use Prim.Native.Nat.{ℕ, _+_, _≤_, _<_}
+use mathlib.Core.List.{List, map}
+use Prim.Native.Nat.{ℕ, _+_, _*_, _≤_, _<_}
 use native.Mathlib.Omega.{arith}
 use borrow.Author.Tests.{eqb-true, eq-eqb}
 use lib.ListN.{length, getD, take}
@@ -16,7 +16,9 @@ use Rattle.lists.proofs.NamesLaws.{Names, names-sound, names-complete, names-le
 use Rattle.value.specs.Value.{below}
 use Rattle.primitive.specs.declared.kinds.Kind.the-variants.{Const}
 use Rattle.primitive.specs.Kinds.{is, inputWidth, outputWidth}
-use Rattle.tables.specs.Tables.{Tables, fullSize, fieldsAt, firstInput, firstOutput, inputsAt, outputsAt, indexes, currentList, followingList, standingList}
+use Rattle.flatten.specs.declared.Wire.{Wire}
+use Rattle.flatten.specs.Descent.{pin}
+use Rattle.tables.specs.Tables.{Tables, fullSize, fieldsAt, firstInput, firstOutput, inputsAt, outputsAt, indexes, wiresIn, currentList, followingList, standingList}
 use Rattle.net.specs.Net.{countsWithin, kindsObeyed, idsDistinct, portsFollow, valuesFit, constsHeld, wiresFit, inputsOnce, names, isNet}
 use Rattle.simulator.specs.Round.{State, stateOf, leave}
 use Rattle.quiet.proofs.Ports.{numbers-fit-at, numbers-fit}
@@ -86,6 +88,30 @@ sameLengths-more T U W a b =
       standing = b .standing ∙ a .standing;
     }
 
+-- k wires from their words.
+abbrev wiresOf : List ℕ → ℕ → List Wire
+wiresOf ws k =
+    let at : ℕ → Wire = λ q.
+    record {
+      src = pin (getD ws (4 * q) 0) (getD ws (4 * q + 1) 0);
+      dst = pin (getD ws (4 * q + 2) 0) (getD ws (4 * q + 3) 0);
+    } in
+    map at (from 0 k)
+
+-- What is read off the components and the wires is then the same too.
+module _ (T U : Tables) (a : SameWiring T U) where
+  pub fieldsAt-kept : (i : ℕ) → fieldsAt U i ≡ fieldsAt T i
+  fieldsAt-kept i = rw (a .components)
+
+  pub firstInput-kept : (i : ℕ) → firstInput U i ≡ firstInput T i
+  firstInput-kept i = rw (a .components)
+
+  pub firstOutput-kept : (i : ℕ) → firstOutput U i ≡ firstOutput T i
+  firstOutput-kept i = rw (a .components)
+
+  pub wiresIn-kept : wiresIn U ≡ wiresIn T
+  wiresIn-kept = λ j. wiresOf (a .wires j) (a .wire-count j)
+
 -- What a state that is left never touches, and the clauses that speak of nothing else.
 module _ (T : Tables) (s : State) where
   pub leave-wiring : SameWiring T (leave T s)
@@ -93,25 +119,25 @@ module _ (T : Tables) (s : State) where
   leave-wiring =
       record { components = refl; wires = refl; component-count = refl; input-count = refl; output-count = refl; wire-count = refl }
 
-  pub kindsObeyed-leave : kindsObeyed (leave T s) ≡ kindsObeyed T
+  pub kindsObeyed-kept : kindsObeyed (leave T s) ≡ kindsObeyed T
   unfolding leave kindsObeyed
-  kindsObeyed-leave = refl
+  kindsObeyed-kept = refl
 
-  pub idsDistinct-leave : idsDistinct (leave T s) ≡ idsDistinct T
+  pub idsDistinct-kept : idsDistinct (leave T s) ≡ idsDistinct T
   unfolding leave idsDistinct
-  idsDistinct-leave = refl
+  idsDistinct-kept = refl
 
-  pub portsFollow-leave : portsFollow (leave T s) ≡ portsFollow T
+  pub portsFollow-kept : portsFollow (leave T s) ≡ portsFollow T
   unfolding leave portsFollow
-  portsFollow-leave = refl
+  portsFollow-kept = refl
 
-  pub wiresFit-leave : wiresFit (leave T s) ≡ wiresFit T
+  pub wiresFit-kept : wiresFit (leave T s) ≡ wiresFit T
   unfolding leave wiresFit
-  wiresFit-leave = refl
+  wiresFit-kept = refl
 
-  pub inputsOnce-leave : inputsOnce (leave T s) ≡ inputsOnce T
+  pub inputsOnce-kept : inputsOnce (leave T s) ≡ inputsOnce T
   unfolding leave inputsOnce
-  inputsOnce-leave = refl
+  inputsOnce-kept = refl
 
 -- The state of a net is one that a net may have.
 module _ (T : Tables) (full : fullSize T ≡ true) (net : isNet T ≡ true) where
@@ -184,8 +210,8 @@ module _ (T : Tables) (full : fullSize T ≡ true) (net : isNet T ≡ true) wher
           standing = overlay-length (s .standing) (T .standing) (omega (arith, short (s .standing) (a .standing), sizes .standing));
         }
 
-    pub fullSize-leave : fullSize (leave T s) ≡ true
-    fullSize-leave =
+    pub fullSize-kept : fullSize (leave T s) ≡ true
+    fullSize-kept =
         let l = leave-lengths in
         fullSize-complete (leave T s)
         (record {
@@ -198,9 +224,9 @@ module _ (T : Tables) (full : fullSize T ≡ true) (net : isNet T ≡ true) wher
           standing = omega (arith, sizes .standing, l .standing);
         })
 
-    pub countsWithin-leave : countsWithin (leave T s .counts) ≡ true
+    pub countsWithin-kept : countsWithin (leave T s .counts) ≡ true
     unfolding leave
-    countsWithin-leave =
+    countsWithin-kept =
         countsWithin-complete (leave T s .counts)
         (record {
           components = few .components;
@@ -212,9 +238,9 @@ module _ (T : Tables) (full : fullSize T ≡ true) (net : isNet T ≡ true) wher
           standing = short (s .standing) (a .standing);
         })
 
-    pub valuesFit-leave : valuesFit (leave T s) ≡ true
+    pub valuesFit-kept : valuesFit (leave T s) ≡ true
     unfolding leave valuesFit
-    valuesFit-leave =
+    valuesFit-kept =
         every-complete (λ i. every (λ x. below x (inputWidth (fieldsAt T i))) (inputsAt T (s .inputs) i)
         && every (λ x. below x (outputWidth (fieldsAt T i))) (outputsAt T (s .outputs) i)) (indexes T)
         (λ i m. each i (from0-sound n i m))
@@ -230,9 +256,9 @@ module _ (T : Tables) (full : fullSize T ≡ true) (net : isNet T ≡ true) wher
             (omega (arith, a .outputs-length, sound .outputs-in i h)) (outputWidth (fieldsAt T i)) (a .outputs-fit i h) in
             rw (p, q)
 
-    pub constsHeld-leave : constsHeld (leave T s) ≡ true
+    pub constsHeld-kept : constsHeld (leave T s) ≡ true
     unfolding leave constsHeld
-    constsHeld-leave =
+    constsHeld-kept =
         every-complete (λ i. not (is Const (fieldsAt T i)) || eqb (getD (s .outputs) (firstOutput T i) 0) (fieldsAt T i .parameter)) (indexes T)
         (λ i m. each i (from0-sound n i m) (is Const (fieldsAt T i)) refl)
       where
@@ -245,29 +271,29 @@ module _ (T : Tables) (full : fullSize T ≡ true) (net : isNet T ≡ true) wher
     unfolding leave names
     named xs b ys e = rw e (names-complete n xs b)
 
-    pub current-leave : names (leave T s) (currentList (leave T s)) ≡ true
-    current-leave = named (s .current) (a .current) (currentList (leave T s)) (ap (λ (u : State). u .current) (stateOf-leave T s))
+    pub current-kept : names (leave T s) (currentList (leave T s)) ≡ true
+    current-kept = named (s .current) (a .current) (currentList (leave T s)) (ap (λ (u : State). u .current) (stateOf-leave T s))
 
-    pub following-leave : names (leave T s) (followingList (leave T s)) ≡ true
-    following-leave = named (s .following) (a .following) (followingList (leave T s)) (ap (λ (u : State). u .following) (stateOf-leave T s))
+    pub following-kept : names (leave T s) (followingList (leave T s)) ≡ true
+    following-kept = named (s .following) (a .following) (followingList (leave T s)) (ap (λ (u : State). u .following) (stateOf-leave T s))
 
-    pub standing-leave : names (leave T s) (standingList (leave T s)) ≡ true
-    standing-leave = named (s .standing) (a .standing) (standingList (leave T s)) (ap (λ (u : State). u .standing) (stateOf-leave T s))
+    pub standing-kept : names (leave T s) (standingList (leave T s)) ≡ true
+    standing-kept = named (s .standing) (a .standing) (standingList (leave T s)) (ap (λ (u : State). u .standing) (stateOf-leave T s))
 
     -- All clauses together: the tables are a net.
-    pub isNet-leave : isNet (leave T s) ≡ true
-    isNet-leave =
+    pub isNet-kept : isNet (leave T s) ≡ true
+    isNet-kept =
         isNet-complete (leave T s)
         (record {
-          counts = countsWithin-leave;
-          kinds = kindsObeyed-leave T s ∙ clauses .kinds;
-          ids = idsDistinct-leave T s ∙ clauses .ids;
-          ports = portsFollow-leave T s ∙ clauses .ports;
-          values = valuesFit-leave;
-          consts = constsHeld-leave;
-          wires = wiresFit-leave T s ∙ clauses .wires;
-          inputs = inputsOnce-leave T s ∙ clauses .inputs;
-          current = current-leave;
-          following = following-leave;
-          standing = standing-leave;
+          counts = countsWithin-kept;
+          kinds = kindsObeyed-kept T s ∙ clauses .kinds;
+          ids = idsDistinct-kept T s ∙ clauses .ids;
+          ports = portsFollow-kept T s ∙ clauses .ports;
+          values = valuesFit-kept;
+          consts = constsHeld-kept;
+          wires = wiresFit-kept T s ∙ clauses .wires;
+          inputs = inputsOnce-kept T s ∙ clauses .inputs;
+          current = current-kept;
+          following = following-kept;
+          standing = standing-kept;
         })

@@ -11,3 +11,4 @@ pub mod EditInvariant
 pub mod Since
 pub mod Obeyed
 pub mod Third
+pub mod Runs
