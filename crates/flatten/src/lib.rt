@@ -1,5 +1,6 @@
 // Flattening a drawing. Rules: docs/SPECIFICATION.md, "Flattening" and "Numbers given back". Source: flatten.rs.
 mod descent;
+mod judgement;
 
 pub use descent::Entered;
 pub use descent::Stretch;
@@ -11,6 +12,7 @@ pub use descent::input_width_of;
 pub use descent::output_width_of;
 pub use descent::source_of;
 pub use descent::stretch_of;
+pub use judgement::judge;
 
 // A port of a component: in a drawing by the component's number, in the tables by its flat index.
 pub struct Pin {
