@@ -1,5 +1,4 @@
 -- A file of bytes: an id in it has 32 bits. docs/SPECIFICATION.md, "The drawing file".
---   IsBytes file   each entry of the list is a byte; what is lent as `&[u8]` is such a list
 -- Assumes nothing.
 use mathlib.Core.Path.{sym, _∙_, subst}
 use mathlib.Core.Bool.{Bool, true, false, cond, _&&_}
@@ -11,11 +10,7 @@ use lib.Seq.{getD-take, getD-drop}
 use lib.Dec.{eqb, ltb}
 use Rattle.component.specs.declared.Record.{Record}
 use Rattle.component.specs.declared.Record.the-variants.{Refused}
-use Rattle.component.specs.Record.{le16, le32, le64, componentIn, connectionIn, inputMapIn, outputMapIn, lineIn, readRecord, recordCount, partAt, recordAt, idOf}
-
--- Each entry is a byte.
-abbrev pub IsBytes : List ℕ → Type 0
-IsBytes file = (i : ℕ) → getD file i 0 < 256
+use Rattle.component.specs.Record.{IsBytes, le16, le32, le64, componentIn, connectionIn, inputMapIn, outputMapIn, lineIn, readRecord, recordCount, partAt, recordAt, idOf}
 
 module _ (file : List ℕ) (bytes : IsBytes file) where
   -- A byte of a record.

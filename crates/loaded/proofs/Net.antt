@@ -18,7 +18,8 @@ use Rattle.loaded.proofs.Sizes.{loaded-lengths, fullSize-kept}
 use Rattle.loaded.proofs.Drawn.{loaded-drawn}
 use Rattle.loaded.proofs.DrawnNet.{drawn-kindsObeyed, drawn-idsDistinct, drawn-portsFollow, drawn-wiresFit, drawn-inputsOnce}
 use Rattle.loaded.proofs.LoadedNet.{loaded-countsWithin, loaded-valuesFit, loaded-constsHeld, loaded-names-current, loaded-names-following, loaded-names-standing}
-use Rattle.loaded.proofs.Bytes.{IsBytes, recordAt-id}
+use Rattle.component.specs.Record.{IsBytes}
+use Rattle.loaded.proofs.Bytes.{recordAt-id}
 
 -- The tables that a drawing that passes every check is loaded into are a net, if its ids have 32 bits.
 pub loaded-net : (at : ℕ → Record) (n : ℕ) → Passed at n → (T : Tables)

@@ -25,7 +25,7 @@ use Rattle.load.specs.Load.{standingAtLoad, loaded, loadVerdict, loadTables}
 use Rattle.net.specs.Net.{isNet}
 use Rattle.loaded.proofs.Ports.{loaded-input, loaded-outputs}
 use Rattle.loaded.proofs.Sizes.{SameLengths, loaded-current, loaded-following, loaded-standing, loaded-lengths}
-use Rattle.loaded.proofs.Bytes.{IsBytes}
+use Rattle.component.specs.Record.{IsBytes}
 use Rattle.loaded.proofs.Net.{load-passed, load-checked, load-loaded, load-fullSize, load-net}
 use Rattle.loaded.proofs.SameNet.{SameNet}
 use Rattle.loaded.proofs.Drawn.{IsDrawn, loaded-drawn, drawn-kept, PrimitiveAt, drawn-primitive, drawn-below, leads-wired, wired-leads, wire-drawn}

@@ -15,7 +15,7 @@ use Rattle.lists.proofs.ListsLaws.{and-left, and-right, refusal-first, refusal-
 use Rattle.tables.specs.declared.Counts.{Counts}
 use Rattle.tables.specs.Tables.{Tables, fullSize, currentList, followingList, standingList}
 use Rattle.net.specs.Net.{countsWithin, kindsObeyed, idsDistinct, portsFollow, valuesFit, constsHeld, wiresFit, inputsOnce, names, isNet}
-use Rattle.simulator.specs.Calls.{netNumber}
+use Rattle.net.specs.Net.{netNumber}
 
 -- Seven tests that hold together.
 abbrev pub Seven : Bool → Bool → Bool → Bool → Bool → Bool → Bool → Type 0

@@ -11,7 +11,8 @@ use Rattle.flatten.specs.declared.Wire.{Wire}
 use Rattle.tables.specs.Tables.{Tables, fullSize, wiresIn, currentList}
 use Rattle.net.specs.Net.{isNet}
 use Rattle.simulator.specs.Round.{State, stateOf, leave, round, edited, roundOf}
-use Rattle.simulator.specs.Calls.{after, netNumber, roundTables, editNumber, editTables}
+use Rattle.net.specs.Net.{netNumber}
+use Rattle.simulator.specs.Calls.{after, roundTables, editNumber, editTables}
 use Rattle.quiet.proofs.Clauses.{netNumber-full, netNumber-net, netNumber-none}
 use Rattle.quiet.proofs.Sound.{Sound, isNet-wiring}
 use Rattle.quiet.proofs.Held.{Held, Order, stored-order, round-held}

@@ -1,6 +1,5 @@
 -- Demand 3 on the tables' own wires and components, for any rounds and edits since a net as a load leaves it.
 -- docs/SPECIFICATION.md, "Flattening" (satisfied) and "Rounds".
---   named T i       one of the three lists names component i
 --   Equal T w       the output and the input of the wire w hold the same number
 --   Follows T t i   the outputs of component i are its function of its inputs, at time t
 --   SatisfiedAt T t   each wire's ends are equal, and each component follows its function; a Switch's output is free
@@ -21,9 +20,9 @@ use Rattle.primitive.specs.declared.kinds.Kind.the-variants.{Switch, Clock, Con
 use Rattle.primitive.specs.Kinds.{is}
 use Rattle.primitive.specs.Evaluate.{functionOf}
 use Rattle.flatten.specs.declared.Wire.{Wire}
-use Rattle.tables.specs.Tables.{Tables, fieldsAt, firstOutput, inputPlace, outputPlace, numbers, inputsAt, outputsAt, wiresIn, currentList, followingList, standingList}
+use Rattle.tables.specs.Tables.{Tables, fieldsAt, firstOutput, inputPlace, outputPlace, numbers, inputsAt, outputsAt, wiresIn, currentList, followingList, standingList, named}
 use Rattle.simulator.specs.Round.{stateOf}
-use Rattle.simulator.specs.Calls.{netNumber}
+use Rattle.net.specs.Net.{netNumber}
 use Rattle.quiet.proofs.Evaluation.{const-outputs, outputsAfter-function, functionOf-const}
 use Rattle.quiet.proofs.Clauses.{netNumber-full, netNumber-net}
 use Rattle.quiet.proofs.Sound.{Sound, isNet-wiring}
@@ -31,10 +30,6 @@ use Rattle.quiet.proofs.Held.{Held, Agree}
 use Rattle.quiet.proofs.Left.{isNet-held}
 use Rattle.quiet.proofs.Invariant.{clocked, Fits, Named, now, next, later, Inv}
 use Rattle.quiet.proofs.Since.{Fresh, Since, Unbroken, since-net, since-unbroken}
-
--- One of the three update lists names component i.
-abbrev pub named : Tables → ℕ → Bool
-named T i = has i (currentList T) || has i (followingList T) || has i (standingList T)
 
 -- The output and the input of a wire hold the same number.
 abbrev pub Equal : Tables → Wire → Type 0

@@ -7,7 +7,8 @@ use borrow.Author.Tests.{eqb-true}
 use lib.Dec.{eqb}
 use Rattle.tables.specs.Tables.{Tables}
 use Rattle.simulator.specs.Round.{calm}
-use Rattle.simulator.specs.Calls.{netNumber, roundTables, Run, run, runTables}
+use Rattle.net.specs.Net.{netNumber}
+use Rattle.simulator.specs.Calls.{roundTables, Run, run, runTables}
 use Rattle.quiet.proofs.Left.{SameWiring, SameLengths, sameWiring-none, sameWiring-more, sameLengths-none, sameLengths-more}
 use Rattle.quiet.proofs.Kept.{roundTables-wiring, roundTables-lengths, roundTables-net}
 use Rattle.quiet.proofs.Since.{Since, rounded}

@@ -15,7 +15,8 @@ use Rattle.primitive.specs.Kinds.{is}
 use Rattle.flatten.specs.declared.Wire.{Wire}
 use Rattle.tables.specs.Tables.{Tables, fieldsAt, wiresIn, currentList, followingList, standingList}
 use Rattle.simulator.specs.Round.{State, stateOf, leave, round, edited as editedState, roundOf}
-use Rattle.simulator.specs.Calls.{netNumber, roundTables, editNumber, editTables}
+use Rattle.net.specs.Net.{netNumber}
+use Rattle.simulator.specs.Calls.{roundTables, editNumber, editTables}
 use Rattle.quiet.proofs.Clauses.{netNumber-full, netNumber-net}
 use Rattle.quiet.proofs.Sound.{Sound, isNet-wiring}
 use Rattle.quiet.proofs.Held.{Held, Order, stored-order}
