@@ -247,6 +247,7 @@ module _ (T : Tables) (full : fullSize T ≡ true) (net : isNet T ≡ true) wher
               (omega (arith, short (s .standing) (a .standing), sizes .standing));
         }
 
+    -- They have full size, and each clause of "the tables are a net" holds of them.
     pub fullSize-kept : fullSize (leave T s) ≡ true
     fullSize-kept =
         let l = leave-lengths in

@@ -110,7 +110,8 @@ module _ (T : Tables) (ran : Bool) (t : ℕ) (e : netNumber T ≡ 0) (a : Unbrok
       by-const false c =
           sym f ∙ outputsAfter-function (fieldsAt T i) (inputsAt T (T .inputs) i) (outputsAt T (T .outputs) i) t s c
 
-  unbroken-obeyed : ObeyedAt T ran t
+  -- A net of which the invariant holds obeys demand 3.
+  pub unbroken-obeyed : ObeyedAt T ran t
   unbroken-obeyed =
       record {
         differing = λ w m. differ w (a .wired w m);
