@@ -1,16 +1,16 @@
 -- Rounds and edits keep a net a net. docs/SPECIFICATION.md, "Rounds" and "Numbers given back".
 -- First a round with its wires in any order, then the calls as their contracts describe them, refused ones too.
 -- Assumes nothing.
-use mathlib.Core.Path.{_≡_, refl, sym, ap, _∙_, subst}
+use mathlib.Core.Path.{_≡_, refl, ap, _∙_}
 use mathlib.Core.Bool.{Bool, true, false, cond}
 use mathlib.Core.List.{List}
-use Prim.Native.Nat.{ℕ, zero, suc, _<_}
+use Prim.Native.Nat.{ℕ}
 use borrow.Author.Tests.{eqb-true, ne-eqb}
 use lib.Dec.{eqb}
 use Rattle.flatten.specs.declared.Wire.{Wire}
-use Rattle.tables.specs.Tables.{Tables, fullSize, wiresIn, currentList}
+use Rattle.tables.specs.Tables.{Tables, fullSize, wiresIn}
 use Rattle.net.specs.Net.{isNet}
-use Rattle.simulator.specs.Round.{State, stateOf, leave, round, edited, roundOf}
+use Rattle.simulator.specs.Round.{stateOf, leave, round, edited, roundOf}
 use Rattle.net.specs.Net.{netNumber}
 use Rattle.simulator.specs.Calls.{after, roundTables, editNumber, editTables}
 use Rattle.quiet.proofs.Clauses.{netNumber-full, netNumber-net, netNumber-none}
@@ -79,7 +79,8 @@ unfolding roundTables
 roundTables-done T t e = rw e
 
 -- The tables after an edit that is not refused.
-pub editTables-done : (T : Tables) (i v : ℕ) → editNumber T i v ≡ 0 → editTables T i v ≡ leave T (edited T i v (stateOf T))
+pub editTables-done : (T : Tables) (i v : ℕ) → editNumber T i v ≡ 0
+    → editTables T i v ≡ leave T (edited T i v (stateOf T))
 unfolding editTables
 editTables-done T i v e = rw e
 
@@ -100,33 +101,38 @@ editNumber-netNumber T i v e = netNumber-none T (editNumber-full T i v e) (editN
 pub roundTables-wiring : (T : Tables) (t : ℕ) → SameWiring T (roundTables T t)
 unfolding roundTables roundOf
 roundTables-wiring T t =
-    by-number (SameWiring T) (netNumber T) (roundOf t T) T (λ e. leave-wiring T (round T (wiresIn T) t (stateOf T))) (sameWiring-none T)
+    by-number (SameWiring T) (netNumber T) (roundOf t T) T (λ e. leave-wiring T (round T (wiresIn T) t (stateOf T)))
+    (sameWiring-none T)
 
 -- So does any edit.
 pub editTables-wiring : (T : Tables) (i v : ℕ) → SameWiring T (editTables T i v)
 unfolding editTables
 editTables-wiring T i v =
-    by-number (SameWiring T) (editNumber T i v) (leave T (edited T i v (stateOf T))) T (λ e. leave-wiring T (edited T i v (stateOf T)))
+    by-number (SameWiring T) (editNumber T i v) (leave T (edited T i v (stateOf T))) T
+    (λ e. leave-wiring T (edited T i v (stateOf T)))
     (sameWiring-none T)
 
 -- No call changes the length of a table.
 pub roundTables-lengths : (T : Tables) (t : ℕ) → SameLengths T (roundTables T t)
 unfolding roundTables
 roundTables-lengths T t =
-    by-number (SameLengths T) (netNumber T) (roundOf t T) T (λ e. roundOf-lengths T (netNumber-full T e) (netNumber-net T e) t) (sameLengths-none T)
+    by-number (SameLengths T) (netNumber T) (roundOf t T) T
+    (λ e. roundOf-lengths T (netNumber-full T e) (netNumber-net T e) t) (sameLengths-none T)
 
 pub editTables-lengths : (T : Tables) (i v : ℕ) → SameLengths T (editTables T i v)
 unfolding editTables
 editTables-lengths T i v =
     by-number (SameLengths T) (editNumber T i v) (leave T (edited T i v (stateOf T))) T
-    (λ e. edited-lengths T (editNumber-full T i v e) (editNumber-net T i v e) i v (editNumber-editable T i v e)) (sameLengths-none T)
+    (λ e. edited-lengths T (editNumber-full T i v e) (editNumber-net T i v e) i v (editNumber-editable T i v e))
+    (sameLengths-none T)
 
 -- A round of a net leaves a net: the next call is given neither 2 nor 16.
 pub roundTables-net : (T : Tables) (t : ℕ) → netNumber T ≡ 0 → netNumber (roundTables T t) ≡ 0
 roundTables-net T t e =
     let f = netNumber-full T e in
     let n = netNumber-net T e in
-    ap netNumber (roundTables-done T t e) ∙ netNumber-none (roundOf t T) (roundOf-fullSize T f n t) (roundOf-isNet T f n t)
+    ap netNumber (roundTables-done T t e)
+    ∙ netNumber-none (roundOf t T) (roundOf-fullSize T f n t) (roundOf-isNet T f n t)
 
 -- An edit of a net, refused or not, leaves a net.
 pub editTables-net : (T : Tables) (i v : ℕ) → netNumber T ≡ 0 → netNumber (editTables T i v) ≡ 0

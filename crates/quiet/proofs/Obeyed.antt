@@ -5,7 +5,7 @@
 --   SatisfiedAt T t   each wire's ends are equal, and each component follows its function; a Switch's output is free
 --   ObeyedAt T ran t  the three parts of demand 3
 -- Assumes nothing.
-use mathlib.Core.Path.{_≡_, refl, sym, ap, _∙_, subst}
+use mathlib.Core.Path.{_≡_, refl, sym, ap, _∙_}
 use mathlib.Core.Logic.{_⊎_, inl, inr}
 use mathlib.Core.Bool.{Bool, true, false, _&&_, _||_, true≢false}
 use mathlib.Core.List.{List, [], _∷_}
@@ -14,7 +14,7 @@ use native.Mathlib.Omega.{arith}
 use lib.ListN.{length, getD}
 use lib.Seq.{slice, slice-cons, slice-empty}
 use Rattle.lists.specs.Lists.{has}
-use Rattle.lists.proofs.ListsLaws.{or-left, or-right}
+use Rattle.lists.proofs.ListsLaws.{or-left}
 use Rattle.lists.proofs.MembersLaws.{In, has-complete}
 use Rattle.primitive.specs.declared.kinds.Kind.the-variants.{Switch, Clock, Const}
 use Rattle.primitive.specs.Kinds.{is}
@@ -28,7 +28,7 @@ use Rattle.quiet.proofs.Clauses.{netNumber-full, netNumber-net}
 use Rattle.quiet.proofs.Sound.{Sound, isNet-wiring}
 use Rattle.quiet.proofs.Held.{Held, Agree}
 use Rattle.quiet.proofs.Left.{isNet-held}
-use Rattle.quiet.proofs.Invariant.{clocked, Fits, Named, now, next, later, Inv}
+use Rattle.quiet.proofs.Invariant.{clocked, Fits, Named, now, next, later}
 use Rattle.quiet.proofs.Since.{Fresh, Since, Unbroken, since-net, since-unbroken}
 
 -- The output and the input of a wire hold the same number.
@@ -71,9 +71,11 @@ named-test : (T : Tables) (i : ℕ) → Named (stateOf T) i → named T i ≡ tr
 named-test T i (now m) =
     or-one (has i (currentList T)) (has i (followingList T)) (has i (standingList T)) (has-complete i (currentList T) m)
 named-test T i (next m) =
-    or-two (has i (currentList T)) (has i (followingList T)) (has i (standingList T)) (has-complete i (followingList T) m)
+    or-two (has i (currentList T)) (has i (followingList T)) (has i (standingList T))
+    (has-complete i (followingList T) m)
 named-test T i (later m) =
-    or-three (has i (currentList T)) (has i (followingList T)) (has i (standingList T)) (has-complete i (standingList T) m)
+    or-three (has i (currentList T)) (has i (followingList T)) (has i (standingList T))
+    (has-complete i (standingList T) m)
 
 -- One port's numbers are its number.
 numbers-one : (l : List ℕ) (a k : ℕ) → k ≡ 1 → a + k ≤ length l → numbers l a k ≡ getD l a 0 ∷ []
@@ -90,36 +92,43 @@ module _ (T : Tables) (ran : Bool) (t : ℕ) (e : netNumber T ≡ 0) (a : Unbrok
   held = isNet-held T (netNumber-full T e) (netNumber-net T e)
 
   -- A component that an evaluation would leave as it is follows its function, a Switch aside.
-  fits-follows : (i : ℕ) → i < T .counts .components → is Switch (fieldsAt T i) ≡ false → Fits T t (stateOf T) i → Follows T t i
+  fits-follows : (i : ℕ) → i < T .counts .components → is Switch (fieldsAt T i) ≡ false → Fits T t (stateOf T) i
+      → Follows T t i
   fits-follows i h s f = by-const (is Const (fieldsAt T i)) refl
     where
       by-const : (b : Bool) → is Const (fieldsAt T i) ≡ b → Follows T t i
       by-const true c =
-          numbers-one (T .outputs) (firstOutput T i) (fieldsAt T i .outputs) (const-outputs (fieldsAt T i) (g .obeyed i h) c) (g .outputs-in i h)
+          numbers-one (T .outputs) (firstOutput T i) (fieldsAt T i .outputs)
+          (const-outputs (fieldsAt T i) (g .obeyed i h) c) (g .outputs-in i h)
           ∙ ap (λ (x : ℕ). x ∷ []) (held .consts i h c)
           ∙ sym (functionOf-const (fieldsAt T i) (inputsAt T (T .inputs) i) t c)
       by-const false c =
           sym f ∙ outputsAfter-function (fieldsAt T i) (inputsAt T (T .inputs) i) (outputsAt T (T .outputs) i) t s c
 
-  unbroken-obeyed : ObeyedAt T ran t
+  -- A net of which the invariant holds obeys demand 3.
+  pub unbroken-obeyed : ObeyedAt T ran t
   unbroken-obeyed =
       record {
         differing = λ w m. differ w (a .wired w m);
-        unfollowed = λ i h k. unfollow i h (or-left (is Switch (fieldsAt T i)) (is Clock (fieldsAt T i)) k) (a .fitted i h);
+        unfollowed = λ i h k. unfollow i h (or-left (is Switch (fieldsAt T i)) (is Clock (fieldsAt T i)) k)
+            (a .fitted i h);
         settled = settle;
       }
     where
-      differ : (w : Wire) → Agree T (stateOf T) w ⊎ (((ran && clocked T (w .src .comp)) ≡ false) × Named (stateOf T) (w .src .comp))
+      differ : (w : Wire) → Agree T (stateOf T) w
+          ⊎ (((ran && clocked T (w .src .comp)) ≡ false) × Named (stateOf T) (w .src .comp))
           → (Equal T w → ⊥) → named T (w .src .comp) ≡ true
       differ w (inl q) ne = absurd (ne q)
       differ w (inr q) ne = named-test T (w .src .comp) (q .1)
 
       unfollow : (i : ℕ) → i < T .counts .components → is Switch (fieldsAt T i) ≡ false
-          → Fits T t (stateOf T) i ⊎ (((ran && clocked T i) ≡ false) × Named (stateOf T) i) → (Follows T t i → ⊥) → named T i ≡ true
+          → Fits T t (stateOf T) i ⊎ (((ran && clocked T i) ≡ false) × Named (stateOf T) i) → (Follows T t i → ⊥)
+          → named T i ≡ true
       unfollow i h s (inl q) ne = absurd (ne (fits-follows i h s q))
       unfollow i h s (inr q) ne = named-test T i (q .1)
 
-      settle : ran ≡ true → ((i : ℕ) → i < T .counts .components → named T i ≡ true → is Clock (fieldsAt T i) ≡ true) → SatisfiedAt T t
+      settle : ran ≡ true → ((i : ℕ) → i < T .counts .components → named T i ≡ true → is Clock (fieldsAt T i) ≡ true)
+          → SatisfiedAt T t
       settle r only =
           record {
             equal = λ w m. agree w m (a .wired w m);
@@ -131,7 +140,8 @@ module _ (T : Tables) (ran : Bool) (t : ℕ) (e : netNumber T ≡ 0) (a : Unbrok
               true≢false (sym (only i h (named-test T i (q .1))) ∙ ap (λ (b : Bool). b && clocked T i) (sym r) ∙ q .0)
 
           agree : (w : Wire) → In w (wiresIn T)
-              → Agree T (stateOf T) w ⊎ (((ran && clocked T (w .src .comp)) ≡ false) × Named (stateOf T) (w .src .comp)) → Equal T w
+              → Agree T (stateOf T) w
+              ⊎ (((ran && clocked T (w .src .comp)) ≡ false) × Named (stateOf T) (w .src .comp)) → Equal T w
           agree w m (inl q) = q
           agree w m (inr q) = absurd (clash (w .src .comp) (g .source w m) q)
 
@@ -140,9 +150,10 @@ module _ (T : Tables) (ran : Bool) (t : ℕ) (e : netNumber T ≡ 0) (a : Unbrok
           follow i h s (inl q) = fits-follows i h s q
           follow i h s (inr q) = absurd (clash i h q)
 
--- Demand 3 on the tables: take a net as a load leaves it, and any rounds at any times and any edits, refused ones too. Then
--- wherever the two ends of a wire differ, and wherever a component other than a Switch or a Clock does not hold its function of
--- its inputs, one of the three lists names the component. And once a round has run and the lists name only Clocks, every wire
--- agrees and every component but a Switch holds its function, Clocks at the time of the last round.
+-- Demand 3 on the tables: take a net as a load leaves it, and any rounds at any times and any edits, refused ones too.
+-- Then wherever the two ends of a wire differ, and wherever a component other than a Switch or a Clock does not hold
+-- its function of its inputs, one of the three lists names the component. And once a round has run and the lists name
+-- only Clocks, every wire agrees and every component but a Switch holds its function, Clocks at the time of the last
+-- round.
 pub since-obeyed : (T₀ : Tables) → Fresh T₀ → {ran : Bool} {t : ℕ} {T : Tables} → Since T₀ ran t T → ObeyedAt T ran t
 since-obeyed T₀ f {ran} {t} {T} r = unbroken-obeyed T ran t (since-net T₀ f r) (since-unbroken T₀ f r)

@@ -2,7 +2,7 @@
 --   Fresh T              a net as a load leaves it: all components current, every Clock standing, following a copy
 --   Since T₀ ran t T     rounds and edits lead from T₀ to T; whether a round has run, and the time of the last
 -- Assumes nothing.
-use mathlib.Core.Path.{_≡_, refl, sym, ap, _∙_, subst}
+use mathlib.Core.Path.{_≡_, refl, sym, subst}
 use mathlib.Core.Bool.{Bool, true, false, cond, _||_}
 use mathlib.Core.List.{List}
 use Prim.Native.Nat.{ℕ, _<_}
@@ -18,12 +18,12 @@ use Rattle.simulator.specs.Round.{State, stateOf, leave, round, edited as edite
 use Rattle.net.specs.Net.{netNumber}
 use Rattle.simulator.specs.Calls.{roundTables, editNumber, editTables}
 use Rattle.quiet.proofs.Clauses.{netNumber-full, netNumber-net}
-use Rattle.quiet.proofs.Sound.{Sound, isNet-wiring}
-use Rattle.quiet.proofs.Held.{Held, Order, stored-order}
-use Rattle.quiet.proofs.Edited.{Editable, editNumber-full, editNumber-net, editNumber-editable}
+use Rattle.quiet.proofs.Sound.{isNet-wiring}
+use Rattle.quiet.proofs.Held.{Order, stored-order}
+use Rattle.quiet.proofs.Edited.{editNumber-full, editNumber-net, editNumber-editable}
 use Rattle.quiet.proofs.Left.{SameWiring, SameLengths, sameWiring-none, sameWiring-more, sameLengths-none, sameLengths-more, stateOf-leave, isNet-held}
 use Rattle.quiet.proofs.Kept.{edited-leaves, roundTables-wiring, editTables-wiring, roundTables-lengths, editTables-lengths, roundTables-net, editTables-net}
-use Rattle.quiet.proofs.Invariant.{clocked, Inv, round-inv, start-inv}
+use Rattle.quiet.proofs.Invariant.{Inv, round-inv, start-inv}
 use Rattle.quiet.proofs.EditInvariant.{edited-inv}
 
 -- A net as a load leaves it.
@@ -70,7 +70,8 @@ fresh-unbroken T f =
     (λ i h e. has-sound i (standingList T) (f .clocks i h e))
 
 -- A round of a net keeps it, its wires in any order.
-pub round-unbroken : (T : Tables) (ws : List Wire) → Order T ws → (ran : Bool) (t u : ℕ) → netNumber T ≡ 0 → Unbroken T ran t
+pub round-unbroken : (T : Tables) (ws : List Wire) → Order T ws → (ran : Bool) (t u : ℕ) → netNumber T ≡ 0
+    → Unbroken T ran t
     → Unbroken (leave T (round T ws u (stateOf T))) true u
 round-unbroken T ws o ran t u e a =
     let f = netNumber-full T e in
@@ -109,9 +110,11 @@ editTables-unbroken T ran t i v a = by-number (eqb (editNumber T i v) 0) refl
         let n = editNumber-net T i v e in
         let ok = editNumber-editable T i v e in
         leave-unbroken T ran t (editedState T i v (stateOf T))
-        (edited-inv T (isNet-wiring T f n) ran t i v (ok .exists) (stateOf T) (isNet-held T f n) a ok (edited-leaves T f n i v ok))
+        (edited-inv T (isNet-wiring T f n) ran t i v (ok .exists) (stateOf T) (isNet-held T f n) a ok
+        (edited-leaves T f n i v ok))
 
-    by-number : (b : Bool) → eqb (editNumber T i v) 0 ≡ b → Unbroken (cond b (leave T (editedState T i v (stateOf T))) T) ran t
+    by-number : (b : Bool) → eqb (editNumber T i v) 0 ≡ b
+        → Unbroken (cond b (leave T (editedState T i v (stateOf T))) T) ran t
     by-number true e = done (eqb-true (editNumber T i v) 0 e)
     by-number false e = a
 

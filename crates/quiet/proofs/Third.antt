@@ -1,6 +1,6 @@
 -- An edited component is evaluated no later than the third round after. docs/SPECIFICATION.md, "Rounds".
--- A round evaluates exactly what its current list names. A standing component that the round at hand does not evaluate is
--- left standing and followed, and a followed one is current in the next.
+-- A round evaluates what its current list names. A standing component that the round at hand does not evaluate stays
+-- standing, so the following list names it after, and what that list names the next round makes current.
 --   Edits T U   any edits lead from T to U, refused ones too
 -- Assumes nothing.
 use mathlib.Core.Path.{_≡_, refl, sym, ap, _∙_, subst}
@@ -9,9 +9,8 @@ use mathlib.Core.Bool.{Bool, true, false, cond, _||_}
 use mathlib.Core.List.{List, [], _∷_, foldl}
 use Prim.Native.Nat.{ℕ}
 use native.Mathlib.Decide.{ℕ-discrete}
-use borrow.Author.Tests.{eqb-true}
 use lib.Dec.{eqb}
-use Rattle.lists.specs.Lists.{has, appendNew, strike}
+use Rattle.lists.specs.Lists.{has, strike}
 use Rattle.lists.proofs.MembersLaws.{In, has-complete}
 use Rattle.lists.proofs.NamesLaws.{appendNew-has, appendNew-kept, strike-kept}
 use Rattle.primitive.specs.declared.kinds.Kind.the-variants.{Clock}
@@ -68,7 +67,8 @@ module _ (T : Tables) (x : ℕ) where
     visits-following [] s m = m
     visits-following (i ∷ xs) s m = visits-following xs (visit T ws t s i) (visit-following s i m)
 
-    visits-standing : (xs : List ℕ) (s : State) → In x (s .standing) → In x xs ⊎ In x (foldl (visit T ws t) s xs .standing)
+    visits-standing : (xs : List ℕ) (s : State) → In x (s .standing) → In x xs
+        ⊎ In x (foldl (visit T ws t) s xs .standing)
     visits-standing [] s m = inr m
     visits-standing (i ∷ xs) s m = by-name (ℕ-discrete x i) (λ k. visits-standing xs (visit T ws t s i) k)
       where
@@ -156,9 +156,10 @@ editTables-stands T i v e =
     = ap stateOf (editTables-done T i v e) ∙ stateOf-leave T (edited T i v (stateOf T)) in
     subst (λ (s : State). In i (s .standing)) (sym p) (appendNew-has i (standingList T))
 
--- After an edit of component i that is not refused, one of the next three rounds evaluates it: with U₁, U₂ and U₃ the tables on
--- which those rounds are called, the current list of one of them names i. Any edits may come before each of the rounds.
-pub edit-third : (T : Tables) (i v : ℕ) → editNumber T i v ≡ 0 → (t₁ t₂ : ℕ) {U₁ U₂ U₃ : Tables} → Edits (editTables T i v) U₁
+-- After an edit of component i that is not refused, one of the next three rounds evaluates it: with U₁, U₂ and U₃ the
+-- tables on which those rounds are called, the current list of one of them names i. Any edits may come before each.
+pub edit-third : (T : Tables) (i v : ℕ) → editNumber T i v ≡ 0 → (t₁ t₂ : ℕ) {U₁ U₂ U₃ : Tables}
+    → Edits (editTables T i v) U₁
     → Edits (roundTables U₁ t₁) U₂ → Edits (roundTables U₂ t₂) U₃
     → (has i (currentList U₁) || has i (currentList U₂) || has i (currentList U₃)) ≡ true
 edit-third T i v e t₁ t₂ {U₁} {U₂} {U₃} a b c = by-round (roundTables-standing U₁ i t₁ net₁ stands)
@@ -183,11 +184,13 @@ edit-third T i v e t₁ t₂ {U₁} {U₂} {U₃} a b c = by-round (roundTables-
     by-round : In i (currentList U₁) ⊎ In i (followingList (roundTables U₁ t₁))
         → (has i (currentList U₁) || has i (currentList U₂) || has i (currentList U₃)) ≡ true
     by-round (inl m) =
-        first (has i (currentList U₁)) (has i (currentList U₂)) (has i (currentList U₃)) (has-complete i (currentList U₁) m)
+        first (has i (currentList U₁)) (has i (currentList U₂)) (has i (currentList U₃))
+        (has-complete i (currentList U₁) m)
     by-round (inr m) =
         let f : In i (followingList U₂) = edits-following i (roundTables U₁ t₁) m b in
         let k : In i (currentList U₃) = edits-current i (roundTables U₂ t₂) (roundTables-following U₂ i t₂ net₂ f) c in
-        third (has i (currentList U₁)) (has i (currentList U₂)) (has i (currentList U₃)) (has-complete i (currentList U₃) k)
+        third (has i (currentList U₁)) (has i (currentList U₂)) (has i (currentList U₃))
+        (has-complete i (currentList U₃) k)
 
 -- With no edits between: the edit, then three rounds, the first two at any times.
 pub edit-evaluated : (T : Tables) (i v : ℕ) → editNumber T i v ≡ 0 → (t₁ t₂ : ℕ)
