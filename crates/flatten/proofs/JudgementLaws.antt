@@ -8,15 +8,16 @@ use mathlib.Core.Option.{Option, none, some}
 use Prim.Native.Nat.{ℕ, zero, suc, _+_, _-_, _/_, _%_, _≤_, _<_}
 use native.Mathlib.Nat.{sub-zero}
 use native.Mathlib.Omega.{arith}
-use borrow.Author.Tests.{not-true, not-false, leb-true}
-use lib.Dec.{eqb, leb}
+use borrow.Author.Tests.{not-true, not-false, ltb-true, leb-true}
+use lib.Dec.{eqb, ltb, leb}
 use lib.ListN.{length, getD, drop}
 use lib.Seq.{drop-cons}
-use Rattle.lists.specs.Lists.{from, first}
-use Rattle.lists.proofs.ListsLaws.{and-right, first-here, first-next, first-none}
+use Rattle.lists.specs.Lists.{from, every, first}
+use Rattle.lists.proofs.ListsLaws.{and-left, and-right, first-here, first-next, first-none}
+use Rattle.primitive.specs.declared.answers.Refusal.{Refusal}
 use Rattle.component.specs.declared.Record.{Record}
 use Rattle.component.specs.declared.Verdict.{Verdict}
-use Rattle.component.specs.declared.Verdict.the-variants.{Accepted}
+use Rattle.component.specs.declared.Verdict.the-variants.{Accepted, Refused}
 use Rattle.component.specs.Record.{recordAt}
 use Rattle.flatten.specs.declared.judgement.Found.{Found}
 use Rattle.flatten.specs.declared.judgement.Found.the-variants.{At, Nowhere}
@@ -138,3 +139,37 @@ module _ (s : List ℕ) (b : Bool) (e : b ≡ sized s) where
   pub verdict-judged : (v : Verdict) → not b ≡ false → v ≡ judged (length s / 24) (checks (recordAt s) (length s / 24)) → v ≡ verdict s
   unfolding verdict
   verdict-judged v h d = d ∙ rw (← e, not-false b h)
+
+-- A refusal's number is at most 15, and its position is below 1,024.
+judged-bound : (n : ℕ) (cs : List Check) (r : Refusal) → every (λ (c : Check). ltb (c .number) 16) cs ≡ true → judged n cs ≡ Refused r
+    → (r .number < 16) × (r .position < n)
+judged-bound n [] r h e = let z : _≡_ {A = ℕ} 0 1 = cc in absurd (omega arith)
+judged-bound n (c ∷ cs) r h e =
+    by-find (first (c .fails) (from 0 n)) refl e
+    (judged-bound n cs r (and-right (ltb (c .number) 16) (every (λ (x : Check). ltb (x .number) 16) cs) h))
+  where
+    by-find : (x : Option ℕ) → first (c .fails) (from 0 n) ≡ x → said (c .number) x (judged n cs) ≡ Refused r
+        → (judged n cs ≡ Refused r → (r .number < 16) × (r .position < n)) → (r .number < 16) × (r .position < n)
+    by-find (some p) u d later =
+        let z : record { number = c .number; position = p } ≡ r = cc in
+        let y : c .number ≡ r .number = ap (λ (x : Refusal). x .number) z in
+        let w : p ≡ r .position = ap (λ (x : Refusal). x .position) z in
+        let l : c .number < 16 = ltb-true (c .number) 16 (and-left (ltb (c .number) 16) (every (λ (x : Check). ltb (x .number) 16) cs) h) in
+        (omega arith, omega (arith, first-below (c .fails) 0 n p u))
+    by-find none u d later = later d
+
+pub verdict-bound : (s : List ℕ) (r : Refusal) → verdict s ≡ Refused r → (r .number < 16) × (r .position < 1024)
+unfolding verdict
+verdict-bound s r e = by-size (sized s) refl e
+  where
+    by-size : (b : Bool) → b ≡ sized s
+        → cond b (judged (length s / 24) (checks (recordAt s) (length s / 24))) (refused 1 0) ≡ Refused r
+        → (r .number < 16) × (r .position < 1024)
+    by-size true h d =
+        let z = judged-bound (length s / 24) (checks (recordAt s) (length s / 24)) r refl d in
+        (z .0, omega (arith, z .1, sized-most s true h refl))
+    by-size false h d =
+        let z : record { number = 1; position = 0 } ≡ r = cc in
+        let y : 1 ≡ r .number = ap (λ (x : Refusal). x .number) z in
+        let w : 0 ≡ r .position = ap (λ (x : Refusal). x .position) z in
+        (omega arith, omega arith)

@@ -28,44 +28,47 @@ abbrev source-of-below : ℕ → In 3 source-of-kinds.ps
 source-of-below t =
     and 3 source-of-kinds.ps (falls 3 source-of-kinds.ps _<_ μ-source-of t) source-of.Pre
 
-source-of-returns : (t : ℕ) → source-of-lts.Need-returns (record-at-reads.Asked, record-at-reads.Learnt, is-primitive-reads.Asked, is-primitive-reads.Learnt, out-map-of-reads.Asked, out-map-of-reads.Learnt, from-of-reads.Asked, from-of-reads.Learnt, child-of-reads.Asked, child-of-reads.Learnt, output-of-reads.Asked, output-of-reads.Learnt, source-of-below t, source-of.Post) (source-of-at t) source-of.Post
+abbrev source-of-claims : ℕ → source-of-lts.Claims
+source-of-claims t = (record-at-reads.Asked, record-at-reads.Learnt, is-primitive-reads.Asked, is-primitive-reads.Learnt, out-map-of-reads.Asked, out-map-of-reads.Learnt, from-of-reads.Asked, from-of-reads.Learnt, child-of-reads.Asked, child-of-reads.Learnt, output-of-reads.Asked, output-of-reads.Learnt, source-of-below t, source-of.Post)
+
+source-of-returns : (t : ℕ) → source-of-lts.Need-returns (source-of-claims t) (source-of-at t) source-of.Post
 source-of-returns t c = search (source-bottom)
 
-source-of-record-at-requires : (t : ℕ) → source-of-lts.Need-record-at-requires (record-at-reads.Asked, record-at-reads.Learnt, is-primitive-reads.Asked, is-primitive-reads.Learnt, out-map-of-reads.Asked, out-map-of-reads.Learnt, from-of-reads.Asked, from-of-reads.Learnt, child-of-reads.Asked, child-of-reads.Learnt, output-of-reads.Asked, output-of-reads.Learnt, source-of-below t, source-of.Post) (source-of-at t) source-of.Post
+source-of-record-at-requires : (t : ℕ) → source-of-lts.Need-record-at-requires (source-of-claims t) (source-of-at t) source-of.Post
 source-of-record-at-requires t c κs = search needs
 
-source-of-is-primitive-requires : (t : ℕ) → source-of-lts.Need-is-primitive-requires (record-at-reads.Asked, record-at-reads.Learnt, is-primitive-reads.Asked, is-primitive-reads.Learnt, out-map-of-reads.Asked, out-map-of-reads.Learnt, from-of-reads.Asked, from-of-reads.Learnt, child-of-reads.Asked, child-of-reads.Learnt, output-of-reads.Asked, output-of-reads.Learnt, source-of-below t, source-of.Post) (source-of-at t) source-of.Post
+source-of-is-primitive-requires : (t : ℕ) → source-of-lts.Need-is-primitive-requires (source-of-claims t) (source-of-at t) source-of.Post
 source-of-is-primitive-requires t c κs = search needs
 
-source-of-returns-2 : (t : ℕ) → source-of-lts.Need-returns-2 (record-at-reads.Asked, record-at-reads.Learnt, is-primitive-reads.Asked, is-primitive-reads.Learnt, out-map-of-reads.Asked, out-map-of-reads.Learnt, from-of-reads.Asked, from-of-reads.Learnt, child-of-reads.Asked, child-of-reads.Learnt, output-of-reads.Asked, output-of-reads.Learnt, source-of-below t, source-of.Post) (source-of-at t) source-of.Post
+source-of-returns-2 : (t : ℕ) → source-of-lts.Need-returns-2 (source-of-claims t) (source-of-at t) source-of.Post
 source-of-returns-2 t c = search (source-here)
 
-source-of-out-map-of-requires : (t : ℕ) → source-of-lts.Need-out-map-of-requires (record-at-reads.Asked, record-at-reads.Learnt, is-primitive-reads.Asked, is-primitive-reads.Learnt, out-map-of-reads.Asked, out-map-of-reads.Learnt, from-of-reads.Asked, from-of-reads.Learnt, child-of-reads.Asked, child-of-reads.Learnt, output-of-reads.Asked, output-of-reads.Learnt, source-of-below t, source-of.Post) (source-of-at t) source-of.Post
+source-of-out-map-of-requires : (t : ℕ) → source-of-lts.Need-out-map-of-requires (source-of-claims t) (source-of-at t) source-of.Post
 source-of-out-map-of-requires t c κs = search needs
 
-source-of-record-at-requires-2 : (t : ℕ) → source-of-lts.Need-record-at-requires-2 (record-at-reads.Asked, record-at-reads.Learnt, is-primitive-reads.Asked, is-primitive-reads.Learnt, out-map-of-reads.Asked, out-map-of-reads.Learnt, from-of-reads.Asked, from-of-reads.Learnt, child-of-reads.Asked, child-of-reads.Learnt, output-of-reads.Asked, output-of-reads.Learnt, source-of-below t, source-of.Post) (source-of-at t) source-of.Post
+source-of-record-at-requires-2 : (t : ℕ) → source-of-lts.Need-record-at-requires-2 (source-of-claims t) (source-of-at t) source-of.Post
 source-of-record-at-requires-2 t c κs = search needs
 
-source-of-from-of-requires : (t : ℕ) → source-of-lts.Need-from-of-requires (record-at-reads.Asked, record-at-reads.Learnt, is-primitive-reads.Asked, is-primitive-reads.Learnt, out-map-of-reads.Asked, out-map-of-reads.Learnt, from-of-reads.Asked, from-of-reads.Learnt, child-of-reads.Asked, child-of-reads.Learnt, output-of-reads.Asked, output-of-reads.Learnt, source-of-below t, source-of.Post) (source-of-at t) source-of.Post
+source-of-from-of-requires : (t : ℕ) → source-of-lts.Need-from-of-requires (source-of-claims t) (source-of-at t) source-of.Post
 source-of-from-of-requires t c κs = search needs
 
-source-of-child-of-requires : (t : ℕ) → source-of-lts.Need-child-of-requires (record-at-reads.Asked, record-at-reads.Learnt, is-primitive-reads.Asked, is-primitive-reads.Learnt, out-map-of-reads.Asked, out-map-of-reads.Learnt, from-of-reads.Asked, from-of-reads.Learnt, child-of-reads.Asked, child-of-reads.Learnt, output-of-reads.Asked, output-of-reads.Learnt, source-of-below t, source-of.Post) (source-of-at t) source-of.Post
+source-of-child-of-requires : (t : ℕ) → source-of-lts.Need-child-of-requires (source-of-claims t) (source-of-at t) source-of.Post
 source-of-child-of-requires t c κs = search needs
 
-source-of-sub-source-of : (t : ℕ) → source-of-lts.Need-sub-source-of (record-at-reads.Asked, record-at-reads.Learnt, is-primitive-reads.Asked, is-primitive-reads.Learnt, out-map-of-reads.Asked, out-map-of-reads.Learnt, from-of-reads.Asked, from-of-reads.Learnt, child-of-reads.Asked, child-of-reads.Learnt, output-of-reads.Asked, output-of-reads.Learnt, source-of-below t, source-of.Post) (source-of-at t) source-of.Post
+source-of-sub-source-of : (t : ℕ) → source-of-lts.Need-sub-source-of (source-of-claims t) (source-of-at t) source-of.Post
 source-of-sub-source-of t c = search needs
 
-source-of-output-of-requires : (t : ℕ) → source-of-lts.Need-output-of-requires (record-at-reads.Asked, record-at-reads.Learnt, is-primitive-reads.Asked, is-primitive-reads.Learnt, out-map-of-reads.Asked, out-map-of-reads.Learnt, from-of-reads.Asked, from-of-reads.Learnt, child-of-reads.Asked, child-of-reads.Learnt, output-of-reads.Asked, output-of-reads.Learnt, source-of-below t, source-of.Post) (source-of-at t) source-of.Post
+source-of-output-of-requires : (t : ℕ) → source-of-lts.Need-output-of-requires (source-of-claims t) (source-of-at t) source-of.Post
 source-of-output-of-requires t c κs = search needs
 
-source-of-source-of-requires : (t : ℕ) → source-of-lts.Need-source-of-requires (record-at-reads.Asked, record-at-reads.Learnt, is-primitive-reads.Asked, is-primitive-reads.Learnt, out-map-of-reads.Asked, out-map-of-reads.Learnt, from-of-reads.Asked, from-of-reads.Learnt, child-of-reads.Asked, child-of-reads.Learnt, output-of-reads.Asked, output-of-reads.Learnt, source-of-below t, source-of.Post) (source-of-at t) source-of.Post
+source-of-source-of-requires : (t : ℕ) → source-of-lts.Need-source-of-requires (source-of-claims t) (source-of-at t) source-of.Post
 source-of-source-of-requires t c κs = (omega (arith, c .before .before .before .before .before .before .before .before .before .before .before .before .pre .0, c .before .before .before .before .before .before .before .before .if1 .left), c .before .before .before .before .before .before .before .before .before .before .before .before .pre .1)
 
-source-of-returns-3 : (t : ℕ) → source-of-lts.Need-returns-3 (record-at-reads.Asked, record-at-reads.Learnt, is-primitive-reads.Asked, is-primitive-reads.Learnt, out-map-of-reads.Asked, out-map-of-reads.Learnt, from-of-reads.Asked, from-of-reads.Learnt, child-of-reads.Asked, child-of-reads.Learnt, output-of-reads.Asked, output-of-reads.Learnt, source-of-below t, source-of.Post) (source-of-at t) source-of.Post
+source-of-returns-3 : (t : ℕ) → source-of-lts.Need-returns-3 (source-of-claims t) (source-of-at t) source-of.Post
 source-of-returns-3 t c = search (source-below)
 
 pub +source-of-spec : {M : Type 1} → statement M
-+source-of-spec = close μ-source-of λ t. source-of-lts.spec (record-at-reads.Asked, record-at-reads.Learnt, is-primitive-reads.Asked, is-primitive-reads.Learnt, out-map-of-reads.Asked, out-map-of-reads.Learnt, from-of-reads.Asked, from-of-reads.Learnt, child-of-reads.Asked, child-of-reads.Learnt, output-of-reads.Asked, output-of-reads.Learnt, source-of-below t, source-of.Post)
++source-of-spec = close μ-source-of λ t. source-of-lts.spec (source-of-claims t)
     (source-of-at t)
     source-of.Post
     (source-of-returns t)
