@@ -77,8 +77,8 @@ module _ (file : List ℕ) (T : Tables) (bytes : IsBytes file) (a : loadVerdict 
       let p = accepted-primitive file T a L (sameNet-refl L) i h in
       let x = p .number in
       let q : (is Const (fieldsOf (recordAt file x)) || is Clock (fieldsOf (recordAt file x))) ≡ true =
-          or-second (is Const (fieldsOf (recordAt file x))) (is Clock (fieldsOf (recordAt file x)))
-          (ap (is Clock) (sym (p .fields-are)) ∙ e) in
+      or-second (is Const (fieldsOf (recordAt file x))) (is Clock (fieldsOf (recordAt file x)))
+      (ap (is Clock) (sym (p .fields-are)) ∙ e) in
       ap (has i) (accepted-standing file T a)
       ∙ has-complete i (standingAtLoad (recordAt file) (recordCount file))
       (subst (λ (j : ℕ). In j (standingAtLoad (recordAt file) (recordCount file))) (p .flat-is)
@@ -154,7 +154,8 @@ module _ (file : List ℕ) (T₀ : Tables) (a : loadVerdict file T₀ ≡ Accept
 pub demand3 : Demand3
 demand3 file ran t T r =
     let f = reached-from file r in
-    let fresh = load-fresh file (f .lent) (f .bytes) (f .accepted) in
-    (since-net (loadTables file (f .lent)) fresh (f .since),
-    obeyed file (f .lent) (f .accepted) T (same-net (since-wiring (loadTables file (f .lent)) (f .since))) ran t
-    (since-obeyed (loadTables file (f .lent)) fresh (f .since)))
+    let fresh = load-fresh file (f .lent) (f .bytes) (f .accepted) in (
+      since-net (loadTables file (f .lent)) fresh (f .since),
+      obeyed file (f .lent) (f .accepted) T (same-net (since-wiring (loadTables file (f .lent)) (f .since))) ran t
+          (since-obeyed (loadTables file (f .lent)) fresh (f .since)),
+    )

@@ -34,3 +34,13 @@ pub(crate) fn numbered(out: &mut [u8], word: &[u8], number: u64, numbers: &[u64]
     let listed = text::put_numbers(out, counted, numbers);
     end(out, listed);
 }
+
+// A line of a word and two numbers.
+pub(crate) fn pair(out: &mut [u8], word: &[u8], first: u32, second: u32) {
+    let named = text::put_bytes(out, 0, word);
+    let blank = text::put(out, named, b' ');
+    let numbered = text::put_number(out, blank, first as u64);
+    let parted = text::put(out, numbered, b' ');
+    let ended = text::put_number(out, parted, second as u64);
+    end(out, ended);
+}

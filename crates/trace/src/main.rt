@@ -1,5 +1,6 @@
 // The trace program: reads commands from standard input and answers each with its lines on standard output, so that the engine
 // can be compared with the Rust, and every refusal tried, from outside. docs/TRACE.md has its language.
+mod files;
 mod input;
 mod kept;
 mod lines;
@@ -21,6 +22,7 @@ fn own(
     standing: &mut [u16],
     counts: &mut [u64],
     lent: &mut [u64],
+    file: &mut [u8],
     out: &mut [u8],
 ) -> bool {
     if letter == b'N' {
@@ -61,6 +63,9 @@ fn own(
     if letter == b'Z' {
         return kept::lend_less(lent);
     }
+    if letter == b'J' {
+        return files::judge_file(file, out);
+    }
     if letter == b'X' {
         return single::evaluate_one(out);
     }
@@ -78,6 +83,7 @@ fn command(
     standing: &mut [u16],
     counts: &mut [u64],
     lent: &mut [u64],
+    file: &mut [u8],
     out: &mut [u8],
 ) -> bool {
     let mut letter = [0u8; 1];
@@ -96,6 +102,7 @@ fn command(
         standing,
         counts,
         lent,
+        file,
         out,
     ) {
         return true;
@@ -115,6 +122,7 @@ fn commands(
     standing: &mut [u16],
     counts: &mut [u64],
     lent: &mut [u64],
+    file: &mut [u8],
     out: &mut [u8],
 ) {
     let mut left = COMMANDS;
@@ -129,6 +137,7 @@ fn commands(
             standing,
             counts,
             lent,
+            file,
             out,
         )
     {
@@ -146,6 +155,7 @@ fn main() {
     let mut standing = [7u16; 256];
     let mut counts = [0u64; 7];
     let mut lent = [65535u64; 8];
+    let mut file = [0u8; 30000];
     let mut out = io::large_buffer();
     commands(
         &mut components,
@@ -157,6 +167,7 @@ fn main() {
         &mut standing,
         &mut counts,
         &mut lent,
+        &mut file,
         &mut out,
     );
 }

@@ -8,11 +8,11 @@ use Rattle.trace.proofs.commands.Lts as lts
 use Rattle.trace.proofs.command.Reads as command-reads
 
 abbrev Inv-loop : tie.InvT-loop
-Inv-loop components₀ inputs₀ outputs₀ wires₀ current₀ following₀ standing₀ counts₀ lent₀ out₀ left₀ components inputs outputs wires current following standing counts lent out left =
-    (length components ≡ length components₀) × (length inputs ≡ length inputs₀) × (length outputs ≡ length outputs₀) × (length wires ≡ length wires₀) × (length current ≡ length current₀) × (length following ≡ length following₀) × (length standing ≡ length standing₀) × (length counts ≡ length counts₀) × (length lent ≡ length lent₀) × (length out ≡ length out₀)
+Inv-loop components₀ inputs₀ outputs₀ wires₀ current₀ following₀ standing₀ counts₀ lent₀ file₀ out₀ left₀ components inputs outputs wires current following standing counts lent file out left =
+    (length components ≡ length components₀) × (length inputs ≡ length inputs₀) × (length outputs ≡ length outputs₀) × (length wires ≡ length wires₀) × (length current ≡ length current₀) × (length following ≡ length following₀) × (length standing ≡ length standing₀) × (length counts ≡ length counts₀) × (length lent ≡ length lent₀) × (length file ≡ length file₀) × (length out ≡ length out₀)
 
 abbrev μ-loop : tie.MeasureT-loop
-μ-loop components₀ inputs₀ outputs₀ wires₀ current₀ following₀ standing₀ counts₀ lent₀ out₀ left₀ components inputs outputs wires current following standing counts lent out left =
+μ-loop components₀ inputs₀ outputs₀ wires₀ current₀ following₀ standing₀ counts₀ lent₀ file₀ out₀ left₀ components inputs outputs wires current following standing counts lent file out left =
     left
 
 loop-holds : tie.Need-loop-holds Inv-loop μ-loop
@@ -60,11 +60,11 @@ same-length-9 c = search needs
 same-length-10 : tie.Need-same-length-10 Inv-loop μ-loop
 same-length-10 c = search needs
 
-returns : tie.Need-returns Inv-loop μ-loop
-returns c = search needs
-
 same-length-11 : tie.Need-same-length-11 Inv-loop μ-loop
 same-length-11 c = search needs
+
+returns : tie.Need-returns Inv-loop μ-loop
+returns c = search needs
 
 same-length-12 : tie.Need-same-length-12 Inv-loop μ-loop
 same-length-12 c = search needs
@@ -93,6 +93,12 @@ same-length-19 c = search needs
 same-length-20 : tie.Need-same-length-20 Inv-loop μ-loop
 same-length-20 c = search needs
 
+same-length-21 : tie.Need-same-length-21 Inv-loop μ-loop
+same-length-21 c = search needs
+
+same-length-22 : tie.Need-same-length-22 Inv-loop μ-loop
+same-length-22 c = search needs
+
 returns-2 : tie.Need-returns-2 Inv-loop μ-loop
 returns-2 c = search needs
 
@@ -117,8 +123,8 @@ commands-spec =
     same-length-8
     same-length-9
     same-length-10
-    returns
     same-length-11
+    returns
     same-length-12
     same-length-13
     same-length-14
@@ -128,4 +134,6 @@ commands-spec =
     same-length-18
     same-length-19
     same-length-20
+    same-length-21
+    same-length-22
     returns-2)
