@@ -35,12 +35,21 @@ pub(crate) fn numbered(out: &mut [u8], word: &[u8], number: u64, numbers: &[u64]
     end(out, listed);
 }
 
-// A line of a word and two numbers.
-pub(crate) fn pair(out: &mut [u8], word: &[u8], first: u32, second: u32) {
+// A line of a word, the number given back, and a number.
+pub(crate) fn pair(out: &mut [u8], word: &[u8], number: u32, second: u64) {
+    numbered(out, word, number as u64, &[second]);
+}
+
+// A line of a word, the number given back, and two numbers.
+pub(crate) fn triple(out: &mut [u8], word: &[u8], number: u32, second: u64, third: u64) {
+    numbered(out, word, number as u64, &[second, third]);
+}
+
+// A line of a word, the number given back, and a list.
+pub(crate) fn short_numbered(out: &mut [u8], word: &[u8], number: u32, list: &[u16]) {
     let named = text::put_bytes(out, 0, word);
     let blank = text::put(out, named, b' ');
-    let numbered = text::put_number(out, blank, first as u64);
-    let parted = text::put(out, numbered, b' ');
-    let ended = text::put_number(out, parted, second as u64);
-    end(out, ended);
+    let counted = text::put_number(out, blank, number as u64);
+    let listed = text::put_shorts(out, counted, list);
+    end(out, listed);
 }

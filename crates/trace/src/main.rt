@@ -1,8 +1,10 @@
 // The trace program: reads commands from standard input and answers each with its lines on standard output, so that the engine
 // can be compared with the Rust, and every refusal tried, from outside. docs/TRACE.md has its language.
+mod calls;
 mod files;
 mod input;
 mod kept;
+mod lent;
 mod lines;
 mod show;
 mod single;
@@ -10,8 +12,8 @@ mod single;
 // The most commands of one run.
 const COMMANDS: u64 = 4294967296;
 
-// The commands on the program's own tables; false where the letter names none, or the input ends inside the command.
-fn own(
+// Answers the command that a letter names; false where it names none, or the input ends inside the command.
+fn answer(
     letter: u8,
     components: &mut [u64],
     inputs: &mut [u64],
@@ -69,7 +71,9 @@ fn own(
     if letter == b'X' {
         return single::evaluate_one(out);
     }
-    false
+    lent::call(
+        letter, components, inputs, outputs, wires, current, following, standing, counts, lent, file, out,
+    )
 }
 
 // Reads a command and answers it; false at the end of the input, and after a command that is none.
@@ -91,7 +95,7 @@ fn command(
         return false;
     }
     let name = letter[0];
-    if own(
+    if answer(
         name,
         components,
         inputs,
