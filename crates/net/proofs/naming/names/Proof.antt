@@ -64,7 +64,7 @@ loop-again c =
     let l = c .before .before .before .before .loop in
     let e = c .before .before .entry .ensures in (
       omega arith,
-      length-set (l .seen) (c .before .before .entry .result) 1 ∙ l .inv .1,
+      simp length-set (l .inv .1),
       rw e
           (namingSlice-next (a .counts .components) (l .seen) (a .list .now) (l .i) (a .count) _ (omega arith) (l .inv .2) (omega arith)
           (omega (arith, e, c .before .if1 .left)) (omega (arith, e, c .before .if1 .left, l .inv .1, s .pre .0)) (rw e at (c .if2 .left))),

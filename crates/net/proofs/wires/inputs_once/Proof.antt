@@ -70,7 +70,7 @@ loop-again c =
     let l = c .before .before .before .loop in
     let e = c .before .place-of .ensures in (
       omega arith,
-      length-set (l .seen) (c .before .place-of .result) 1 ∙ l .inv .1,
+      simp length-set (l .inv .1),
       rw e
           (freshFrom-next (placeIn (a .components .now) (a .wires .now)) (l .seen) (l .k) (a .counts .wires) _ (l .inv .2) (omega arith)
           (omega (arith, e, l .inv .1, place-small (c .before))) (rw e at (c .if1 .left))),
