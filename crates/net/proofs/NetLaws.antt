@@ -1,5 +1,5 @@
--- What a net is, clause by clause: `isNet-sound` takes the test apart, `isNet-complete` puts it together, and a law for each
--- clause says what it gives of a component, a port, a wire or a list. Then the number of a call that checks 2 and 16.
+-- What a net is, clause by clause: `isNet-sound` takes the test apart, `isNet-complete` puts it together, and a law for
+-- each clause says what it gives of a component, a port, a wire or a list. Then the number of a call that checks 2 and 16.
 --   Net T      the tables T pass every clause
 -- Not here: laws of countsWithin, kindsObeyed and portsFollow (ClausesLaws).
 -- Assumes nothing.
@@ -46,7 +46,8 @@ pub record Net (T : Tables) : Type 0 where
 module _ (T : Tables) where
   abbrev after-counts : List Bool
   after-counts =
-      kindsObeyed T ∷ idsDistinct T ∷ portsFollow T ∷ valuesFit T ∷ constsHeld T ∷ wiresFit T ∷ inputsOnce T ∷ names T (currentList T)
+      kindsObeyed T ∷ idsDistinct T ∷ portsFollow T ∷ valuesFit T ∷ constsHeld T ∷ wiresFit T ∷ inputsOnce T
+      ∷ names T (currentList T)
       ∷ names T (followingList T) ∷ names T (standingList T) ∷ []
 
   pub isNet-sound : isNet T ≡ true → Net T
@@ -101,11 +102,13 @@ module _ (T : Tables) (e : valuesFit T ≡ true) (i : ℕ) (h : i < T .counts .c
       (every (λ x. below x (outputWidth (fieldsAt T i))) (outputsAt T (T .outputs) i)) fit-at
 
 -- "each Const's output is its value"
-pub constsHeld-at : (T : Tables) → constsHeld T ≡ true → (i : ℕ) → i < T .counts .components → is Const (fieldsAt T i) ≡ true
+pub constsHeld-at : (T : Tables) → constsHeld T ≡ true → (i : ℕ) → i < T .counts .components → is Const (fieldsAt T i)
+    ≡ true
     → getD (T .outputs) (firstOutput T i) 0 ≡ fieldsAt T i .parameter
 unfolding constsHeld
 constsHeld-at T e i h k =
-    let p : (not (is Const (fieldsAt T i)) || eqb (getD (T .outputs) (firstOutput T i) 0) (fieldsAt T i .parameter)) ≡ true =
+    let p : (not (is Const (fieldsAt T i)) || eqb (getD (T .outputs) (firstOutput T i) 0) (fieldsAt T i .parameter))
+    ≡ true =
     every-from (heldAt (T .components) (T .outputs)) (T .counts .components) e i h in
     eqb-true (getD (T .outputs) (firstOutput T i) 0) (fieldsAt T i .parameter) (rw k at p)
 
@@ -128,7 +131,8 @@ module _ (T : Tables) where
       ltb-true _ _ (and-right (ltb (t .comp) (T .counts .components)) (ltb (t .port) (fieldsAt T (t .comp) .inputs)) e)
 
   -- Of ports a and b of components i and j, where ports start at f and component i has g i of them.
-  place-inj : (f g : ℕ → ℕ) (n : ℕ) → ((i j : ℕ) → i < j → j < n → f i + g i ≤ f j) → (i j a b : ℕ) → i < n → j < n → a < g i
+  place-inj : (f g : ℕ → ℕ) (n : ℕ) → ((i j : ℕ) → i < j → j < n → f i + g i ≤ f j) → (i j a b : ℕ) → i < n → j < n
+      → a < g i
       → b < g j → f i + a ≡ f j + b → i ≡ j
   place-inj f g n apart i j a b hi hj ha hb e = by-order (decLt i j) (decLt j i)
     where
@@ -140,31 +144,38 @@ module _ (T : Tables) where
   module _ (e : portsFollow T ≡ true) (s t : Pin) where
     pub inputPlace-comp : isInput T s ≡ true → isInput T t ≡ true → inputPlace T s ≡ inputPlace T t → s .comp ≡ t .comp
     inputPlace-comp a b q =
-        place-inj (firstInput T) (λ i. fieldsAt T i .inputs) (T .counts .components) (portsFollow-inputsApart T e) (s .comp) (t .comp)
+        place-inj (firstInput T) (λ i. fieldsAt T i .inputs) (T .counts .components) (portsFollow-inputsApart T e)
+        (s .comp) (t .comp)
         (s .port) (t .port) (isInput-comp s a) (isInput-comp t b) (isInput-port s a) (isInput-port t b) q
 
     pub inputPlace-port : isInput T s ≡ true → isInput T t ≡ true → inputPlace T s ≡ inputPlace T t → s .port ≡ t .port
     inputPlace-port a b q = omega (arith, q, ap (firstInput T) (inputPlace-comp a b q))
 
-    pub outputPlace-comp : isOutput T s ≡ true → isOutput T t ≡ true → outputPlace T s ≡ outputPlace T t → s .comp ≡ t .comp
+    pub outputPlace-comp : isOutput T s ≡ true → isOutput T t ≡ true → outputPlace T s ≡ outputPlace T t → s .comp
+        ≡ t .comp
     outputPlace-comp a b q =
-        place-inj (firstOutput T) (λ i. fieldsAt T i .outputs) (T .counts .components) (portsFollow-outputsApart T e) (s .comp) (t .comp)
+        place-inj (firstOutput T) (λ i. fieldsAt T i .outputs) (T .counts .components) (portsFollow-outputsApart T e)
+        (s .comp) (t .comp)
         (s .port) (t .port) (isOutput-comp s a) (isOutput-comp t b) (isOutput-port s a) (isOutput-port t b) q
 
-    pub outputPlace-port : isOutput T s ≡ true → isOutput T t ≡ true → outputPlace T s ≡ outputPlace T t → s .port ≡ t .port
+    pub outputPlace-port : isOutput T s ≡ true → isOutput T t ≡ true → outputPlace T s ≡ outputPlace T t → s .port
+        ≡ t .port
     outputPlace-port a b q = omega (arith, q, ap (firstOutput T) (outputPlace-comp a b q))
 
 -- "wires have ends that exist and equal widths"
 module _ (T : Tables) (e : wiresFit T ≡ true) (w : Wire) (h : In w (wiresIn T)) where
   abbrev right : Wire → Bool
-  right w = isOutput T (w .src) && isInput T (w .dst) && eqb (outputWidth (fieldsAt T (w .src .comp))) (inputWidth (fieldsAt T (w .dst .comp)))
+  right w =
+      isOutput T (w .src) && isInput T (w .dst)
+      && eqb (outputWidth (fieldsAt T (w .src .comp))) (inputWidth (fieldsAt T (w .dst .comp)))
 
   wire-parts : AllTrue (isOutput T (w .src) ∷ isInput T (w .dst)
       ∷ eqb (outputWidth (fieldsAt T (w .src .comp))) (inputWidth (fieldsAt T (w .dst .comp))) ∷ [])
   unfolding wiresFit
   wire-parts =
       parts-sound (isOutput T (w .src)) (isInput T (w .dst)
-      ∷ eqb (outputWidth (fieldsAt T (w .src .comp))) (inputWidth (fieldsAt T (w .dst .comp))) ∷ []) (every-sound right w (wiresIn T) e h)
+      ∷ eqb (outputWidth (fieldsAt T (w .src .comp))) (inputWidth (fieldsAt T (w .dst .comp))) ∷ [])
+      (every-sound right w (wiresIn T) e h)
 
   pub wiresFit-source : isOutput T (w .src) ≡ true
   wiresFit-source = wire-parts .0
@@ -176,7 +187,8 @@ module _ (T : Tables) (e : wiresFit T ≡ true) (w : Wire) (h : In w (wiresIn T)
   wiresFit-widths = eqb-true _ _ (wire-parts .1 .1 .0)
 
 -- "no input has two wires"
-pub inputsOnce-sound : (T : Tables) → inputsOnce T ≡ true → Distinct (map (λ (w : Wire). inputPlace T (w .dst)) (wiresIn T))
+pub inputsOnce-sound : (T : Tables) → inputsOnce T ≡ true
+    → Distinct (map (λ (w : Wire). inputPlace T (w .dst)) (wiresIn T))
 unfolding inputsOnce
 inputsOnce-sound T e = distinct-sound (map (λ (w : Wire). inputPlace T (w .dst)) (wiresIn T)) e
 
@@ -187,7 +199,8 @@ module _ (T : Tables) (xs : List ℕ) (e : names T xs ≡ true) where
   names-parts = parts-sound (every (λ i. ltb i (T .counts .components)) xs) (distinct xs ∷ []) e
 
   pub names-existing : (i : ℕ) → In i xs → i < T .counts .components
-  names-existing i h = ltb-true i (T .counts .components) (every-sound (λ j. ltb j (T .counts .components)) i xs (names-parts .0) h)
+  names-existing i h =
+      ltb-true i (T .counts .components) (every-sound (λ j. ltb j (T .counts .components)) i xs (names-parts .0) h)
 
   pub names-distinct : Distinct xs
   names-distinct = distinct-sound xs (names-parts .1 .0)
@@ -211,14 +224,16 @@ module _ (T : Tables) where
   unfolding names
   names-lent xs = refl
 
-  pub net-circuit : isCircuit (lent (T .components) (T .inputs) (T .outputs) (T .wires) (T .counts)) ≡ false → false ≡ isNet T
+  pub net-circuit : isCircuit (lent (T .components) (T .inputs) (T .outputs) (T .wires) (T .counts)) ≡ false → false
+      ≡ isNet T
   unfolding isNet
   net-circuit e =
       let z : isCircuit T ≡ false = whole-lent ∙ e in
       rw z
 
   module _ (e : isCircuit (lent (T .components) (T .inputs) (T .outputs) (T .wires) (T .counts)) ≡ true) where
-    pub net-lists : (names (lent [] [] [] [] (T .counts)) (currentList T) && names (lent [] [] [] [] (T .counts)) (followingList T)
+    pub net-lists : (names (lent [] [] [] [] (T .counts)) (currentList T)
+        && names (lent [] [] [] [] (T .counts)) (followingList T)
         && names (lent [] [] [] [] (T .counts)) (standingList T)) ≡ isNet T
     unfolding isNet
     net-lists =
@@ -229,7 +244,8 @@ module _ (T : Tables) where
     circuit-within =
         countsWithin-sound (T .counts)
         (parts-sound (countsWithin (T .counts))
-        (kindsObeyed T ∷ idsDistinct T ∷ portsFollow T ∷ valuesFit T ∷ constsHeld T ∷ wiresFit T ∷ inputsOnce T ∷ []) (whole-lent ∙ e) .0)
+        (kindsObeyed T ∷ idsDistinct T ∷ portsFollow T ∷ valuesFit T ∷ constsHeld T ∷ wiresFit T ∷ inputsOnce T ∷ [])
+        (whole-lent ∙ e) .0)
 
 -- The number of a call: 2, 16, or 0 for a net of full size.
 module _ (T : Tables) where

@@ -1,4 +1,5 @@
--- Laws of a list that stands in a table and a count: looking through it, one entry more, one struck, and laid over another.
+-- Laws of a list that stands in a table and a count: looking through it, one entry more, one struck, and laid over
+-- another.
 -- Not here: laws of length, getD, take, drop and set (lib.ListN, lib.Seq).
 -- Assumes nothing.
 use mathlib.Core.Path.{_≡_, refl, sym, ap, _∙_, subst}

@@ -30,7 +30,13 @@ all-below-requires : tie.Need-all-below-requires
 all-below-requires c κs =
     let s = c .before .before .before .before .before .before .before .before .before in
     let f = c .before .before .before .before .before .fields-at in
-    omega (arith, s .pre .2, c .before .before .before .before .word-of .ensures, ap (λ (f : Fields). f .inputs) (f .ensures))
+    omega (
+      arith,
+      s .pre .2,
+      c .before .before .before .before .word-of .ensures,
+      ap (λ (f : Fields). f .inputs)
+          (f .ensures),
+    )
 
 cast-all-below-2 : tie.Need-cast-all-below-2
 cast-all-below-2 c = search needs
@@ -39,7 +45,13 @@ all-below-requires-2 : tie.Need-all-below-requires-2
 all-below-requires-2 c κs =
     let s = c .before .before .before .before .before .before .before .before .before .before .before in
     let f = c .before .before .before .before .before .before .before .fields-at in
-    omega (arith, s .pre .3, c .before .before .before .before .before .word-of2 .ensures, ap (λ (f : Fields). f .outputs) (f .ensures))
+    omega (
+      arith,
+      s .pre .3,
+      c .before .before .before .before .before .word-of2 .ensures,
+      ap
+          (λ (f : Fields). f .outputs) (f .ensures),
+    )
 
 returns : tie.Need-returns
 returns c =
