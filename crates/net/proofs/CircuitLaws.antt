@@ -1,10 +1,9 @@
 -- The tests of components, ports and wires together, each on the tables that it is handed: the outcome after each.
 -- Assumes nothing.
-use mathlib.Core.Path.{_≡_, refl, sym, _∙_}
-use mathlib.Core.Bool.{Bool, true, false, _&&_}
+use mathlib.Core.Path.{_≡_, refl, sym}
+use mathlib.Core.Bool.{true, false, _&&_}
 use mathlib.Core.List.{List, []}
 use Prim.Native.Nat.{ℕ}
-use Rattle.lists.proofs.ListsLaws.{and-left, and-right}
 use Rattle.tables.specs.declared.Counts.{Counts}
 use Rattle.tables.specs.Tables.{Tables}
 use Rattle.net.specs.Net.{countsWithin, lent, kindsObeyed, idsDistinct, portsFollow, valuesFit, constsHeld, wiresFit, inputsOnce, isCircuit}

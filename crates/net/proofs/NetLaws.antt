@@ -1,33 +1,33 @@
 -- What a net is, clause by clause: `isNet-sound` takes the test apart, `isNet-complete` puts it together, and a law for
--- each clause says what it gives of a component, a port, a wire or a list. Then the number of a call that checks 2 and 16.
+-- each clause says what it gives of a component, a port, a wire or a list. Then the number of a call: 2, 16 or 0.
 --   Net T      the tables T pass every clause
 -- Not here: laws of countsWithin, kindsObeyed and portsFollow (ClausesLaws).
 -- Assumes nothing.
-use mathlib.Core.Path.{_≡_, refl, sym, ap, _∙_, subst}
-use mathlib.Core.Bool.{Bool, true, false, not, _&&_, _||_, false≢true}
+use mathlib.Core.Path.{_≡_, refl, ap, _∙_}
+use mathlib.Core.Bool.{Bool, true, false, not, _&&_, _||_}
 use mathlib.Core.List.{List, [], _∷_, map}
-use mathlib.Core.Logic.{_⊎_, inl, inr, ⊎-elim}
-use Prim.Native.Nat.{ℕ, _+_, _*_, _≤_, _<_}
+use Prim.Native.Nat.{ℕ, _+_, _≤_, _<_}
 use native.Mathlib.Decide.{decLt}
 use native.Mathlib.Omega.{arith}
-use borrow.Author.Tests.{leb-true, ltb-true, eqb-true, not-false}
-use lib.ListN.{length, getD, take}
+use borrow.Author.Tests.{ltb-true, eqb-true, not-false}
+use lib.ListN.{length, getD}
+use lib.Seq.{length-slice}
 use lib.Dec.{eqb, ltb}
 use Rattle.lists.specs.Lists.{from, every, distinct}
 use Rattle.lists.proofs.ListsLaws.{and-left, and-right, every-from, refusal-first, refusal-rest}
-use Rattle.lists.proofs.MembersLaws.{In, Distinct, every-sound, distinct-sound, distinct-place, distinct-bound, from-length, from0-complete, in-getD, map-sound}
+use Rattle.lists.proofs.MembersLaws.{In, Distinct, every-sound, distinct-sound, distinct-bound, from-length, from0-complete}
 use Rattle.value.specs.Value.{below}
 use Rattle.primitive.specs.declared.kinds.Kind.the-variants.{Const}
 use Rattle.primitive.specs.Kinds.{is, inputWidth, outputWidth}
+use Rattle.primitive.specs.Evaluate.{Own}
 use Rattle.flatten.specs.declared.Pin.{Pin}
 use Rattle.flatten.specs.declared.Wire.{Wire}
-use Rattle.tables.specs.declared.Counts.{Counts}
-use Rattle.tables.specs.Tables.{Tables, fullSize, fieldsAt, idAt, firstInput, firstOutput, inputPlace, outputPlace, inputsAt, outputsAt, indexes, wiresIn, wireAt, currentList, followingList, standingList}
+use Rattle.tables.specs.Tables.{Tables, fullSize, fieldsAt, idAt, firstInput, firstOutput, inputPlace, outputPlace, inputsAt, outputsAt, indexes, wiresIn, currentList, followingList, standingList}
 use Rattle.tables.proofs.PartsLaws.{AllTrue, parts-sound, parts-complete}
 use Rattle.tables.proofs.SizesLaws.{Full, fullSize-sound}
 use Rattle.net.specs.Net.{countsWithin, lent, kindsObeyed, idsDistinct, portsFollow, valuesFit, constsHeld, isOutput, isInput, wiresFit, inputsOnce, names, isCircuit, isNet, netNumber}
 use Rattle.net.specs.Parts.{fitAt, heldAt}
-use Rattle.net.proofs.ClausesLaws.{Within, countsWithin-sound, portsFollow-inputsApart, portsFollow-outputsApart, portsFollow-inputs}
+use Rattle.net.proofs.ClausesLaws.{Within, countsWithin-sound, portsFollow-inputsApart, portsFollow-outputsApart, portsFollow-inputs, portsFollow-outputs, kindsObeyed-at}
 
 -- The clauses.
 pub record Net (T : Tables) : Type 0 where
@@ -71,7 +71,37 @@ module _ (T : Tables) where
   pub isNet-complete : Net T → isNet T ≡ true
   unfolding isNet
   isNet-complete w =
-      rw (w .counts, w .kinds, w .ids, w .ports, w .values, w .consts, w .wires, w .once, w .current, w .following, w .standing)
+      parts-complete (countsWithin (T .counts)) after-counts (
+        w .counts,
+        (
+          w .kinds,
+          (
+            w .ids,
+            (
+              w .ports,
+              (
+                w .values,
+                (
+                  w .consts,
+                  (
+                    w .wires,
+                    (
+                      w .once,
+                      (
+                        w .current,
+                        (
+                          w .following,
+                          (w .standing, tt),
+                        ),
+                      ),
+                    ),
+                  ),
+                ),
+              ),
+            ),
+          ),
+        ),
+      )
 
 -- "distinct ids"
 module _ (T : Tables) (e : idsDistinct T ≡ true) where
@@ -100,6 +130,19 @@ module _ (T : Tables) (e : valuesFit T ≡ true) (i : ℕ) (h : i < T .counts .c
   valuesFit-outputs =
       and-right (every (λ x. below x (inputWidth (fieldsAt T i))) (inputsAt T (T .inputs) i))
       (every (λ x. below x (outputWidth (fieldsAt T i))) (outputsAt T (T .outputs) i)) fit-at
+
+-- In tables of ports of full size, a component of a net has its own inputs and outputs and no others.
+pub net-own : (T : Tables) → Net T → (xs ys : List ℕ) → 1024 ≤ length xs → 1024 ≤ length ys → (i : ℕ)
+    → i < T .counts .components → Own (fieldsAt T i) (inputsAt T xs i) (outputsAt T ys i)
+net-own T w xs ys a b i h =
+    let few = countsWithin-sound (T .counts) (w .counts) in
+    let p : firstInput T i + fieldsAt T i .inputs ≤ length xs = omega (arith, portsFollow-inputs T (w .ports) i h) in
+    let q : firstOutput T i + fieldsAt T i .outputs ≤ length ys = omega (arith, portsFollow-outputs T (w .ports) i h) in
+    record {
+      obeyed = kindsObeyed-at T (w .kinds) i h;
+      all-inputs = length-slice (firstInput T i) (firstInput T i + fieldsAt T i .inputs) xs p ∙ omega arith;
+      all-outputs = length-slice (firstOutput T i) (firstOutput T i + fieldsAt T i .outputs) ys q ∙ omega arith;
+    }
 
 -- "each Const's output is its value"
 pub constsHeld-at : (T : Tables) → constsHeld T ≡ true → (i : ℕ) → i < T .counts .components → is Const (fieldsAt T i)

@@ -2,16 +2,15 @@
 -- Not here: a loop for one that does not pass a test (ListsLaws: every-fails, every-next, every-end).
 -- Assumes nothing.
 use mathlib.Core.Path.{_≡_, refl, sym, ap, _∙_}
-use mathlib.Core.Bool.{Bool, true, false, not, _&&_, _||_}
-use mathlib.Core.List.{List, [], _∷_, _++_, map}
-use Prim.Native.Nat.{ℕ, suc, _+_, _-_, _≤_, _<_}
+use mathlib.Core.Bool.{Bool, true, false, _&&_}
+use mathlib.Core.List.{List, [], _∷_, map}
+use Prim.Native.Nat.{ℕ, _+_, _-_, _≤_, _<_}
 use native.Mathlib.Nat.{sub-zero}
 use native.Mathlib.Numerals.{add-one}
 use native.Mathlib.Omega.{arith}
 use borrow.Author.Tests.{eq-eqb, ne-eqb}
 use lib.ListN.{length, getD}
 use lib.Seq.{slice, slice-cons, slice-empty}
-use lib.Dec.{eqb}
 use Rattle.lists.specs.Lists.{from, every, total, has, distinct}
 use Rattle.lists.proofs.ListsLaws.{from-step, from-end}
 use Rattle.lists.proofs.MembersLaws.{from-last, from-append, total-append}

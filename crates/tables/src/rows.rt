@@ -1,4 +1,4 @@
-// The fields of a component, out of its row in the table of components. Rule: docs/SPECIFICATION.md, "Numbers given back".
+// The fields of a component, out of its row in the table. Rule: docs/SPECIFICATION.md, "Numbers given back".
 // Words are compared whole, so a kind word of 263 is no Switch.
 ghost use mathlib.Core.Path.{_≡_};
 ghost use mathlib.Core.Bool.{true};

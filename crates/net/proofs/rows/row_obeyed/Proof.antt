@@ -2,7 +2,6 @@
 -- Assumes nothing.
 use borrow.Author.Tests.{not-true, not-false}
 use mathlib.Core.Path.{sym, _∙_}
-use native.Mathlib.Omega.{arith}
 use Rattle.tables.proofs.RowsLaws.{unfit-obeys}
 use borrow.Author.Needs.{needs}
 use Rattle.net.proofs.rows.row_obeyed.Statement.{statement}

@@ -8,7 +8,6 @@ use native.Mathlib.Omega.{arith}
 use lib.Seq.{slice}
 use Rattle.lists.specs.Lists.{every}
 use Rattle.value.specs.Value.{below}
-use Rattle.tables.specs.Tables.{numbers}
 use Rattle.net.proofs.StepsLaws.{everySlice-fails, everySlice-next, everySlice-end}
 use borrow.Author.Needs.{needs}
 use Rattle.net.proofs.values.all_below.Statement.{statement}

@@ -1,7 +1,6 @@
 -- `row_fits`: the numbers of its ports, each side against its width.
 -- Assumes nothing.
-use mathlib.Core.Path.{_≡_, ap, _∙_}
-use Prim.Native.Nat.{ℕ}
+use mathlib.Core.Path.{ap}
 use native.Mathlib.Omega.{arith}
 use Rattle.primitive.specs.declared.table.Fields.{Fields}
 use borrow.Author.Needs.{needs}

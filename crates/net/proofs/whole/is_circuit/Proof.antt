@@ -5,8 +5,7 @@ use Rattle.tables.specs.Tables.{Tables}
 use borrow.Author.Tests.{not-true, not-false}
 use mathlib.Core.Path.{_≡_, sym, _∙_}
 use mathlib.Core.List.{[]}
-use native.Mathlib.Omega.{arith}
-use Rattle.lists.proofs.ListsLaws.{and-left, and-right}
+use Rattle.lists.proofs.ListsLaws.{and-right}
 use Rattle.net.specs.Net.{lent, countsWithin, kindsObeyed, idsDistinct, portsFollow, valuesFit, constsHeld, wiresFit}
 use Rattle.net.proofs.ClausesLaws.{countsWithin-sound, portsInside, placesInside}
 use Rattle.net.proofs.CircuitLaws.{circuit-counts, circuit-kinds, circuit-rows, circuit-ports, circuit-once}

@@ -9,7 +9,6 @@ use Rattle.tables.proofs.SizesLaws.{Full, fullSize-sound}
 use Rattle.net.specs.Net.{lent, isCircuit}
 use Rattle.net.proofs.ClausesLaws.{Within}
 use Rattle.net.proofs.NetLaws.{net-circuit, net-lists, circuit-within}
-use borrow.Author.Needs.{needs}
 use Rattle.net.proofs.whole.is_net.Statement.{statement}
 use Rattle.net.proofs.whole.is_net.Tie as tie
 

@@ -1,7 +1,7 @@
 -- `place_of`: the sum is that of the definition, and small.
 -- Assumes nothing.
 use native.Mathlib.Omega.{arith}
-use mathlib.Core.Path.{_≡_, ap, _∙_}
+use mathlib.Core.Path.{ap, _∙_}
 use Prim.Native.Nat.{ℕ}
 use Rattle.tables.specs.Tables.{wordIn}
 use borrow.Author.Needs.{needs}
