@@ -14,8 +14,8 @@
  *   0  accepted
  *   1  the file is empty, or no multiple of 24 bytes long, or has more than 1,024 records (position 0)
  *   3  a record of no kind 1 to 4, or one with a number in a field that its kind leaves at 0
- *   4  the first record is no component; or a record's kind is below the one before; or, among equal kinds 2 to 4, its owner is
- *   5  an owner that is not 0 for the root, no composite, or no composite that holds the component before
+ *   4  the first record is no component; or a record's kind, or among equal kinds 2 to 4 its owner, is below the one before
+ *   5  the root's owner is not 0; or an owner is no composite; or a component's owner neither is the component before nor holds it
  *   6  a component past number 255, or deeper than 16 (the root's depth is 1)
  *   7  component kind 14
  *   8  component kind 15 to 255

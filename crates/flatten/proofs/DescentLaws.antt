@@ -227,7 +227,11 @@ module _ (s : List ℕ) (n : ℕ) where
 
   -- the stretch of the index, and all positions
   pub stretch-index : (lo hi : List ℕ) (c : ℕ) → IsRange s n lo hi → c < 256 → IsStretch (recordAt s) n c (getD lo c 0) (getD hi c 0)
-  stretch-index lo hi c h l = record { within = h .within c l; least = λ q u o. h .least q c u l o; most = λ q u o. h .most q c u l o }
+  stretch-index lo hi c h l = record {
+    within = h .within c l;
+    least = λ q u o. h .least q c u l o;
+    most = λ q u o. h .most q c u l o;
+  }
 
   pub stretch-all : (c : ℕ) → IsStretch (recordAt s) n c 0 n
   stretch-all c = record { within = omega arith; least = λ q u o. omega arith; most = λ q u o. u }

@@ -17,7 +17,7 @@ use component::out_map_of;
 use component::output_of;
 use component::record_at;
 
-// Where an input map leads from an input of its composite: to an input of a child, or nowhere, as it is another input's map or none.
+// Where a record leads from an input of a composite: to an input of a child, if it is one of that input's maps, or nowhere.
 pub enum Entered {
     To(usize, u16),
     Nothing,

@@ -1,4 +1,4 @@
--- `berxundar_judge`: a refusal's number and position are small enough for the sum.
+-- `berxundar_judge`: the judgement, spoken; a refusal's number and position are small enough for the sum.
 -- Assumes nothing.
 use mathlib.Core.Path.{sym, ap, _∙_}
 use native.Mathlib.Omega.{arith}
@@ -18,10 +18,16 @@ enum-known-refusal : tie.Need-enum-known-refusal
 enum-known-refusal c = search needs
 
 mul-result : tie.Need-mul-result
-mul-result c = omega (arith, verdict-bound (c .before .before .before .before .before .before .args .file .now) (c .before .before .refusal .given .0 .0) (sym (c .before .before .before .before .judge .ensures) ∙ c .before .before .refusal .given .1))
+mul-result c =
+    let r = c .before .before in
+    let j = r .before .before in
+    omega (arith, verdict-bound (j .before .before .args .file .now) (r .refusal .given .0 .0) (sym (j .judge .ensures) ∙ r .refusal .given .1))
 
 add-result : tie.Need-add-result
-add-result c = omega (arith, verdict-bound (c .before .before .before .before .before .before .before .args .file .now) (c .before .before .before .refusal .given .0 .0) (sym (c .before .before .before .before .before .judge .ensures) ∙ c .before .before .before .refusal .given .1))
+add-result c =
+    let r = c .before .before .before in
+    let j = r .before .before in
+    omega (arith, verdict-bound (j .before .before .args .file .now) (r .refusal .given .0 .0) (sym (j .judge .ensures) ∙ r .refusal .given .1))
 
 returns : tie.Need-returns
 returns c = ap spoken (sym (c .enum-told .given .1) ∙ c .before .before .judge .ensures)

@@ -36,7 +36,20 @@ abbrev differs-below : ℕ → In 4 differs-kinds.ps
 differs-below t = and 4 differs-kinds.ps (falls 4 differs-kinds.ps _<_ μ-differs t) differs.Pre
 
 abbrev differs-claims : ℕ → differs-lts.Claims
-differs-claims t = (record-at-reads.Asked, record-at-reads.Learnt, is-primitive-reads.Asked, is-primitive-reads.Learnt, input-width-of-reads.Asked, input-width-of-reads.Learnt, stretch-of-reads.Asked, stretch-of-reads.Learnt, enter-reads.Asked, enter-reads.Learnt, differs-below t, differs.Post)
+differs-claims t = (
+  record-at-reads.Asked,
+  record-at-reads.Learnt,
+  is-primitive-reads.Asked,
+  is-primitive-reads.Learnt,
+  input-width-of-reads.Asked,
+  input-width-of-reads.Learnt,
+  stretch-of-reads.Asked,
+  stretch-of-reads.Learnt,
+  enter-reads.Asked,
+  enter-reads.Learnt,
+  differs-below t,
+  differs.Post,
+)
 
 abbrev differs-Inv-loop : differs-lts.InvT-loop
 differs-Inv-loop file n children lo hi depth c i width end q₀ q =
@@ -77,7 +90,10 @@ differs-sub-differs : (t : ℕ) → differs-lts.Need-sub-differs (differs-claims
 differs-sub-differs t c = search needs
 
 differs-differs-requires : (t : ℕ) → differs-lts.Need-differs-requires (differs-claims t) (differs-at t) differs.Post differs-Inv-loop differs-μ-loop
-differs-differs-requires t c κs = (omega (arith, c .before .before .before .before .before .before .before .before .before .before .before .before .before .before .before .pre .0, c .before .before .before .before .before .before .before .before .before .before .if1 .left), c .before .before .before .before .before .before .before .before .before .before .before .before .before .before .before .pre .1)
+differs-differs-requires t c κs =
+    let e = c .before .before .before .before .before .before .before .before .before .before in
+    let s = e .before .before .before .before .before in
+    (omega (arith, s .pre .0, e .if1 .left), s .pre .1)
 
 differs-returns-3 : (t : ℕ) → differs-lts.Need-returns-3 (differs-claims t) (differs-at t) differs.Post differs-Inv-loop differs-μ-loop
 differs-returns-3 t c = search (differs-found)

@@ -29,7 +29,22 @@ source-of-below t =
     and 3 source-of-kinds.ps (falls 3 source-of-kinds.ps _<_ μ-source-of t) source-of.Pre
 
 abbrev source-of-claims : ℕ → source-of-lts.Claims
-source-of-claims t = (record-at-reads.Asked, record-at-reads.Learnt, is-primitive-reads.Asked, is-primitive-reads.Learnt, out-map-of-reads.Asked, out-map-of-reads.Learnt, from-of-reads.Asked, from-of-reads.Learnt, child-of-reads.Asked, child-of-reads.Learnt, output-of-reads.Asked, output-of-reads.Learnt, source-of-below t, source-of.Post)
+source-of-claims t = (
+  record-at-reads.Asked,
+  record-at-reads.Learnt,
+  is-primitive-reads.Asked,
+  is-primitive-reads.Learnt,
+  out-map-of-reads.Asked,
+  out-map-of-reads.Learnt,
+  from-of-reads.Asked,
+  from-of-reads.Learnt,
+  child-of-reads.Asked,
+  child-of-reads.Learnt,
+  output-of-reads.Asked,
+  output-of-reads.Learnt,
+  source-of-below t,
+  source-of.Post,
+)
 
 source-of-returns : (t : ℕ) → source-of-lts.Need-returns (source-of-claims t) (source-of-at t) source-of.Post
 source-of-returns t c = search (source-bottom)
@@ -62,7 +77,10 @@ source-of-output-of-requires : (t : ℕ) → source-of-lts.Need-output-of-requir
 source-of-output-of-requires t c κs = search needs
 
 source-of-source-of-requires : (t : ℕ) → source-of-lts.Need-source-of-requires (source-of-claims t) (source-of-at t) source-of.Post
-source-of-source-of-requires t c κs = (omega (arith, c .before .before .before .before .before .before .before .before .before .before .before .before .pre .0, c .before .before .before .before .before .before .before .before .if1 .left), c .before .before .before .before .before .before .before .before .before .before .before .before .pre .1)
+source-of-source-of-requires t c κs =
+    let e = c .before .before .before .before .before .before .before .before in
+    let s = e .before .before .before .before in
+    (omega (arith, s .pre .0, e .if1 .left), s .pre .1)
 
 source-of-returns-3 : (t : ℕ) → source-of-lts.Need-returns-3 (source-of-claims t) (source-of-at t) source-of.Post
 source-of-returns-3 t c = search (source-below)

@@ -99,9 +99,11 @@ unfolding failsBy
 returns-13 c =
     let r = c .before .match .rest in
     let s = c .before .before .before .before .before .before .before in
+    let r8 = r .0 .0 .0 .0 .0 .0 in
     let e : s .args .k ≡ 15 =
     number-last (s .args .k) (s .pre .1 .1 .1 .0) (s .pre .1 .1 .1 .1)
-    (r .0 .0 .0 .0 .0 .0 .0 .0 .0 .0 .0 .1) (r .0 .0 .0 .0 .0 .0 .0 .0 .0 .0 .1) (r .0 .0 .0 .0 .0 .0 .0 .0 .0 .1) (r .0 .0 .0 .0 .0 .0 .0 .0 .1) (r .0 .0 .0 .0 .0 .0 .0 .1) (r .0 .0 .0 .0 .0 .0 .1) (r .0 .0 .0 .0 .0 .1) (r .0 .0 .0 .0 .1) (r .0 .0 .0 .1) (r .0 .0 .1) (r .0 .1) (r .1) in
+    (r8 .0 .0 .0 .0 .0 .1) (r8 .0 .0 .0 .0 .1) (r8 .0 .0 .0 .1) (r8 .0 .0 .1) (r8 .0 .1) (r8 .1)
+    (r .0 .0 .0 .0 .0 .1) (r .0 .0 .0 .0 .1) (r .0 .0 .0 .1) (r .0 .0 .1) (r .0 .1) (r .1) in
     rw e (c .check15 .ensures)
 
 pub fails-spec : {M : Type 1} → statement M

@@ -47,7 +47,8 @@ slice-aggregate-judge-records-4 c = search needs
 judge-records-requires : tie.Need-judge-records-requires
 judge-records-requires c κs =
     let r = c .before .before .before .before .before .before in
-    (r .before .before .before .before .before .before .before .index-children .ensures, (r .before .before .before .before .index-outs .ensures, (r .index-ranges .ensures, search (sized-most))))
+    let o = r .before .before .before .before in
+    (o .before .before .before .index-children .ensures, (o .index-outs .ensures, (r .index-ranges .ensures, search (sized-most))))
 
 returns-2 : tie.Need-returns-2
 returns-2 c = search (verdict-judged)
