@@ -7,6 +7,7 @@ use lib.ListN.{length, getD, take}
 use lib.Seq.{slice}
 use lib.Dec.{eqb, leb}
 use Rattle.lists.specs.Lists.{from, keep, any, first}
+use Rattle.value.specs.Value.{below}
 use Rattle.primitive.specs.declared.table.Fields.{Fields}
 use Rattle.flatten.specs.declared.Pin.{Pin}
 use Rattle.flatten.specs.declared.Wire.{Wire}
@@ -35,14 +36,26 @@ fullSize T =
     leb (8 * 256) (length (T .components)) && leb 1024 (length (T .inputs)) && leb 1024 (length (T .outputs)) && leb (4 * 1024) (length (T .wires))
     && leb 256 (length (T .current)) && leb 256 (length (T .following)) && leb 256 (length (T .standing))
 
--- Word k of component i: kind, id, width, parameter, inputs, outputs, first input, first output.
+-- Word k of component i in a table of components: kind, id, width, parameter, inputs, outputs, first input, first output.
+abbrev pub wordIn : List ℕ → ℕ → ℕ → ℕ
+wordIn cs i k = getD cs (8 * i + k) 0
+
+-- The fields of component i in a table of components.
+abbrev pub fieldsIn : List ℕ → ℕ → Fields
+fieldsIn cs i =
+    record { kind = wordIn cs i 0; inputs = wordIn cs i 4; outputs = wordIn cs i 5; width = wordIn cs i 2; parameter = wordIn cs i 3 }
+
+-- Fields that are no larger than a drawing can hold: a kind of one byte, and numbers of two. A word of the table may be larger.
+unfoldable pub fieldsFit : Fields → Bool
+fieldsFit f = below (f .kind) 8 && below (f .inputs) 16 && below (f .outputs) 16 && below (f .width) 16
+
+-- Word k of component i.
 abbrev pub wordOf : Tables → ℕ → ℕ → ℕ
-wordOf T i k = getD (T .components) (8 * i + k) 0
+wordOf T i k = wordIn (T .components) i k
 
 -- The fields of component i.
 abbrev pub fieldsAt : Tables → ℕ → Fields
-fieldsAt T i =
-    record { kind = wordOf T i 0; inputs = wordOf T i 4; outputs = wordOf T i 5; width = wordOf T i 2; parameter = wordOf T i 3 }
+fieldsAt T i = fieldsIn (T .components) i
 
 -- The id of component i.
 abbrev pub idAt : Tables → ℕ → ℕ

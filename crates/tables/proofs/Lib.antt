@@ -1,0 +1,4 @@
+pub mod PartsLaws
+pub mod NamedLaws
+pub mod RowsLaws
+pub mod SizesLaws

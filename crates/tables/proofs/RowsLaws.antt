@@ -1,0 +1,81 @@
+-- Laws of a component's words: those that fit the fields of a component, and that a component that obeys the table of kinds has
+-- no others.
+-- Assumes nothing.
+use mathlib.Core.Path.{_≡_, refl, sym, _∙_}
+use mathlib.Core.Bool.{Bool, true, false, _&&_, true≢false}
+use Prim.Native.Nat.{ℕ, _<_}
+use native.Mathlib.Omega.{arith}
+use borrow.Author.Tests.{lt-ltb, ltb-true}
+use lib.Dec.{ltb}
+use Rattle.lists.proofs.ListsLaws.{and-left, and-right, within-most}
+use Rattle.value.specs.Value.{below}
+use Rattle.primitive.specs.declared.kinds.Kind.{Kind}
+use Rattle.primitive.specs.declared.kinds.Kind.the-variants.{Composite, And, Or, Not, Nand, Nor, Xor, Switch, Input, Output, Splitter, Joiner, Clock, Const}
+use Rattle.primitive.specs.declared.table.Fields.{Fields}
+use Rattle.primitive.specs.Kinds.{kindOf, primitive, obeys, row}
+use Rattle.primitive.proofs.UpdateLaws.{InRow, obeys-row}
+use Rattle.tables.specs.Tables.{fieldsFit}
+
+-- What fields that fit have.
+module _ (f : Fields) (e : fieldsFit f ≡ true) where
+  pub fieldsFit-kind : f .kind < 256
+  unfolding fieldsFit
+  fieldsFit-kind =
+      ltb-true _ _ (and-left (below (f .kind) 8) (below (f .inputs) 16)
+      (and-left (below (f .kind) 8 && below (f .inputs) 16) (below (f .outputs) 16)
+      (and-left (below (f .kind) 8 && below (f .inputs) 16 && below (f .outputs) 16) (below (f .width) 16) e)))
+
+  pub fieldsFit-inputs : f .inputs < 65536
+  unfolding fieldsFit
+  fieldsFit-inputs =
+      ltb-true _ _ (and-right (below (f .kind) 8) (below (f .inputs) 16)
+      (and-left (below (f .kind) 8 && below (f .inputs) 16) (below (f .outputs) 16)
+      (and-left (below (f .kind) 8 && below (f .inputs) 16 && below (f .outputs) 16) (below (f .width) 16) e)))
+
+  pub fieldsFit-outputs : f .outputs < 65536
+  unfolding fieldsFit
+  fieldsFit-outputs =
+      ltb-true _ _ (and-right (below (f .kind) 8 && below (f .inputs) 16) (below (f .outputs) 16)
+      (and-left (below (f .kind) 8 && below (f .inputs) 16 && below (f .outputs) 16) (below (f .width) 16) e))
+
+  pub fieldsFit-width : f .width < 65536
+  unfolding fieldsFit
+  fieldsFit-width =
+      ltb-true _ _ (and-right (below (f .kind) 8 && below (f .inputs) 16 && below (f .outputs) 16) (below (f .width) 16) e)
+
+-- The table of kinds allows no more.
+pub record Small (f : Fields) : Type 0 where
+  pub inputs : f .inputs < 65536
+  pub outputs : f .outputs < 65536
+  pub width : f .width < 65536
+
+row-small : (f : Fields) (k : Kind) → InRow (row k (f .width) (f .parameter)) f → Small f
+row-small f Composite r = record { inputs = omega arith; outputs = omega arith; width = omega arith }
+row-small f And r = record { inputs = omega arith; outputs = omega arith; width = omega arith }
+row-small f Or r = record { inputs = omega arith; outputs = omega arith; width = omega arith }
+row-small f Not r = record { inputs = omega arith; outputs = omega arith; width = omega arith }
+row-small f Nand r = record { inputs = omega arith; outputs = omega arith; width = omega arith }
+row-small f Nor r = record { inputs = omega arith; outputs = omega arith; width = omega arith }
+row-small f Xor r = record { inputs = omega arith; outputs = omega arith; width = omega arith }
+row-small f Switch r = record { inputs = omega arith; outputs = omega arith; width = omega arith }
+row-small f Input r = record { inputs = omega arith; outputs = omega arith; width = omega arith }
+row-small f Output r = record { inputs = omega arith; outputs = omega arith; width = omega arith }
+row-small f Splitter r = record { inputs = omega arith; outputs = omega arith; width = omega arith }
+row-small f Joiner r = record { inputs = omega arith; outputs = omega arith; width = omega arith }
+row-small f Clock r = record { inputs = omega arith; outputs = omega arith; width = omega arith }
+row-small f Const r = record { inputs = omega arith; outputs = omega arith; width = omega arith }
+
+pub obeyed-fit : (f : Fields) → (primitive f && obeys f) ≡ true → fieldsFit f ≡ true
+unfolding fieldsFit
+obeyed-fit f o =
+    let s = row-small f (kindOf (f .kind)) (obeys-row f (and-right (primitive f) (obeys f) o)) in
+    let k : f .kind < 256 = omega (arith, within-most 1 13 (f .kind) (and-left (primitive f) (obeys f) o)) in
+    rw (lt-ltb (f .kind) 256 k, lt-ltb (f .inputs) 65536 (s .inputs), lt-ltb (f .outputs) 65536 (s .outputs), lt-ltb (f .width) 65536 (s .width))
+
+-- Where a word does not fit, the component does not obey the table.
+pub unfit-obeys : (f : Fields) → fieldsFit f ≡ false → (primitive f && obeys f) ≡ false
+unfit-obeys f e = by-test (primitive f && obeys f) refl
+  where
+    by-test : (b : Bool) → (primitive f && obeys f) ≡ b → (primitive f && obeys f) ≡ false
+    by-test true o = absurd (true≢false (sym (obeyed-fit f o) ∙ e))
+    by-test false o = o

@@ -1,0 +1,45 @@
+-- `append_new`: where x is there the table stays, and else x stands behind the list.
+-- Assumes nothing.
+use mathlib.Core.Path.{sym, _∙_}
+use native.Mathlib.Omega.{arith}
+use Rattle.tables.proofs.NamedLaws.{append-there, append-length, append-more}
+use borrow.Author.Needs.{needs}
+use Rattle.tables.proofs.named.append_new.Statement.{statement}
+use Rattle.tables.proofs.named.append_new.Tie as tie
+
+contains-requires : tie.Need-contains-requires
+contains-requires c κs = search needs
+
+same-length : tie.Need-same-length
+same-length c = search needs
+
+returns : tie.Need-returns
+returns c = append-there _ _ _ (c .before .before .before .before .pre .0) (sym (c .before .contains .ensures) ∙ c .if1 .taken)
+
+mul-list : tie.Need-mul-list
+mul-list c = search needs
+
+slice-write-list : tie.Need-slice-write-list
+slice-write-list c = omega (arith, append-length _ _ _ (c .before .before .before .before .pre .0) (sym (c .before .contains .ensures) ∙ c .if1 .left))
+
+add-result : tie.Need-add-result
+add-result c = search needs
+
+same-length-2 : tie.Need-same-length-2
+same-length-2 c = search needs
+
+returns-2 : tie.Need-returns-2
+returns-2 c = append-more _ _ _ (c .before .before .before .before .pre .0) (sym (c .before .contains .ensures) ∙ c .if1 .left) (slice-write-list c)
+
+pub append-new-spec : {M : Type 1} → statement M
+append-new-spec =
+    tie.close
+    (tie.spec
+    contains-requires
+    same-length
+    returns
+    mul-list
+    slice-write-list
+    add-result
+    same-length-2
+    returns-2)

@@ -1,0 +1,97 @@
+-- `strike`: the first entries are those passed without x, and the entries still to come are as they were.
+-- Assumes nothing.
+use mathlib.Core.Path.{_≡_, refl, sym}
+use mathlib.Core.Logic.{⊎-elim}
+use Prim.Native.Nat.{ℕ, _≤_, _<_, _-_}
+use native.Mathlib.Omega.{arith}
+use lib.ListN.{length, take, getD, length-set}
+use lib.Seq.{length-take-le}
+use Rattle.lists.specs.Lists.{strike}
+use Rattle.tables.proofs.NamedLaws.{strike-left, strike-rest, strike-gone}
+use borrow.Author.Needs.{needs}
+use Rattle.tables.proofs.named.strike.Statement.{statement}
+use Rattle.tables.proofs.named.strike.Tie as tie
+
+abbrev Inv-loop : tie.InvT-loop
+Inv-loop list₀ count x i₀ left₀ list i left =
+    (i ≤ count) × (left ≤ i) × (length list ≡ length list₀) × (take left list ≡ strike x (take i list₀))
+    × ((k : ℕ) → i ≤ k → getD list k 0 ≡ getD list₀ k 0)
+
+abbrev μ-loop : tie.MeasureT-loop
+μ-loop list₀ count x i₀ left₀ list i left = count - i
+
+loop-holds : tie.Need-loop-holds Inv-loop μ-loop
+unfolding strike
+loop-holds c = (omega arith, omega arith, refl, refl, λ k h. refl)
+
+mul-y : tie.Need-mul-y Inv-loop μ-loop
+mul-y c = search needs
+
+slice-read-y : tie.Need-slice-read-y Inv-loop μ-loop
+slice-read-y c = search needs
+
+mul-list : tie.Need-mul-list Inv-loop μ-loop
+mul-list c = search needs
+
+slice-write-list : tie.Need-slice-write-list Inv-loop μ-loop
+slice-write-list c = search needs
+
+add-left : tie.Need-add-left Inv-loop μ-loop
+add-left c = search needs
+
+add-i : tie.Need-add-i Inv-loop μ-loop
+add-i c = search needs
+
+loop-less : tie.Need-loop-less Inv-loop μ-loop
+loop-less c = search needs
+
+loop-again : tie.Need-loop-again Inv-loop μ-loop
+loop-again c =
+    let a = c .before .before .before .before .args in
+    let l = c .before .before .before .loop in
+    let b : l .i < length (a .list .now) = omega arith in
+    ⊎-elim
+    (λ w. rw (w .1, w .2) (
+      omega arith,
+      omega arith,
+      simp length-set (l .inv .2),
+      strike-left (a .list .now) (l .list) (l .i) (l .left) (a .x) b (l .inv .1) (l .inv .2) (l .inv .3) (l .inv .4) (w .0 .taken),
+      strike-rest (a .list .now) (l .list) (l .i) (l .left) (a .x) b (l .inv .1) (l .inv .2) (l .inv .3) (l .inv .4),
+    ))
+    (λ w. rw (w .1, w .2) (
+      omega arith,
+      omega arith,
+      l .inv .2,
+      strike-gone (a .list .now) (l .list) (l .i) (l .left) (a .x) b (l .inv .1) (l .inv .2) (l .inv .3) (l .inv .4) (w .0 .left),
+      λ k h. l .inv .4 k (omega arith),
+    ))
+    (c .if1 .came)
+
+same-length : tie.Need-same-length Inv-loop μ-loop
+same-length c = search needs
+
+returns : tie.Need-returns Inv-loop μ-loop
+returns c =
+    let a = c .before .before .args in
+    let l = c .before .loop in
+    let e : l .i ≡ a .count = omega arith in
+    let k : take (l .left) (l .list) ≡ strike (a .x) (take (a .count) (a .list .now)) = rw e at (l .inv .3) in
+    (rw (← k) (sym (length-take-le (l .left) (l .list) (omega arith))), k)
+
+pub strike-spec : {M : Type 1} → statement M
+strike-spec =
+    tie.close
+    (tie.spec
+    Inv-loop
+    μ-loop
+    loop-holds
+    mul-y
+    slice-read-y
+    mul-list
+    slice-write-list
+    add-left
+    add-i
+    loop-less
+    loop-again
+    same-length
+    returns)

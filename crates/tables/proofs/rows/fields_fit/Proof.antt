@@ -1,0 +1,27 @@
+-- `fields_fit`: the tests are those of the definition, on the words that the callee reads.
+-- Assumes nothing.
+use Rattle.tables.specs.Tables.{fieldsFit}
+use borrow.Author.Needs.{needs}
+use Rattle.tables.proofs.rows.fields_fit.Statement.{statement}
+use Rattle.tables.proofs.rows.fields_fit.Tie as tie
+
+word-of-requires : tie.Need-word-of-requires
+word-of-requires c κs = search needs
+
+word-of-requires-2 : tie.Need-word-of-requires-2
+word-of-requires-2 c κs = search needs
+
+word-of-requires-3 : tie.Need-word-of-requires-3
+word-of-requires-3 c κs = search needs
+
+word-of-requires-4 : tie.Need-word-of-requires-4
+word-of-requires-4 c κs = search needs
+
+returns : tie.Need-returns
+unfolding fieldsFit
+returns c = rw (c .word-of4 .ensures, c .before .word-of3 .ensures, c .before .before .word-of2 .ensures, c .before .before .before .word-of .ensures)
+
+pub fields-fit-spec : {M : Type 1} → statement M
+fields-fit-spec =
+    tie.close
+    (tie.spec word-of-requires word-of-requires-2 word-of-requires-3 word-of-requires-4 returns)
