@@ -1,0 +1,2 @@
+pub mod LayingLaws
+pub mod RowsLaws

@@ -1,0 +1,61 @@
+-- What the passes of src/ write, one record after the other. Nobody has to believe anything here: each word only shortens what a
+-- definition of specs/Load.antt says.
+--   Written t k xs u m    u is the table t with xs written from place k on, and m is the place past them
+-- Assumes nothing.
+use mathlib.Core.Path.{_≡_}
+use Prim.Native.Nat.{ℕ, _+_}
+use mathlib.Core.Bool.{Bool, cond, _||_}
+use mathlib.Core.List.{List, [], _∷_}
+use lib.ListN.{length}
+use lib.Seq.{sets}
+use Rattle.primitive.specs.declared.table.Fields.{Fields}
+use Rattle.primitive.specs.Evaluate.{starting}
+use Rattle.component.specs.declared.Id.{Id}
+use Rattle.component.specs.declared.Record.{Record}
+use Rattle.component.specs.Record.{fieldsOf, idOf, isPrimitive}
+use Rattle.component.specs.Drawing.{primitivesBefore, inputsBefore, outputsBefore}
+use Rattle.load.specs.declared.rows.Drawn.{Drawn}
+use Rattle.load.specs.declared.rows.Drawn.the-variants.{Primitive, Other}
+use Rattle.load.specs.declared.rows.Before.{Before}
+
+pub record Written (t : List ℕ) (k : ℕ) (xs : List ℕ) (u : List ℕ) (m : ℕ) : Type 0 where
+  pub table : u ≡ sets t k xs
+  pub place : m ≡ k + length xs
+
+abbrev pub seenIf : Bool → Record → Drawn
+seenIf b r = cond b (Primitive (record { 0 = idOf r }) (fieldsOf r)) Other
+
+abbrev pub seen : Record → Drawn
+seen r = seenIf (isPrimitive r) r
+
+abbrev pub componentBy : Id → Fields → Before → List ℕ
+componentBy d f b =
+    f .kind ∷ d .0 ∷ f .width ∷ f .parameter ∷ f .inputs ∷ f .outputs ∷ b .inputs ∷ b .outputs ∷ []
+
+abbrev pub rowBy : Drawn → Before → List ℕ
+rowBy (Primitive d f) b = componentBy d f b
+rowBy Other b = []
+
+abbrev pub beforeBy : Drawn → Before → Before
+beforeBy (Primitive d f) b =
+    record { components = b .components + 1; inputs = b .inputs + f .inputs; outputs = b .outputs + f .outputs }
+beforeBy Other b = b
+
+abbrev pub outputsBy : Drawn → List ℕ
+outputsBy (Primitive d f) = starting f
+outputsBy Other = []
+
+abbrev pub startingOf : (ℕ → Record) → ℕ → List ℕ
+startingOf at p = starting (fieldsOf (at p))
+
+abbrev pub outputsAt : (ℕ → Record) → ℕ → List ℕ
+outputsAt at p = outputsBy (seen (at p))
+
+module _ (at : ℕ → Record) (n : ℕ) where
+  abbrev pub beforeAt : ℕ → Before
+  beforeAt p =
+      record { components = length (primitivesBefore at n p); inputs = inputsBefore at n p; outputs = outputsBefore at n p }
+
+  abbrev pub rowAt : ℕ → List ℕ
+  rowAt p = rowBy (seen (at p)) (beforeAt p)
+
