@@ -13,10 +13,10 @@ use Prim.Native.Nat.{ℕ, zero, suc, _+_, _-_, _≤_, _<_}
 use native.Mathlib.Nat.{zero-add}
 use native.Mathlib.Numerals.{add-one}
 use native.Mathlib.Omega.{arith}
-use lib.ListN.{length, drop, set, length-append}
+use lib.ListN.{length, drop, set, replicate, length-append, length-replicate, replicate-append-replicate}
 use lib.Seq.{sets, sets-eq, length-sets}
 use Rattle.lists.specs.Lists.{from, keep, joined, overlay}
-use Rattle.lists.proofs.MembersLaws.{from-last, from-append}
+use Rattle.lists.proofs.MembersLaws.{from-last, from-append, from-length}
 use Rattle.lists.proofs.OverlayLaws.{joined-append}
 use Rattle.load.specs.Laying.{Written}
 
@@ -30,6 +30,20 @@ sets-append t k (x ∷ xs) ys =
 -- One word more.
 pub sets-next : (t : List ℕ) (k : ℕ) (xs : List ℕ) (x : ℕ) → set (sets t k xs) (k + length xs) x ≡ sets t k (xs ++ (x ∷ []))
 sets-next t k xs x = sym (sets-append t k xs (x ∷ []))
+
+-- One zero more.
+pub zeros-step : (t u : List ℕ) (k i : ℕ) → u ≡ sets t k (replicate i 0) → set u (k + i) 0 ≡ sets t k (replicate (i + 1) 0)
+zeros-step t u k i e =
+    let many : k + i ≡ k + length (replicate {A = ℕ} i 0) = omega (arith, length-replicate {A = ℕ} i 0) in
+    ap (λ (l : List ℕ). set l (k + i) 0) e ∙ ap (λ (j : ℕ). set (sets t k (replicate i 0)) j 0) many
+    ∙ sets-next t k (replicate i 0) 0 ∙ ap (sets t k) (replicate-append-replicate i 1 0)
+
+-- One number more of those from 0 on.
+pub numbers-step : (t u : List ℕ) (i : ℕ) → u ≡ sets t 0 (from 0 i) → set u i i ≡ sets t 0 (from 0 (i + 1))
+numbers-step t u i e =
+    let many : i ≡ 0 + length (from 0 i) = omega (arith, from-length 0 i) in
+    ap (λ (l : List ℕ). set l i i) e ∙ ap (λ (j : ℕ). set (sets t 0 (from 0 i)) j i) many
+    ∙ sets-next t 0 (from 0 i) i ∙ ap (sets t 0) (sym (from-last i) ∙ ap (from 0) (sym (add-one i)))
 
 -- Words written from the front are laid over the table, if it is no shorter.
 pub sets-overlay : (xs t : List ℕ) → length xs ≤ length t → sets t 0 xs ≡ overlay xs t

@@ -1,2 +1,4 @@
 pub mod LayingLaws
 pub mod RowsLaws
+pub mod PortsLaws
+pub mod NamesLaws

@@ -3,17 +3,21 @@
 --   Written t k xs u m    u is the table t with xs written from place k on, and m is the place past them
 -- Assumes nothing.
 use mathlib.Core.Path.{_≡_}
-use Prim.Native.Nat.{ℕ, _+_}
+use Prim.Native.Nat.{ℕ, _+_, _<_}
 use mathlib.Core.Bool.{Bool, cond, _||_}
 use mathlib.Core.List.{List, [], _∷_}
-use lib.ListN.{length}
+use lib.ListN.{length, getD}
 use lib.Seq.{sets}
 use Rattle.primitive.specs.declared.table.Fields.{Fields}
+use Rattle.primitive.specs.declared.kinds.Kind.the-variants.{Clock, Const}
+use Rattle.primitive.specs.Kinds.{is}
 use Rattle.primitive.specs.Evaluate.{starting}
 use Rattle.component.specs.declared.Id.{Id}
 use Rattle.component.specs.declared.Record.{Record}
 use Rattle.component.specs.Record.{fieldsOf, idOf, isPrimitive}
 use Rattle.component.specs.Drawing.{primitivesBefore, inputsBefore, outputsBefore}
+use Rattle.flatten.specs.Descent.{flat}
+use Rattle.load.specs.declared.names.Stood.{Stood}
 use Rattle.load.specs.declared.rows.Drawn.{Drawn}
 use Rattle.load.specs.declared.rows.Drawn.the-variants.{Primitive, Other}
 use Rattle.load.specs.declared.rows.Before.{Before}
@@ -45,6 +49,18 @@ abbrev pub outputsBy : Drawn → List ℕ
 outputsBy (Primitive d f) = starting f
 outputsBy Other = []
 
+abbrev pub standingIf : Bool → ℕ → List ℕ
+standingIf b i = cond b (i ∷ []) []
+
+abbrev pub standingBy : Drawn → ℕ → List ℕ
+standingBy (Primitive d f) i = standingIf (is Const f || is Clock f) i
+standingBy Other i = []
+
+abbrev pub stoodBy : Drawn → Stood → Stood
+stoodBy (Primitive d f) s =
+    record { components = s .components + 1; count = cond (is Const f || is Clock f) (s .count + 1) (s .count) }
+stoodBy Other s = s
+
 abbrev pub startingOf : (ℕ → Record) → ℕ → List ℕ
 startingOf at p = starting (fieldsOf (at p))
 
@@ -59,3 +75,10 @@ module _ (at : ℕ → Record) (n : ℕ) where
   abbrev pub rowAt : ℕ → List ℕ
   rowAt p = rowBy (seen (at p)) (beforeAt p)
 
+
+  abbrev pub standingAt : ℕ → List ℕ
+  standingAt p = standingBy (seen (at p)) (flat at n p)
+
+  pub record IsFlat (t : List ℕ) : Type 0 where
+    pub size : length t ≡ 256
+    pub word : (c : ℕ) → c < 256 → getD t c 0 ≡ flat at n c
