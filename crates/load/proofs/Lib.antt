@@ -2,3 +2,4 @@ pub mod LayingLaws
 pub mod RowsLaws
 pub mod PortsLaws
 pub mod NamesLaws
+pub mod WiresLaws

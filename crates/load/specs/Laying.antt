@@ -8,15 +8,21 @@ use mathlib.Core.Bool.{Bool, cond, _||_}
 use mathlib.Core.List.{List, [], _∷_}
 use lib.ListN.{length, getD}
 use lib.Seq.{sets}
+use lib.Dec.{eqb}
+use Rattle.lists.specs.Lists.{joined}
 use Rattle.primitive.specs.declared.table.Fields.{Fields}
 use Rattle.primitive.specs.declared.kinds.Kind.the-variants.{Clock, Const}
 use Rattle.primitive.specs.Kinds.{is}
 use Rattle.primitive.specs.Evaluate.{starting}
 use Rattle.component.specs.declared.Id.{Id}
 use Rattle.component.specs.declared.Record.{Record}
-use Rattle.component.specs.Record.{fieldsOf, idOf, isPrimitive}
-use Rattle.component.specs.Drawing.{primitivesBefore, inputsBefore, outputsBefore}
-use Rattle.flatten.specs.Descent.{flat}
+use Rattle.component.specs.Record.{recordAt, recordCount, formOf, fieldsOf, idOf, isPrimitive}
+use Rattle.component.specs.Drawing.{child, primitivesBefore, inputsBefore, outputsBefore}
+use Rattle.component.specs.Index.{IsTable, IsRange}
+use Rattle.component.specs.declared.Verdict.the-variants.{Accepted}
+use Rattle.flatten.specs.declared.Pin.{Pin}
+use Rattle.flatten.specs.Descent.{flat, sourceOf, targetsOf}
+use Rattle.flatten.specs.Verdict.{verdict}
 use Rattle.load.specs.declared.names.Stood.{Stood}
 use Rattle.load.specs.declared.rows.Drawn.{Drawn}
 use Rattle.load.specs.declared.rows.Drawn.the-variants.{Primitive, Other}
@@ -82,3 +88,20 @@ module _ (at : ℕ → Record) (n : ℕ) where
   pub record IsFlat (t : List ℕ) : Type 0 where
     pub size : length t ≡ 256
     pub word : (c : ℕ) → c < 256 → getD t c 0 ≡ flat at n c
+
+  -- The words of a wire from port o of flat index f to the input t of the drawing.
+  abbrev pub leadWords : ℕ → ℕ → Pin → List ℕ
+  leadWords f o t = f ∷ o ∷ flat at n (t .comp) ∷ t .port ∷ []
+
+  abbrev pub wiresGiven : ℕ → List ℕ
+  wiresGiven p =
+      cond (eqb (formOf (at p)) 2)
+      (joined (leadWords (flat at n (sourceOf at n p .comp)) (sourceOf at n p .port)) (targetsOf at n p))
+      []
+
+pub record Ready (s : List ℕ) (n : ℕ) (cs lo hi fs : List ℕ) : Type 0 where
+  pub accepted : verdict s ≡ Accepted
+  pub count : n ≡ recordCount s
+  pub children : IsTable 256 (child (recordAt s) n) cs
+  pub ranges : IsRange s n lo hi
+  pub indexes : IsFlat (recordAt s) n fs
