@@ -96,3 +96,96 @@ fn lead(
     }
     place
 }
+
+// Writes the wires of the record at p, if it is a connection. The answer is the place behind them.
+fn connect(
+    file: &[u8],
+    n: usize,
+    children: &[u16],
+    outs: &[u16],
+    lo: &[u16],
+    hi: &[u16],
+    indexes: &[u16],
+    p: usize,
+    wires: &mut [u16],
+    at: usize,
+) -> usize
+    requires { ⌜ Ready (now file) n (now children) (now lo) (now hi) (now indexes) ⌝ }
+    requires { ⌜ IsTable 64 (outMap (recordAt (now file)) n) (now outs) ⌝ }
+    requires { ⌜ (p < n) × (at + length (wiresGiven (recordAt (now file)) n p) ≤ length (now wires)) ⌝ }
+    ensures { λ r. ⌜ Written (now (wires .entry)) at (wiresGiven (recordAt (now (file .entry))) n p) (now (wires .exit)) r ⌝ }
+{
+    let Record::Connection {
+        owner,
+        from,
+        output,
+        to,
+        input,
+    } = record_at(file, p)
+    else {
+        return at;
+    };
+    let start = child_of(file, n, children, owner as usize, from);
+    let source = source_of(file, n, children, outs, deepest(), start, output);
+    let index = flat_of(file, n, indexes, source.comp);
+    let goal = child_of(file, n, children, owner as usize, to);
+    lead(
+        file,
+        n,
+        children,
+        lo,
+        hi,
+        indexes,
+        deepest(),
+        goal,
+        input,
+        index,
+        source.port,
+        wires,
+        at,
+    )
+}
+
+// Writes the wires of all connections, in their order. The answer is the place behind them.
+fn connect_all(
+    file: &[u8],
+    n: usize,
+    children: &[u16],
+    outs: &[u16],
+    lo: &[u16],
+    hi: &[u16],
+    indexes: &[u16],
+    wires: &mut [u16],
+) -> usize
+    requires { ⌜ Ready (now file) n (now children) (now lo) (now hi) (now indexes) ⌝ }
+    requires { ⌜ IsTable 64 (outMap (recordAt (now file)) n) (now outs) ⌝ }
+    requires { ⌜ 4096 ≤ length (now wires) ⌝ }
+    ensures { λ r. ⌜ (now (wires .exit) ≡ overlay (joined wireWords (flatWires (recordAt (now (file .entry))) n)) (now (wires .entry))) × (r ≡ 4 * length (flatWires (recordAt (now (file .entry))) n)) ⌝ }
+{
+    let mut at: usize = 0;
+    let mut p: usize = 0;
+    while p < n {
+        at = connect(file, n, children, outs, lo, hi, indexes, p, wires, at);
+        p += 1;
+    }
+    at
+}
+
+// Lays the wires of an accepted drawing. The answer is how many there are.
+pub fn lay_wires(file: &[u8], wires: &mut [u16]) -> usize
+    requires { ⌜ (verdict (now file) ≡ Accepted) × (4096 ≤ length (now wires)) ⌝ }
+    ensures { λ r. ⌜ now (wires .exit) ≡ overlay (joined wireWords (flatWires (recordAt (now (file .entry))) (recordCount (now (file .entry))))) (now (wires .entry)) ⌝ }
+    ensures { λ r. ⌜ r ≡ length (flatWires (recordAt (now (file .entry))) (recordCount (now (file .entry)))) ⌝ }
+{
+    let n = file.len() / 24;
+    let mut children = [0u16; 65536];
+    let mut outs = [0u16; 16384];
+    let mut lo = [0u16; 256];
+    let mut hi = [0u16; 256];
+    let mut indexes = [0u16; 256];
+    index_children(file, n, &mut children);
+    index_outs(file, n, &mut outs);
+    index_ranges(file, n, &mut lo, &mut hi);
+    index_flat(file, &mut indexes);
+    connect_all(file, n, &children, &outs, &lo, &hi, &indexes, wires) / 4
+}
