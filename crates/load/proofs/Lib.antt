@@ -3,3 +3,4 @@ pub mod RowsLaws
 pub mod PortsLaws
 pub mod NamesLaws
 pub mod WiresLaws
+pub mod LoadLaws
