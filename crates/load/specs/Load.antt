@@ -1,4 +1,5 @@
 -- A load: its answer and the tables it leaves. docs/SPECIFICATION.md, "Numbers given back", "Flattening" and "Rounds" (the state at load).
+use mathlib.Core.Path.{_≡_}
 use Prim.Native.Nat.{ℕ}
 use mathlib.Core.Bool.{Bool, true, false, cond, _||_}
 use mathlib.Core.List.{List, [], _∷_, map}
@@ -13,6 +14,7 @@ use Rattle.component.specs.declared.Verdict.the-variants.{Accepted, Refused}
 use Rattle.component.specs.Record.{recordAt, recordCount, fieldsOf, idOf, inputsOf, outputsOf}
 use Rattle.component.specs.Drawing.{primitivesBefore, inputsBefore, outputsBefore}
 use Rattle.flatten.specs.declared.Wire.{Wire}
+use Rattle.tables.specs.declared.Counts.{Counts}
 use Rattle.tables.specs.declared.Answer.{Answer}
 use Rattle.tables.specs.declared.Answer.the-variants.{Done, Refused as Declined}
 use Rattle.flatten.specs.Descent.{sourceOf, targetsOf, flat, flatWires}
@@ -85,3 +87,9 @@ loadAnswer file T = answerBy (loadVerdict file T) (loadTables file T)
 abbrev pub verdictOf : Answer → Verdict
 verdictOf (Done m) = Accepted
 verdictOf (Declined r) = Refused r
+
+-- What a load promises of tables whose counts nobody asks for, `lent` being the tables before and `left` those after, each by its
+-- counts: whatever the counts were, the answer is the definition's, and so are all tables, with the counts that the definition gives.
+abbrev pub Loads : List ℕ → (Counts → Tables) → (Counts → Tables) → Answer → Type 0
+Loads file lent left r =
+    (m : Counts) → (r ≡ loadAnswer file (lent m)) × (left (loadTables file (lent m) .counts) ≡ loadTables file (lent m))

@@ -1,1 +1,121 @@
-// Loading a drawing into lent tables. Rules: docs/SPECIFICATION.md, "Flattening" and "Rounds". Source: flatten.rs, `FlattenComponent::new`; simulator.rs, `Simulator::new`.
+// Loading a drawing into lent tables. Rules: docs/SPECIFICATION.md, "Flattening" and "Rounds" (the state at load).
+// Source: flatten.rs, `FlattenComponent::new`; simulator.rs, `Simulator::new`.
+mod names;
+mod rows;
+mod wires;
+
+ghost use mathlib.Core.Path.{_≡_};
+ghost use Prim.Native.Nat.{_≤_};
+ghost use lib.ListN.{length};
+ghost use Rattle.component.specs.Record.{recordAt, recordCount};
+ghost use Rattle.component.specs.declared.Verdict.the-variants.{Accepted};
+ghost use Rattle.flatten.specs.Verdict.{sized, verdict};
+ghost use Rattle.tables.specs.Tables.{tablesOf};
+ghost use Rattle.load.specs.Load.{loaded, Loads};
+use component::Verdict;
+use names::count_up;
+use names::lay_standing;
+use primitive::Refusal;
+use rows::lay_components;
+use rows::lay_outputs;
+use rows::zeros;
+use tables::Answer;
+use tables::Counts;
+use wires::lay_wires;
+
+// Not 1: the file is not empty, a multiple of 24, and of at most 1,024 records.
+fn is_sized(file: &[u8]) -> bool
+    ensures { λ r. ⌜ r ≡ sized (now (file .entry)) ⌝ }
+{
+    let length = file.len();
+    (length != 0) & (length % 24 == 0) & (length / 24 <= 1024)
+}
+
+// Counts of tables of which no entry is in use.
+fn unused() -> Counts {
+    Counts {
+        components: 0,
+        inputs: 0,
+        outputs: 0,
+        wires: 0,
+        current: 0,
+        following: 0,
+        standing: 0,
+    }
+}
+
+// Writes the tables of an accepted drawing: all ports 0, a Const's output its value; standing every Const and Clock, following a copy
+// of it; current all components. The answer is how many entries of each table are in use.
+fn fill(
+    file: &[u8],
+    components: &mut [u64],
+    inputs: &mut [u64],
+    outputs: &mut [u64],
+    wires: &mut [u16],
+    current: &mut [u16],
+    following: &mut [u16],
+    standing: &mut [u16],
+) -> Counts
+    requires { ⌜ (verdict (now file) ≡ Accepted) × (2048 ≤ length (now components)) × (1024 ≤ length (now inputs)) × (1024 ≤ length (now outputs)) × (4096 ≤ length (now wires)) × (256 ≤ length (now current)) × (256 ≤ length (now following)) × (256 ≤ length (now standing)) ⌝ }
+    ensures { λ r. ⌜ tablesOf (now (components .exit)) (now (inputs .exit)) (now (outputs .exit)) (now (wires .exit)) (now (current .exit)) (now (following .exit)) (now (standing .exit)) r ≡ loaded (recordAt (now (file .entry))) (recordCount (now (file .entry))) (tablesOf (now (components .entry)) (now (inputs .entry)) (now (outputs .entry)) (now (wires .entry)) (now (current .entry)) (now (following .entry)) (now (standing .entry)) r) ⌝ }
+{
+    let all = lay_components(file, components);
+    zeros(inputs, 0, all.inputs);
+    lay_outputs(file, outputs);
+    let wire_count = lay_wires(file, wires);
+    count_up(current, all.components);
+    let standing_count = lay_standing(file, standing);
+    tables::copy(standing, standing_count, following);
+    Counts {
+        components: all.components,
+        inputs: all.inputs,
+        outputs: all.outputs,
+        wires: wire_count,
+        current: all.components,
+        following: standing_count,
+        standing: standing_count,
+    }
+}
+
+// Loads a drawing file into the tables: makes check 1, check 2, then the checks 3 to 15, and writes the tables of an accepted
+// drawing. Counts are not handed in: a load looks at none. A refusal changes no table.
+pub fn load(
+    file: &[u8],
+    components: &mut [u64],
+    inputs: &mut [u64],
+    outputs: &mut [u64],
+    wires: &mut [u16],
+    current: &mut [u16],
+    following: &mut [u16],
+    standing: &mut [u16],
+) -> Answer
+    ensures { λ r. ⌜ Loads (now (file .entry)) (tablesOf (now (components .entry)) (now (inputs .entry)) (now (outputs .entry)) (now (wires .entry)) (now (current .entry)) (now (following .entry)) (now (standing .entry))) (tablesOf (now (components .exit)) (now (inputs .exit)) (now (outputs .exit)) (now (wires .exit)) (now (current .exit)) (now (following .exit)) (now (standing .exit))) r ⌝ }
+{
+    if !is_sized(file) {
+        return Answer::Refused(Refusal {
+            number: 1,
+            position: 0,
+        });
+    }
+    if !tables::full_size(
+        components,
+        inputs,
+        outputs,
+        wires,
+        current,
+        following,
+        standing,
+        unused(),
+    ) {
+        return Answer::Refused(Refusal {
+            number: 2,
+            position: 0,
+        });
+    }
+    if let Verdict::Refused(refusal) = flatten::judge(file) {
+        return Answer::Refused(refusal);
+    }
+    Answer::Done(fill(
+        file, components, inputs, outputs, wires, current, following, standing,
+    ))
+}

@@ -1,0 +1,154 @@
+-- Laws of the passes over the primitives: what a record is seen as, what stands before each primitive, and what each pass lays.
+-- Assumes nothing.
+use mathlib.Core.Path.{_≡_, refl, sym, ap, _∙_}
+use mathlib.Core.Bool.{Bool, true, false, cond, _&&_, _||_, false≢true}
+use mathlib.Core.List.{List, [], _∷_, _++_, map}
+use Prim.Native.Nat.{ℕ, suc, _+_, _-_, _*_, _≤_, _<_}
+use native.Mathlib.Numerals.{add-one}
+use native.Mathlib.Omega.{arith}
+use types.Run.{OneOf}
+use denote.Enum.Declared.{tagOf}
+use lib.ListN.{length, length-append}
+use lib.Seq.{sets}
+use Rattle.lists.specs.Lists.{from, keep, total, joined, overlay}
+use Rattle.lists.proofs.MembersLaws.{keep-append, total-append, from-append}
+use Rattle.lists.proofs.OverlayLaws.{joined-width}
+use Rattle.primitive.specs.declared.table.Fields.{Fields}
+use Rattle.primitive.specs.Kinds.{primitive}
+use Rattle.component.specs.declared.Id.{Id}
+use Rattle.component.specs.declared.Record.{Record}
+use Rattle.component.specs.declared.Record.the-variants.{Component}
+use Rattle.component.specs.declared.Verdict.the-variants.{Accepted}
+use Rattle.component.specs.Record.{recordAt, recordCount, formOf, fieldsOf, inputsOf, outputsOf, isPrimitive}
+use Rattle.component.specs.Drawing.{primitivesBefore, inputsBefore, outputsBefore}
+use Rattle.component.proofs.Record.{the-type}
+use Rattle.component.proofs.RecordLaws.{formOf-no-component}
+use Rattle.flatten.specs.Verdict.{verdict}
+use Rattle.leads.proofs.Components.{primitive-component}
+use Rattle.leads.proofs.Primitives.{primitivesBefore-step, primitivesBefore-skip, portsBefore-step}
+use Rattle.leads.proofs.Theorems.{accepted-primitives-bound, accepted-inputs-bound, accepted-outputs-bound}
+use Rattle.load.specs.declared.rows.Drawn.{Drawn}
+use Rattle.load.specs.declared.rows.Drawn.the-variants.{Primitive, Other}
+use Rattle.load.specs.declared.rows.Before.{Before}
+use Rattle.load.specs.Load.{primitives, componentWords}
+use Rattle.load.specs.Laying.{seenIf, seen, componentBy, rowBy, beforeBy, beforeAt, rowAt}
+use Rattle.load.proofs.LayingLaws.{joined-keep, Laid, laid-room, laid-step, laid-end}
+
+-- What a record is seen as: no component; a primitive; a component that is none.
+module _ (s : List ℕ) (p : ℕ) (r : Record) (e : r ≡ recordAt s p) where
+  pub seen-none : OneOf (1 ∷ 2 ∷ 3 ∷ 4 ∷ []) (tagOf the-type r) → Other ≡ seen (recordAt s p)
+  seen-none t = rw (← e) (by-test (isPrimitive r) refl)
+    where
+      by-test : (b : Bool) → isPrimitive r ≡ b → Other ≡ seenIf b r
+      by-test true d = absurd (formOf-no-component r t (primitive-component r d))
+      by-test false d = refl
+
+  module _ (o : ℕ) (d : Id) (f : Fields) (c : r ≡ Component o d f) (b : Bool) (h : b ≡ primitive f) where
+    pub seen-primitive : b ≡ true → Primitive d f ≡ seen (recordAt s p)
+    seen-primitive k = rw (← e, c, sym h ∙ k)
+
+    pub seen-composite : b ≡ false → Other ≡ seen (recordAt s p)
+    seen-composite k = rw (← e, c, sym h ∙ k)
+
+-- What stands before the next primitive.
+module _ (at : ℕ → Record) (n : ℕ) where
+  pub beforeAt-step : (p : ℕ) → beforeBy (seen (at p)) (beforeAt at n p) ≡ beforeAt at n (p + 1)
+  beforeAt-step p = by-kind (isPrimitive (at p)) refl ∙ ap (beforeAt at n) (sym (add-one p))
+    where
+      by-kind : (b : Bool) → isPrimitive (at p) ≡ b
+          → beforeBy (seenIf b (at p)) (beforeAt at n p) ≡ beforeAt at n (suc p)
+      by-kind true e =
+          let many : length (primitivesBefore at n p) + 1 ≡ length (primitivesBefore at n (suc p)) =
+          sym (ap (λ (l : List ℕ). length l) (primitivesBefore-step at n p e) ∙ length-append (primitivesBefore at n p) (p ∷ [])) in
+          λ j. record {
+            components = many j;
+            inputs = sym (portsBefore-step at n inputsOf p e) j;
+            outputs = sym (portsBefore-step at n outputsOf p e) j;
+          }
+      by-kind false e =
+          let same = sym (primitivesBefore-skip at n p e) in
+          λ j. record {
+            components = length (same j);
+            inputs = total (λ q. inputsOf (at q)) (same j);
+            outputs = total (λ q. outputsOf (at q)) (same j);
+          }
+
+  -- The words of the primitives, record by record.
+  pub rows-joined : (p : ℕ) → joined (componentWords at n) (primitivesBefore at n p) ≡ joined (rowAt at n) (from 0 p)
+  rows-joined p = joined-keep (λ q. isPrimitive (at q)) (componentWords at n) (rowAt at n) (λ q. by-kind q (isPrimitive (at q))) (from 0 p)
+    where
+      by-kind : (q : ℕ) (b : Bool) → cond b (componentWords at n q) []
+          ≡ rowBy (seenIf b (at q)) (beforeAt at n q)
+      by-kind q true = refl
+      by-kind q false = refl
+
+  pub rows-length : (p : ℕ) → length (joined (rowAt at n) (from 0 p)) ≡ 8 * length (primitivesBefore at n p)
+  rows-length p =
+      ap (λ (l : List ℕ). length l) (sym (rows-joined p)) ∙ joined-width (componentWords at n) 8 (λ q. refl) (primitivesBefore at n p)
+
+  -- All primitives are those before p, and others.
+  primitives-split : (p : ℕ) → p ≤ n → primitives at n ≡ primitivesBefore at n p ++ keep (λ q. isPrimitive (at q)) (from (0 + p) (n - p))
+  primitives-split p h =
+      let e : n ≡ p + (n - p) = omega arith in
+      ap (primitivesBefore at n) e ∙ ap (keep (λ q. isPrimitive (at q))) (from-append 0 p (n - p))
+      ∙ keep-append (λ q. isPrimitive (at q)) (from 0 p) (from (0 + p) (n - p))
+
+  pub primitivesBefore-few : (p : ℕ) → p ≤ n → length (primitivesBefore at n p) ≤ length (primitives at n)
+  primitivesBefore-few p h = omega (arith, simp length-append at (ap (λ (l : List ℕ). length l) (primitives-split p h)))
+
+  pub portsBefore-few : (f : Record → ℕ) (p : ℕ) → p ≤ n
+      → total (λ q. f (at q)) (primitivesBefore at n p) ≤ total (λ q. f (at q)) (primitives at n)
+  portsBefore-few f p h = omega (arith, simp total-append at (ap (total (λ q. f (at q))) (primitives-split p h)))
+
+-- Laying the entry of one record.
+module _ (id : Id) (f : Fields) (b : Before) (drawn : Drawn) (e : drawn ≡ Primitive id f) (t : List ℕ) where
+  pub row-room : 8 * b .components + length (rowBy drawn b) ≤ length t → 8 * b .components + 8 ≤ length t
+  row-room h = rw e at h
+
+  pub row-laid : (u : List ℕ) (x y : ℕ) → u ≡ sets t (8 * b .components) (componentBy id f b) → x ≡ f .inputs → y ≡ f .outputs
+      → (u ≡ sets t (8 * b .components) (rowBy drawn b))
+      × (record { components = b .components + 1; inputs = b .inputs + x; outputs = b .outputs + y } ≡ beforeBy drawn b)
+  row-laid u x y h i o = rw (e, i, o) (h, refl)
+
+-- Laying the entries of the records of an accepted file, in a table t of full size.
+module _ (s : List ℕ) (accepted : verdict s ≡ Accepted) (t : List ℕ) (full : 2048 ≤ length t) where
+  rows-all : length (joined (rowAt (recordAt s) (recordCount s)) (from 0 (recordCount s))) ≤ length t
+  rows-all = omega (arith, rows-length (recordAt s) (recordCount s) (recordCount s), accepted-primitives-bound s accepted)
+
+  module _ (p : ℕ) (u : List ℕ) (b : Before) (eb : b ≡ beforeAt (recordAt s) (recordCount s) p)
+      (laid : Laid (rowAt (recordAt s) (recordCount s)) p t u (8 * b .components)) where
+    pub rows-end : p ≡ recordCount s
+        → (u ≡ overlay (joined (componentWords (recordAt s) (recordCount s)) (primitives (recordAt s) (recordCount s))) t)
+        × (b ≡ beforeAt (recordAt s) (recordCount s) (recordCount s))
+    rows-end e = (
+      laid-end _ t p u _ laid (recordCount s) e rows-all
+      ∙ ap (λ (l : List ℕ). overlay l t) (sym (rows-joined (recordAt s) (recordCount s) (recordCount s))),
+      eb ∙ ap (beforeAt (recordAt s) (recordCount s)) e,
+    )
+
+    module _ (drawn : Drawn) (ed : drawn ≡ seen (recordAt s p)) (l : p < recordCount s) where
+      row-is : rowBy drawn b ≡ rowAt (recordAt s) (recordCount s) p
+      row-is = rw (ed, eb)
+
+      pub rows-requires : (8 * b .components + length (rowBy drawn b) ≤ length u) × (b .components ≤ 256)
+          × (b .inputs ≤ 1024) × (b .outputs ≤ 1024)
+      rows-requires =
+          let h : p ≤ recordCount s = omega arith in (
+            omega (arith, laid-room _ t p u _ laid (recordCount s) l rows-all, ap (λ (x : List ℕ). length x) row-is),
+            omega (arith, ap (λ (x : Before). x .components) eb, primitivesBefore-few (recordAt s) (recordCount s) p h, accepted-primitives-bound s accepted),
+            omega (arith, ap (λ (x : Before). x .inputs) eb, portsBefore-few (recordAt s) (recordCount s) inputsOf p h, accepted-inputs-bound s accepted),
+            omega (arith, ap (λ (x : Before). x .outputs) eb, portsBefore-few (recordAt s) (recordCount s) outputsOf p h, accepted-outputs-bound s accepted),
+          )
+
+      module _ (v : List ℕ) (c : Before) (ev : v ≡ sets u (8 * b .components) (rowBy drawn b)) (ec : c ≡ beforeBy drawn b) where
+        pub rows-before : c ≡ beforeAt (recordAt s) (recordCount s) (p + 1)
+        rows-before = ec ∙ (λ j. beforeBy (ed j) (eb j)) ∙ beforeAt-step (recordAt s) (recordCount s) p
+
+        pub rows-step : Laid (rowAt (recordAt s) (recordCount s)) (p + 1) t v (8 * c .components)
+        rows-step =
+            laid-step _ t p u _ laid (rowBy drawn b) v (8 * c .components) row-is ev
+            (omega (arith, by-drawn drawn, ap (λ (x : Before). x .components) ec))
+          where
+            by-drawn : (x : Drawn) → 8 * beforeBy x b .components ≡ 8 * b .components + length (rowBy x b)
+            by-drawn (Primitive i f) = omega arith
+            by-drawn Other = omega arith

@@ -1,0 +1,256 @@
+-- Laws of the wires at load: those of one connection, written while its target goes down through the input maps, and all of them.
+--   led s n f o ts    the words of the wires from port o of flat index f to the inputs ts of the drawing
+--   Leading           the invariant of the loop over input maps: what is written and what the maps to come give is what the input gives
+-- Not here: laws of the source and the targets (DescentLaws of crate flatten).
+-- Assumes nothing.
+use mathlib.Core.Path.{_≡_, refl, sym, ap, _∙_, subst}
+use mathlib.Core.Bool.{Bool, true, false, cond, not, _&&_}
+use mathlib.Core.List.{List, [], _∷_, _++_, map}
+use Prim.Native.Nat.{ℕ, _+_, _-_, _*_, _%_, _≤_, _<_}
+use native.Mathlib.Nat.{zero-add}
+use native.Mathlib.Omega.{arith}
+use borrow.Author.Tests.{eq-eqb, ne-eqb, leb-true}
+use types.Run.{OneOf}
+use denote.Enum.Declared.{tagOf}
+use lib.ListN.{length, length-append}
+use lib.Seq.{sets, length-sets}
+use lib.Dec.{eqb, leb}
+use Rattle.lists.specs.Lists.{from, joined, overlay}
+use Rattle.lists.proofs.ListsLaws.{and-right}
+use Rattle.lists.proofs.OverlayLaws.{joined-append, joined-width}
+use Rattle.component.specs.declared.ChildNo.{ChildNo}
+use Rattle.component.specs.declared.Record.{Record}
+use Rattle.component.specs.declared.Record.the-variants.{Connection}
+use Rattle.component.specs.Record.{recordAt, recordCount, formOf, ownerOf, fromOf, outputOf, toOf, inputOf, isPrimitive}
+use Rattle.component.specs.declared.Verdict.the-variants.{Accepted}
+use Rattle.component.specs.Drawing.{deepest, child}
+use Rattle.component.proofs.Record.{the-type}
+use Rattle.component.proofs.RecordLaws.{formOf-no-connection}
+use Rattle.flatten.specs.declared.Pin.{Pin}
+use Rattle.flatten.specs.declared.Wire.{Wire}
+use Rattle.flatten.specs.declared.descent.Entered.{Entered}
+use Rattle.flatten.specs.declared.descent.Entered.the-variants.{To, Nothing}
+use Rattle.flatten.specs.Descent.{source, targets, sourceOf, targetsOf, wiresAt, wires, flat, flatPin, flatWires}
+use Rattle.flatten.specs.Steps.{entered, IsStretch}
+use Rattle.flatten.specs.Verdict.{verdict}
+use Rattle.flatten.proofs.DescentLaws.{given, targets-bottom, targets-ends, targets-stretch, given-to, given-nothing, joined-end}
+use Rattle.leads.proofs.Accepted.{Passed, accepted-sized, accepted-passed}
+use Rattle.leads.proofs.Components.{primitive-component, component-number}
+use Rattle.leads.proofs.Descent.{source-sound}
+use Rattle.leads.proofs.Wires.{connection-ends}
+use Rattle.leads.proofs.Ends.{from-there}
+use Rattle.leads.proofs.FlatWires.{flatWire, flatWires-bound}
+use Rattle.load.specs.Load.{wireWords}
+use Rattle.load.specs.Laying.{Written, Ready, leadWords, wiresGiven}
+use Rattle.load.proofs.LayingLaws.{sets-append, Laid, laid-room, laid-step, laid-end, laid-count}
+
+abbrev pub led : List ℕ → ℕ → ℕ → ℕ → List Pin → List ℕ
+led s n f o ts = joined (leadWords (recordAt s) n f o) ts
+
+pub record Leading (s : List ℕ) (n d c i f o : ℕ) (t : List ℕ) (k q e : ℕ) (u : List ℕ) (m : ℕ) : Type 0 where
+  pub size : length u ≡ length t
+  pub table : sets u m (led s n f o (joined (given (recordAt s) n (d - 1) c i) (from q (e - q)))) ≡ sets t k (led s n f o (targets (recordAt s) n d c i))
+  pub place : m + length (led s n f o (joined (given (recordAt s) n (d - 1) c i) (from q (e - q)))) ≡ k + length (led s n f o (targets (recordAt s) n d c i))
+
+module _ (s : List ℕ) (n d c i f o : ℕ) (t : List ℕ) (k : ℕ) where
+  -- No depth left.
+  pub lead-bottom : d ≡ 0 → Written t k (led s n f o (targets (recordAt s) n d c i)) t k
+  lead-bottom h =
+      let e : led s n f o (targets (recordAt s) n d c i) ≡ [] = ap (led s n f o) (targets-bottom (recordAt s) n d c i h) in
+      record { table = ap (sets t k) (sym e); place = omega (arith, ap (λ (l : List ℕ). length l) e) }
+
+  module _ (r : Record) (b : Bool) (h : d ≡ 0 → ⊥) (er : r ≡ recordAt s c) (eb : b ≡ isPrimitive r) where
+    primitive-is : (x : Bool) → b ≡ x → isPrimitive (recordAt s c) ≡ x
+    primitive-is x e = sym (eb ∙ ap isPrimitive er) ∙ e
+
+    -- A primitive: one wire.
+    module _ (p : b ≡ true) where
+      led-here : led s n f o (targets (recordAt s) n d c i) ≡ f ∷ o ∷ flat (recordAt s) n c ∷ i ∷ []
+      led-here = ap (led s n f o) (targets-ends (recordAt s) n d c i h (primitive-is true p))
+
+      pub lead-room : k + length (led s n f o (targets (recordAt s) n d c i)) ≤ length t → k + 4 ≤ length t
+      lead-room room = omega (arith, ap (λ (l : List ℕ). length l) led-here)
+
+      pub lead-here : (u : List ℕ) (x : ℕ) → x ≡ flat (recordAt s) n c
+          → u ≡ sets t k (wireWords (record { src = record { comp = f; port = o }; dst = record { comp = x; port = i } }))
+          → Written t k (led s n f o (targets (recordAt s) n d c i)) u (k + 4)
+      lead-here u x ex eu =
+          record {
+            table = eu ∙ ap (λ (y : ℕ). sets t k (f ∷ o ∷ y ∷ i ∷ [])) ex ∙ ap (sets t k) (sym led-here);
+            place = omega (arith, ap (λ (l : List ℕ). length l) led-here);
+          }
+
+    -- A composite: the loop over its input maps starts.
+    pub leading-start : (a e : ℕ) → b ≡ false → IsStretch (recordAt s) n c a e → Leading s n d c i f o t k a e t k
+    leading-start a e p z =
+        let y = targets-stretch (recordAt s) n d c i a e h (primitive-is false p) z in
+        record {
+          size = refl;
+          table = ap (λ (ts : List Pin). sets t k (led s n f o ts)) (sym y);
+          place = ap (λ (ts : List Pin). k + length (led s n f o ts)) (sym y);
+        }
+
+  -- One turn: the map at q leads on; it leads nowhere; and the end.
+  module _ (q e : ℕ) (u : List ℕ) (m : ℕ) (inv : Leading s n d c i f o t k q e u m) where
+    module _ (g : Entered) (x j : ℕ) (l : q < e) (eg : g ≡ To x j) (h : g ≡ entered (recordAt s) n c i q) where
+      rest : List ℕ
+      rest = led s n f o (joined (given (recordAt s) n (d - 1) c i) (from (q + 1) (e - (q + 1))))
+
+      now-led : List ℕ
+      now-led = led s n f o (targets (recordAt s) n (d - 1) x j)
+
+      led-on : led s n f o (joined (given (recordAt s) n (d - 1) c i) (from q (e - q))) ≡ now-led ++ rest
+      unfolding rest now-led
+      led-on =
+          ap (led s n f o) (given-to (recordAt s) n (d - 1) c i q e x j l (sym eg ∙ h))
+          ∙ joined-append (leadWords (recordAt s) n f o) (targets (recordAt s) n (d - 1) x j) (joined (given (recordAt s) n (d - 1) c i) (from (q + 1) (e - (q + 1))))
+
+      pub leading-room : k + length (led s n f o (targets (recordAt s) n d c i)) ≤ length t
+          → m + length (led s n f o (targets (recordAt s) n (d - 1) x j)) ≤ length u
+      unfolding now-led
+      leading-room room =
+          omega (arith, inv .size, inv .place, ap (λ (y : List ℕ). length y) led-on, length-append now-led rest)
+
+      pub leading-to : (v : List ℕ) (w : ℕ) → Written u m (led s n f o (targets (recordAt s) n (d - 1) x j)) v w
+          → Leading s n d c i f o t k (q + 1) e v w
+      unfolding rest now-led
+      leading-to v w y =
+          record {
+            size = ap (λ (z : List ℕ). length z) (y .table) ∙ length-sets u m now-led ∙ inv .size;
+            table =
+                (λ j. sets (y .table j) (y .place j) rest) ∙ sym (sets-append u m now-led rest)
+                ∙ ap (sets u m) (sym led-on) ∙ inv .table;
+            place = omega (arith, y .place, inv .place, ap (λ (z : List ℕ). length z) led-on, length-append now-led rest);
+          }
+
+    pub leading-nothing : (g : Entered) → q < e → g ≡ Nothing → g ≡ entered (recordAt s) n c i q
+        → Leading s n d c i f o t k (q + 1) e u m
+    leading-nothing g l eg h =
+        let y = given-nothing (recordAt s) n (d - 1) c i q e l (sym eg ∙ h) in
+        record {
+          size = inv .size;
+          table = ap (λ (ts : List Pin). sets u m (led s n f o ts)) (sym y) ∙ inv .table;
+          place = ap (λ (ts : List Pin). m + length (led s n f o ts)) (sym y) ∙ inv .place;
+        }
+
+    pub leading-end : e ≤ q → Written t k (led s n f o (targets (recordAt s) n d c i)) u m
+    leading-end l =
+        let y : led s n f o (joined (given (recordAt s) n (d - 1) c i) (from q (e - q))) ≡ [] =
+        ap (led s n f o) (joined-end (given (recordAt s) n (d - 1) c i) q e l) in
+        record {
+          table = ap (sets u m) (sym y) ∙ inv .table;
+          place = omega (arith, inv .place, ap (λ (z : List ℕ). length z) y);
+        }
+
+-- An accepted file has at most 1,024 records.
+pub accepted-most : (s : List ℕ) → verdict s ≡ Accepted → recordCount s ≤ 1024
+accepted-most s accepted =
+    leb-true (recordCount s) 1024
+    (and-right (not (eqb (length s) 0) && eqb (length s % 24) 0) (leb (recordCount s) 1024) (accepted-sized s accepted))
+
+-- A primitive of an accepted file has a number below 256.
+pub primitive-number : (s : List ℕ) (n c : ℕ) (cs lo hi fs : List ℕ) (r : Record) (b : Bool) → Ready s n cs lo hi fs
+    → r ≡ recordAt s c → b ≡ isPrimitive r → b ≡ true → c < 256
+primitive-number s n c cs lo hi fs r b h er eb p =
+    component-number (recordAt s) _ (accepted-passed s (h .accepted)) c
+    (primitive-component (recordAt s c) (sym (eb ∙ ap isPrimitive er) ∙ p))
+
+-- The wires of the record at p: it is no connection; a connection.
+module _ (s : List ℕ) (n : ℕ) where
+  pub connect-other : (p : ℕ) (r : Record) (t : List ℕ) (k : ℕ) → r ≡ recordAt s p → OneOf (0 ∷ 2 ∷ 3 ∷ 4 ∷ []) (tagOf the-type r)
+      → Written t k (wiresGiven (recordAt s) n p) t k
+  connect-other p r t k e y =
+      let z : wiresGiven (recordAt s) n p ≡ [] = rw (← e, ne-eqb (formOf r) 2 (formOf-no-connection r y)) in
+      record { table = ap (sets t k) (sym z); place = omega (arith, ap (λ (l : List ℕ). length l) z) }
+
+  module _ (p w a b : ℕ) (f g : ChildNo) (r : Record) (e : r ≡ recordAt s p) (y : r ≡ Connection w f a g b) where
+    form-is : formOf (recordAt s p) ≡ 2
+    form-is = ap formOf (sym e ∙ y)
+
+    module _ (m c : ℕ) (x : Pin) (em : m ≡ deepest) (ec : c ≡ child (recordAt s) n w (f .0)) (ex : x ≡ source (recordAt s) n m c a) where
+      source-is : x ≡ sourceOf (recordAt s) n p
+      unfolding sourceOf
+      source-is =
+          ex ∙ ap (λ (j : ℕ). source (recordAt s) n j c a) em ∙ ap (λ (j : ℕ). source (recordAt s) n deepest j a) ec
+          ∙ ap (λ (z : Record). source (recordAt s) n deepest (child (recordAt s) n (ownerOf z) (fromOf z)) (outputOf z)) (sym y ∙ e)
+
+      -- The source is a primitive's, and its number is below 256.
+      pub source-number : (cs lo hi fs : List ℕ) → Ready s n cs lo hi fs → p < n → x .comp < 256
+      unfolding sourceOf
+      source-number cs lo hi fs h l =
+          let d = subst (Passed (recordAt s)) (sym (h .count)) (accepted-passed s (h .accepted)) in
+          let there = connection-ends (recordAt s) n d p l form-is .0 in
+          let comes = source-sound (recordAt s) n d 0 deepest (child (recordAt s) n (ownerOf (recordAt s p)) (fromOf (recordAt s p)))
+          (outputOf (recordAt s p)) (zero-add deepest) refl there in
+          rw source-is
+          (component-number (recordAt s) n d (sourceOf (recordAt s) n p .comp)
+          (primitive-component (recordAt s (sourceOf (recordAt s) n p .comp)) (from-there (recordAt s) n d _ _ _ there comes .of-primitive)))
+
+      module _ (l q i : ℕ) (el : l ≡ deepest) (eq : q ≡ child (recordAt s) n w (g .0)) (ei : i ≡ flat (recordAt s) n (x .comp)) where
+        targets-are : targets (recordAt s) n l q b ≡ targetsOf (recordAt s) n p
+        unfolding targetsOf
+        targets-are =
+            ap (λ (j : ℕ). targets (recordAt s) n j q b) el ∙ ap (λ (j : ℕ). targets (recordAt s) n deepest j b) eq
+            ∙ ap (λ (z : Record). targets (recordAt s) n deepest (child (recordAt s) n (ownerOf z) (toOf z)) (inputOf z)) (sym y ∙ e)
+
+        pub wires-are : led s n i (x .port) (targets (recordAt s) n l q b) ≡ wiresGiven (recordAt s) n p
+        wires-are =
+            ap (led s n i (x .port)) targets-are
+            ∙ ap (λ (z : ℕ). led s n z (x .port) (targetsOf (recordAt s) n p)) ei
+            ∙ ap (λ (z : Pin). led s n (flat (recordAt s) n (z .comp)) (z .port) (targetsOf (recordAt s) n p)) source-is
+            ∙ ap (λ (z : Bool). cond z (led s n (flat (recordAt s) n (sourceOf (recordAt s) n p .comp)) (sourceOf (recordAt s) n p .port) (targetsOf (recordAt s) n p)) []) (sym (eq-eqb (formOf (recordAt s p)) 2 form-is))
+
+        pub connect-room : (t : List ℕ) (k : ℕ) → k + length (wiresGiven (recordAt s) n p) ≤ length t
+            → k + length (led s n i (x .port) (targets (recordAt s) n l q b)) ≤ length t
+        connect-room t k room = omega (arith, ap (λ (z : List ℕ). length z) wires-are)
+
+        pub connect-written : (t u : List ℕ) (k v : ℕ) → Written t k (led s n i (x .port) (targets (recordAt s) n l q b)) u v
+            → Written t k (wiresGiven (recordAt s) n p) u v
+        connect-written t u k v h = subst (λ (z : List ℕ). Written t k z u v) wires-are h
+
+-- Lists made of others.
+joined-map : {A B C : Type 0} (f : B → List C) (g : A → B) (xs : List A) → joined f (map g xs) ≡ joined (λ a. f (g a)) xs
+joined-map f g [] = refl
+joined-map {C = C} f g (x ∷ xs) = ap (λ (l : List C). f (g x) ++ l) (joined-map f g xs)
+
+joined-joined : {A B C : Type 0} (f : B → List C) (g : A → List B) (xs : List A) → joined f (joined g xs) ≡ joined (λ a. joined f (g a)) xs
+joined-joined f g [] = refl
+joined-joined {C = C} f g (x ∷ xs) =
+    joined-append f (g x) (joined g xs) ∙ ap (λ (l : List C). joined f (g x) ++ l) (joined-joined f g xs)
+
+-- The words of all wires, record by record.
+module _ (at : ℕ → Record) (n : ℕ) where
+  pub wires-joined : joined wireWords (flatWires at n) ≡ joined (wiresGiven at n) (from 0 n)
+  wires-joined =
+      joined-map wireWords (flatWire at n) (wires at n)
+      ∙ joined-joined (λ (w : Wire). wireWords (flatWire at n w)) (λ p. cond (eqb (formOf (at p)) 2) (wiresAt at n p) []) (from 0 n)
+      ∙ (λ j. joined (λ p. by-form p (eqb (formOf (at p)) 2) j) (from 0 n))
+    where
+      by-form : (p : ℕ) (b : Bool) → joined (λ (w : Wire). wireWords (flatWire at n w)) (cond b (wiresAt at n p) [])
+          ≡ cond b (joined (leadWords at n (flat at n (sourceOf at n p .comp)) (sourceOf at n p .port)) (targetsOf at n p)) []
+      by-form p true =
+          joined-map (λ (w : Wire). wireWords (flatWire at n w)) (λ t. record { src = sourceOf at n p; dst = t }) (targetsOf at n p)
+      by-form p false = refl
+
+  pub wires-length : length (joined (wiresGiven at n) (from 0 n)) ≡ 4 * length (flatWires at n)
+  wires-length = ap (λ (l : List ℕ). length l) (sym wires-joined) ∙ joined-width wireWords 4 (λ w. refl) (flatWires at n)
+
+-- Laying the wires of an accepted file, in a table t of full size.
+module _ (s : List ℕ) (n : ℕ) (cs lo hi fs : List ℕ) (h : Ready s n cs lo hi fs) (t : List ℕ) (full : 4096 ≤ length t) where
+  wires-all : length (joined (wiresGiven (recordAt s) n) (from 0 n)) ≤ length t
+  wires-all =
+      omega (arith, wires-length (recordAt s) n, flatWires-bound (recordAt s) n
+      (subst (Passed (recordAt s)) (sym (h .count)) (accepted-passed s (h .accepted))))
+
+  module _ (p : ℕ) (u : List ℕ) (k : ℕ) (laid : Laid (wiresGiven (recordAt s) n) p t u k) where
+    pub wires-requires : p < n → (p < n) × (k + length (wiresGiven (recordAt s) n p) ≤ length u)
+    wires-requires l = (l, laid-room _ t p u k laid n l wires-all)
+
+    pub wires-step : (v : List ℕ) (m : ℕ) → Written u k (wiresGiven (recordAt s) n p) v m → Laid (wiresGiven (recordAt s) n) (p + 1) t v m
+    wires-step v m w = laid-step _ t p u k laid (wiresGiven (recordAt s) n p) v m refl (w .table) (w .place)
+
+    pub wires-end : p ≡ n → (u ≡ overlay (joined wireWords (flatWires (recordAt s) n)) t) × (k ≡ 4 * length (flatWires (recordAt s) n))
+    wires-end e = (
+      laid-end _ t p u k laid n e wires-all ∙ ap (λ (l : List ℕ). overlay l t) (sym (wires-joined (recordAt s) n)),
+      laid-count _ t p u k laid n e ∙ wires-length (recordAt s) n,
+    )

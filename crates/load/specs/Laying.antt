@@ -1,0 +1,107 @@
+-- What the passes of src/ write, one record after the other. Nobody has to believe anything here: each word only shortens what a
+-- definition of specs/Load.antt says.
+--   Written t k xs u m    u is the table t with xs written from place k on, and m is the place past them
+-- Assumes nothing.
+use mathlib.Core.Path.{_≡_}
+use Prim.Native.Nat.{ℕ, _+_, _<_}
+use mathlib.Core.Bool.{Bool, cond, _||_}
+use mathlib.Core.List.{List, [], _∷_}
+use lib.ListN.{length, getD}
+use lib.Seq.{sets}
+use lib.Dec.{eqb}
+use Rattle.lists.specs.Lists.{joined}
+use Rattle.primitive.specs.declared.table.Fields.{Fields}
+use Rattle.primitive.specs.declared.kinds.Kind.the-variants.{Clock, Const}
+use Rattle.primitive.specs.Kinds.{is}
+use Rattle.primitive.specs.Evaluate.{starting}
+use Rattle.component.specs.declared.Id.{Id}
+use Rattle.component.specs.declared.Record.{Record}
+use Rattle.component.specs.Record.{recordAt, recordCount, formOf, fieldsOf, idOf, isPrimitive}
+use Rattle.component.specs.Drawing.{child, primitivesBefore, inputsBefore, outputsBefore}
+use Rattle.component.specs.Index.{IsTable, IsRange}
+use Rattle.component.specs.declared.Verdict.the-variants.{Accepted}
+use Rattle.flatten.specs.declared.Pin.{Pin}
+use Rattle.flatten.specs.Descent.{flat, sourceOf, targetsOf}
+use Rattle.flatten.specs.Verdict.{verdict}
+use Rattle.load.specs.declared.names.Stood.{Stood}
+use Rattle.load.specs.declared.rows.Drawn.{Drawn}
+use Rattle.load.specs.declared.rows.Drawn.the-variants.{Primitive, Other}
+use Rattle.load.specs.declared.rows.Before.{Before}
+
+pub record Written (t : List ℕ) (k : ℕ) (xs : List ℕ) (u : List ℕ) (m : ℕ) : Type 0 where
+  pub table : u ≡ sets t k xs
+  pub place : m ≡ k + length xs
+
+abbrev pub seenIf : Bool → Record → Drawn
+seenIf b r = cond b (Primitive (record { 0 = idOf r }) (fieldsOf r)) Other
+
+abbrev pub seen : Record → Drawn
+seen r = seenIf (isPrimitive r) r
+
+abbrev pub componentBy : Id → Fields → Before → List ℕ
+componentBy d f b =
+    f .kind ∷ d .0 ∷ f .width ∷ f .parameter ∷ f .inputs ∷ f .outputs ∷ b .inputs ∷ b .outputs ∷ []
+
+abbrev pub rowBy : Drawn → Before → List ℕ
+rowBy (Primitive d f) b = componentBy d f b
+rowBy Other b = []
+
+abbrev pub beforeBy : Drawn → Before → Before
+beforeBy (Primitive d f) b =
+    record { components = b .components + 1; inputs = b .inputs + f .inputs; outputs = b .outputs + f .outputs }
+beforeBy Other b = b
+
+abbrev pub outputsBy : Drawn → List ℕ
+outputsBy (Primitive d f) = starting f
+outputsBy Other = []
+
+abbrev pub standingIf : Bool → ℕ → List ℕ
+standingIf b i = cond b (i ∷ []) []
+
+abbrev pub standingBy : Drawn → ℕ → List ℕ
+standingBy (Primitive d f) i = standingIf (is Const f || is Clock f) i
+standingBy Other i = []
+
+abbrev pub stoodBy : Drawn → Stood → Stood
+stoodBy (Primitive d f) s =
+    record { components = s .components + 1; count = cond (is Const f || is Clock f) (s .count + 1) (s .count) }
+stoodBy Other s = s
+
+abbrev pub startingOf : (ℕ → Record) → ℕ → List ℕ
+startingOf at p = starting (fieldsOf (at p))
+
+abbrev pub outputsAt : (ℕ → Record) → ℕ → List ℕ
+outputsAt at p = outputsBy (seen (at p))
+
+module _ (at : ℕ → Record) (n : ℕ) where
+  abbrev pub beforeAt : ℕ → Before
+  beforeAt p =
+      record { components = length (primitivesBefore at n p); inputs = inputsBefore at n p; outputs = outputsBefore at n p }
+
+  abbrev pub rowAt : ℕ → List ℕ
+  rowAt p = rowBy (seen (at p)) (beforeAt p)
+
+
+  abbrev pub standingAt : ℕ → List ℕ
+  standingAt p = standingBy (seen (at p)) (flat at n p)
+
+  pub record IsFlat (t : List ℕ) : Type 0 where
+    pub size : length t ≡ 256
+    pub word : (c : ℕ) → c < 256 → getD t c 0 ≡ flat at n c
+
+  -- The words of a wire from port o of flat index f to the input t of the drawing.
+  abbrev pub leadWords : ℕ → ℕ → Pin → List ℕ
+  leadWords f o t = f ∷ o ∷ flat at n (t .comp) ∷ t .port ∷ []
+
+  abbrev pub wiresGiven : ℕ → List ℕ
+  wiresGiven p =
+      cond (eqb (formOf (at p)) 2)
+      (joined (leadWords (flat at n (sourceOf at n p .comp)) (sourceOf at n p .port)) (targetsOf at n p))
+      []
+
+pub record Ready (s : List ℕ) (n : ℕ) (cs lo hi fs : List ℕ) : Type 0 where
+  pub accepted : verdict s ≡ Accepted
+  pub count : n ≡ recordCount s
+  pub children : IsTable 256 (child (recordAt s) n) cs
+  pub ranges : IsRange s n lo hi
+  pub indexes : IsFlat (recordAt s) n fs
