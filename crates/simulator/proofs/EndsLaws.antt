@@ -17,7 +17,7 @@ use Rattle.lists.proofs.MembersLaws.{from-last, keep-append}
 use Rattle.flatten.specs.declared.Wire.{Wire}
 use Rattle.tables.specs.Tables.{Tables, wireAt, joins, sources, targetsIn, indexes}
 use Rattle.simulator.specs.Calls.{driven}
-use Rattle.simulator.specs.Ends.{endOf, meets, met, ends, marked}
+use Rattle.simulator.specs.Asked.{endOf, meets, met, ends, marked}
 
 -- One number more.
 any-last : (f : ℕ → Bool) (k : ℕ) → any f (from 0 (k + 1)) ≡ (any f (from 0 k) || f k)

@@ -1,4 +1,5 @@
 // Rounds, edits and questions over lent tables. Rules: docs/SPECIFICATION.md, "Rounds" and "Numbers given back". Source: simulator.rs.
+mod edits;
 mod questions;
 
 use component::FlatIdx;

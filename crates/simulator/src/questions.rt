@@ -1,7 +1,8 @@
 // The questions: calm or not, the index of an id, a port's value, a component's sources and targets. They change no table of a net.
 // Rule: docs/SPECIFICATION.md, "Numbers given back". Source: flatten.rs, `id_to_idx`, `deps`, `inv_deps`; the others are added.
 ghost use mathlib.Core.Path.{_≡_};
-ghost use mathlib.Core.Bool.{true, cond};
+ghost use mathlib.Core.Bool.{cond};
+ghost use mathlib.Core.List.{[]};
 ghost use Prim.Native.Nat.{ℕ, _+_, _<_, _≤_};
 ghost use lib.ListN.{length, getD, take};
 ghost use lib.Dec.{eqb, leb};
@@ -9,18 +10,30 @@ ghost use Rattle.lists.specs.Lists.{from, every, first, overlay};
 ghost use Rattle.primitive.specs.declared.kinds.Kind.the-variants.{Clock};
 ghost use Rattle.primitive.specs.Kinds.{is};
 ghost use Rattle.primitive.specs.Evaluate.{refusedBy};
-ghost use Rattle.tables.specs.Tables.{wordIn, fieldsIn};
+ghost use Rattle.tables.specs.Tables.{tablesOf, wordIn, fieldsIn};
+ghost use Rattle.net.specs.Net.{lent};
 ghost use Rattle.simulator.specs.declared.Port.the-variants.{Is as PortIs, Refused as NoPort};
-ghost use Rattle.simulator.specs.Questions.{found};
-ghost use Rattle.simulator.specs.Ends.{endOf, meets, met, marked};
+ghost use Rattle.simulator.specs.Questions.{found, calmAnswer, indexAnswer, valueAnswer, listNumber, sourcesAnswer, sourcesList, targetsAnswer, targetsList};
+ghost use Rattle.simulator.specs.Asked.{endOf, meets, met, marked, RowRight, valueOnNet};
 use component::FlatIdx;
 use component::Id;
+use crate::Calm;
 use crate::Index;
+use crate::Listed;
 use crate::Port;
+use crate::Side;
 use primitive::Kind;
 use primitive::Refusal;
 use tables::Counts;
 use value::Value;
+
+// Full size of a list: the most that can be listed.
+const NAMES: usize = 256;
+
+// The ends of a wire, by the place of their component among its words.
+const SOURCE: usize = 0;
+
+const TARGET: usize = 2;
 
 // Whether component i is of a kind. The kind's word is compared whole.
 pub fn is_kind(components: &[u64], i: usize, kind: Kind) -> bool
@@ -96,15 +109,15 @@ fn mark_ends(wires: &[u16], count: usize, near: usize, far: usize, i: usize, mar
 }
 
 // Lists the marked ones of the first `count` components, ascending. The answer is how many there are.
-fn list_marked(marks: &[u8], count: usize, lent: &mut [u16]) -> usize
-    requires { ⌜ (count ≤ 256) × (count ≤ length (now marks)) × (count ≤ length (now lent)) ⌝ }
-    ensures { λ r. ⌜ (r ≡ length (marked (now (marks .entry)) count)) × (now (lent .exit) ≡ overlay (marked (now (marks .entry)) count) (now (lent .entry))) ⌝ }
+fn list_marked(marks: &[u8], count: usize, list: &mut [u16]) -> usize
+    requires { ⌜ (count ≤ 256) × (count ≤ length (now marks)) × (count ≤ length (now list)) ⌝ }
+    ensures { λ r. ⌜ (r ≡ length (marked (now (marks .entry)) count)) × (now (list .exit) ≡ overlay (marked (now (marks .entry)) count) (now (list .entry))) ⌝ }
 {
     let mut listed: usize = 0;
     let mut j: usize = 0;
     while j < count {
         if marks[j] == 1 {
-            lent[listed] = j as u16;
+            list[listed] = j as u16;
             listed += 1;
         }
         j += 1;
@@ -114,11 +127,252 @@ fn list_marked(marks: &[u8], count: usize, lent: &mut [u16]) -> usize
 
 // Lists the components that wires join to component i, ascending and each once: those at the far ends of the wires that have it
 // at their near end. One pass over the wires, and one over the components.
-fn list_ends(wires: &[u16], counts: Counts, near: usize, far: usize, i: usize, lent: &mut [u16]) -> usize
-    requires { ⌜ (counts .components ≤ 256) × (counts .wires ≤ 1024) × (near < 4) × (far < 4) × (256 ≤ length (now lent)) × ((k : ℕ) → k < counts .wires → endOf (now wires) k far < 256) ⌝ }
-    ensures { λ r. ⌜ (r ≡ length (met (now (wires .entry)) (counts .wires) near far i (counts .components))) × (now (lent .exit) ≡ overlay (met (now (wires .entry)) (counts .wires) near far i (counts .components)) (now (lent .entry))) ⌝ }
+fn list_ends(wires: &[u16], counts: Counts, near: usize, far: usize, i: usize, list: &mut [u16]) -> usize
+    requires { ⌜ (counts .components ≤ 256) × (counts .wires ≤ 1024) × (near < 4) × (far < 4) × (256 ≤ length (now list)) × ((k : ℕ) → k < counts .wires → endOf (now wires) k far < 256) ⌝ }
+    ensures { λ r. ⌜ (r ≡ length (met (now (wires .entry)) (counts .wires) near far i (counts .components))) × (now (list .exit) ≡ overlay (met (now (wires .entry)) (counts .wires) near far i (counts .components)) (now (list .entry))) ⌝ }
 {
     let mut marks = [0u8; 256];
     mark_ends(wires, counts.wires, near, far, i, &mut marks);
-    list_marked(&marks, counts.components, lent)
+    list_marked(&marks, counts.components, list)
+}
+
+// The value of a port of component i on a side: 17 where there is none.
+fn value_in(
+    components: &[u64],
+    inputs: &[u64],
+    outputs: &[u64],
+    counts: Counts,
+    side: Side,
+    i: usize,
+    port: usize,
+) -> Port
+    requires { ⌜ (counts .components ≤ 256) × (i < counts .components → RowRight (now components) (now inputs) (now outputs) i) ⌝ }
+    ensures { λ r. ⌜ r ≡ valueOnNet (lent (now (components .entry)) (now (inputs .entry)) (now (outputs .entry)) [] counts) side i port ⌝ }
+{
+    if counts.components <= i {
+        return Port::Refused(Refusal {
+            number: 17,
+            position: 0,
+        });
+    }
+    let f = tables::fields_at(components, i);
+    match side {
+        Side::Inputs => {
+            let first = tables::word_of(components, i, 6) as usize;
+            port_value(inputs, first, f.inputs as usize, primitive::input_width(f), port)
+        }
+        Side::Outputs => {
+            let first = tables::word_of(components, i, 7) as usize;
+            port_value(outputs, first, f.outputs as usize, primitive::output_width(f), port)
+        }
+    }
+}
+
+// What the questions for sources and targets check: 2, with the list that is lent for the answer; 16; 17.
+fn list_number(
+    components: &[u64],
+    inputs: &[u64],
+    outputs: &[u64],
+    wires: &[u16],
+    current: &[u16],
+    following: &[u16],
+    standing: &[u16],
+    counts: Counts,
+    i: usize,
+    list: &[u16],
+) -> u32
+    ensures { λ r. ⌜ r ≡ listNumber (tablesOf (now (components .entry)) (now (inputs .entry)) (now (outputs .entry)) (now (wires .entry)) (now (current .entry)) (now (following .entry)) (now (standing .entry)) counts) i (now (list .entry)) ⌝ }
+{
+    if list.len() < NAMES {
+        return 2;
+    }
+    let number = net::net_number(
+        components,
+        inputs,
+        outputs,
+        wires,
+        current,
+        following,
+        standing,
+        counts,
+    );
+    if number != 0 {
+        return number;
+    }
+    if counts.components <= i {
+        return 17;
+    }
+    0
+}
+
+// Calm or not: whether the current list names only Clocks.
+pub fn is_calm(
+    components: &[u64],
+    inputs: &[u64],
+    outputs: &[u64],
+    wires: &[u16],
+    current: &[u16],
+    following: &[u16],
+    standing: &[u16],
+    counts: Counts,
+) -> Calm
+    ensures { λ r. ⌜ r ≡ calmAnswer (tablesOf (now (components .entry)) (now (inputs .entry)) (now (outputs .entry)) (now (wires .entry)) (now (current .entry)) (now (following .entry)) (now (standing .entry)) counts) ⌝ }
+{
+    let number = net::net_number(
+        components,
+        inputs,
+        outputs,
+        wires,
+        current,
+        following,
+        standing,
+        counts,
+    );
+    if number != 0 {
+        return Calm::Refused(Refusal {
+            number,
+            position: 0,
+        });
+    }
+    Calm::Is(only_clocks(components, current, counts.current))
+}
+
+// The index of an id.
+pub fn index_of(
+    components: &[u64],
+    inputs: &[u64],
+    outputs: &[u64],
+    wires: &[u16],
+    current: &[u16],
+    following: &[u16],
+    standing: &[u16],
+    counts: Counts,
+    id: Id,
+) -> Index
+    ensures { λ r. ⌜ r ≡ indexAnswer (tablesOf (now (components .entry)) (now (inputs .entry)) (now (outputs .entry)) (now (wires .entry)) (now (current .entry)) (now (following .entry)) (now (standing .entry)) counts) (id .0) ⌝ }
+{
+    let number = net::net_number(
+        components,
+        inputs,
+        outputs,
+        wires,
+        current,
+        following,
+        standing,
+        counts,
+    );
+    if number != 0 {
+        return Index::Refused(Refusal {
+            number,
+            position: 0,
+        });
+    }
+    search_id(components, counts.components, id)
+}
+
+// The value of a port of a component on a side.
+pub fn value_of(
+    components: &[u64],
+    inputs: &[u64],
+    outputs: &[u64],
+    wires: &[u16],
+    current: &[u16],
+    following: &[u16],
+    standing: &[u16],
+    counts: Counts,
+    side: Side,
+    index: FlatIdx,
+    port: usize,
+) -> Port
+    ensures { λ r. ⌜ r ≡ valueAnswer (tablesOf (now (components .entry)) (now (inputs .entry)) (now (outputs .entry)) (now (wires .entry)) (now (current .entry)) (now (following .entry)) (now (standing .entry)) counts) side (index .0) port ⌝ }
+{
+    let number = net::net_number(
+        components,
+        inputs,
+        outputs,
+        wires,
+        current,
+        following,
+        standing,
+        counts,
+    );
+    if number != 0 {
+        return Port::Refused(Refusal {
+            number,
+            position: 0,
+        });
+    }
+    value_in(components, inputs, outputs, counts, side, index.0, port)
+}
+
+// A component's sources, ascending and without repeats, into a list of full size. The answer is how many they are.
+pub fn sources_of(
+    components: &[u64],
+    inputs: &[u64],
+    outputs: &[u64],
+    wires: &[u16],
+    current: &[u16],
+    following: &[u16],
+    standing: &[u16],
+    counts: Counts,
+    index: FlatIdx,
+    list: &mut [u16],
+) -> Listed
+    ensures { λ r. ⌜ (r ≡ sourcesAnswer (tablesOf (now (components .entry)) (now (inputs .entry)) (now (outputs .entry)) (now (wires .entry)) (now (current .entry)) (now (following .entry)) (now (standing .entry)) counts) (index .0) (now (list .entry))) × (now (list .exit) ≡ sourcesList (tablesOf (now (components .entry)) (now (inputs .entry)) (now (outputs .entry)) (now (wires .entry)) (now (current .entry)) (now (following .entry)) (now (standing .entry)) counts) (index .0) (now (list .entry))) ⌝ }
+{
+    let number = list_number(
+        components,
+        inputs,
+        outputs,
+        wires,
+        current,
+        following,
+        standing,
+        counts,
+        index.0,
+        list,
+    );
+    if number != 0 {
+        return Listed::Refused(Refusal {
+            number,
+            position: 0,
+        });
+    }
+    Listed::Count(list_ends(wires, counts, TARGET, SOURCE, index.0, list))
+}
+
+// A component's targets, likewise.
+pub fn targets_of(
+    components: &[u64],
+    inputs: &[u64],
+    outputs: &[u64],
+    wires: &[u16],
+    current: &[u16],
+    following: &[u16],
+    standing: &[u16],
+    counts: Counts,
+    index: FlatIdx,
+    list: &mut [u16],
+) -> Listed
+    ensures { λ r. ⌜ (r ≡ targetsAnswer (tablesOf (now (components .entry)) (now (inputs .entry)) (now (outputs .entry)) (now (wires .entry)) (now (current .entry)) (now (following .entry)) (now (standing .entry)) counts) (index .0) (now (list .entry))) × (now (list .exit) ≡ targetsList (tablesOf (now (components .entry)) (now (inputs .entry)) (now (outputs .entry)) (now (wires .entry)) (now (current .entry)) (now (following .entry)) (now (standing .entry)) counts) (index .0) (now (list .entry))) ⌝ }
+{
+    let number = list_number(
+        components,
+        inputs,
+        outputs,
+        wires,
+        current,
+        following,
+        standing,
+        counts,
+        index.0,
+        list,
+    );
+    if number != 0 {
+        return Listed::Refused(Refusal {
+            number,
+            position: 0,
+        });
+    }
+    Listed::Count(list_ends(wires, counts, SOURCE, TARGET, index.0, list))
 }

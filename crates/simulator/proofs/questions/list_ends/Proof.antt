@@ -36,7 +36,7 @@ returns c =
     let m =
     marked-met (a .wires .now) (c .before .before .before .before .before .before .mark-ends .last .1 .1 .1 .1 .1 .0) 256 (a .counts .wires) (a .near) (a .far) (a .i) (a .counts .components)
     (c .before .before .before .before .before .before .mark-ends .ensures) in
-    (e .0 ∙ ap length m, e .1 ∙ ap (λ (l : List ℕ). overlay l (a .lent .now)) m)
+    (e .0 ∙ ap length m, e .1 ∙ ap (λ (l : List ℕ). overlay l (a .list .now)) m)
 
 pub list-ends-spec : {M : Type 1} → statement M
 list-ends-spec =

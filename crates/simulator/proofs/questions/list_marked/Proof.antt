@@ -7,7 +7,7 @@ use native.Mathlib.Omega.{arith}
 use lib.ListN.{length, length-set}
 use Rattle.lists.specs.Lists.{overlay}
 use Rattle.tables.proofs.NamedLaws.{overlay-start}
-use Rattle.simulator.specs.Ends.{marked}
+use Rattle.simulator.specs.Asked.{marked}
 use Rattle.simulator.proofs.EndsLaws.{list-here, list-none}
 use borrow.Author.Needs.{needs}
 use Rattle.simulator.proofs.questions.list_marked.Statement.{statement}
@@ -16,11 +16,11 @@ use Rattle.simulator.proofs.questions.list_marked.Reads as reads
 use Rattle.simulator.proofs.questions.list_marked.Lts as lts
 
 abbrev Inv-loop : tie.InvT-loop
-Inv-loop marks count lent₀ listed₀ j₀ lent listed j =
-    (j ≤ count) × (listed ≤ j) × (length lent ≡ length lent₀) × (listed ≡ length (marked marks j)) × (lent ≡ overlay (marked marks j) lent₀)
+Inv-loop marks count list₀ listed₀ j₀ list listed j =
+    (j ≤ count) × (listed ≤ j) × (length list ≡ length list₀) × (listed ≡ length (marked marks j)) × (list ≡ overlay (marked marks j) list₀)
 
 abbrev μ-loop : tie.MeasureT-loop
-μ-loop marks count lent₀ listed₀ j₀ lent listed j = count - j
+μ-loop marks count list₀ listed₀ j₀ list listed j = count - j
 
 loop-holds : tie.Need-loop-holds Inv-loop μ-loop
 loop-holds c = (omega arith, omega arith, refl, refl, overlay-start _)
@@ -28,14 +28,14 @@ loop-holds c = (omega arith, omega arith, refl, refl, overlay-start _)
 shared-slice-read-if1 : tie.Need-shared-slice-read-if1 Inv-loop μ-loop
 shared-slice-read-if1 c = search needs
 
-cast-lent : tie.Need-cast-lent Inv-loop μ-loop
-cast-lent c = search needs
+cast-list : tie.Need-cast-list Inv-loop μ-loop
+cast-list c = search needs
 
-mul-lent : tie.Need-mul-lent Inv-loop μ-loop
-mul-lent c = search needs
+mul-list : tie.Need-mul-list Inv-loop μ-loop
+mul-list c = search needs
 
-slice-write-lent : tie.Need-slice-write-lent Inv-loop μ-loop
-slice-write-lent c = search needs
+slice-write-list : tie.Need-slice-write-list Inv-loop μ-loop
+slice-write-list c = search needs
 
 add-listed : tie.Need-add-listed Inv-loop μ-loop
 add-listed c = search needs
@@ -52,10 +52,10 @@ loop-again c =
     let l = c .before .before .before .loop in
     ⊎-elim
     (λ w.
-    let r = list-here (a .marks .now) (a .lent .now) (l .lent) (l .listed) (l .j) (l .inv .3) (l .inv .4) (omega arith) (w .0 .taken) in
+    let r = list-here (a .marks .now) (a .list .now) (l .list) (l .listed) (l .j) (l .inv .3) (l .inv .4) (omega arith) (w .0 .taken) in
     rw (w .1, w .2) (omega arith, omega arith, simp length-set (l .inv .2), r .0, r .1))
     (λ w.
-    let r = list-none (a .marks .now) (a .lent .now) (l .lent) (l .listed) (l .j) (l .inv .3) (l .inv .4) (w .0 .left) in
+    let r = list-none (a .marks .now) (a .list .now) (l .list) (l .listed) (l .j) (l .inv .3) (l .inv .4) (w .0 .left) in
     rw (w .1, w .2) (omega arith, omega arith, l .inv .2, r .0, r .1))
     (c .if1 .came)
 
@@ -76,9 +76,9 @@ list-marked-spec =
     μ-loop
     loop-holds
     shared-slice-read-if1
-    cast-lent
-    mul-lent
-    slice-write-lent
+    cast-list
+    mul-list
+    slice-write-list
     add-listed
     add-j
     loop-less

@@ -6,7 +6,7 @@ use mathlib.Core.Logic.{⊎-elim}
 use Prim.Native.Nat.{ℕ, _-_, _≤_}
 use native.Mathlib.Omega.{arith}
 use lib.ListN.{length, getD, length-set}
-use Rattle.simulator.specs.Ends.{meets}
+use Rattle.simulator.specs.Asked.{meets}
 use Rattle.simulator.proofs.EndsLaws.{mark-here, mark-none}
 use borrow.Author.Needs.{needs}
 use Rattle.simulator.proofs.questions.mark_ends.Statement.{statement}

@@ -1,0 +1,34 @@
+-- `index_of`: refused by the number, or what the search finds.
+-- Assumes nothing.
+use mathlib.Core.Path.{_≡_, sym, _∙_}
+use Rattle.tables.specs.Tables.{Tables, tablesOf}
+use Rattle.net.specs.Net.{netNumber}
+use Rattle.simulator.proofs.QuestionsLaws.{net-within, index-refused, index-found}
+use borrow.Author.Needs.{needs}
+use Rattle.simulator.proofs.questions.index_of.Statement.{statement}
+use Rattle.simulator.proofs.questions.index_of.Tie as tie
+use Rattle.simulator.proofs.questions.index_of.Reads as reads
+use Rattle.simulator.proofs.questions.index_of.Lts as lts
+use Rattle.net.proofs.net_number.Reads as net-number-reads
+use Rattle.simulator.proofs.questions.search_id.Reads as search-id-reads
+
+abbrev came : tie.Start → Tables
+came s = tablesOf (s .args .components .now) (s .args .inputs .now) (s .args .outputs .now) (s .args .wires .now) (s .args .current .now) (s .args .following .now) (s .args .standing .now) (s .args .counts)
+
+is-net : (c : tie.Else1) → netNumber (came (c .before .before .before .before .before .before .before .before .before)) ≡ 0
+is-net c = sym (c .before .net-number .ensures) ∙ c .if1 .left
+
+net-number-requires : tie.Need-net-number-requires
+net-number-requires c κs = search needs
+
+returns : tie.Need-returns
+returns c = index-refused (came (c .before .before .before .before .before .before .before .before .before)) (c .before .before .before .before .before .before .before .before .before .args .id .0) _ (c .before .net-number .ensures) (c .if1 .taken)
+
+search-id-requires : tie.Need-search-id-requires
+search-id-requires c κs = net-within (came (c .before .before .before .before .before .before .before .before .before)) (is-net c) .components
+
+returns-2 : tie.Need-returns-2
+returns-2 c = index-found (came (c .before .before .before .before .before .before .before .before .before .before)) (c .before .before .before .before .before .before .before .before .before .before .args .id .0) _ (is-net (c .before)) (c .search-id .ensures)
+
+pub index-of-spec : {M : Type 1} → statement M
+index-of-spec = tie.close (tie.spec net-number-requires returns search-id-requires returns-2)
