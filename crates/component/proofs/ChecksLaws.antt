@@ -1,4 +1,5 @@
--- Laws of the checks of specs/Drawing.antt, one for each way out of a function of src/checks.rt: the tests made so far decide the check.
+-- Laws of the checks of specs/Drawing.antt, one for each way out of a function of src/checks.rt: the tests made so far
+-- decide the check.
 -- Assumes nothing.
 use mathlib.Core.Path.{_≡_, refl, sym, ap, _∙_}
 use mathlib.Core.Bool.{Bool, true, false, not, _&&_, _||_}
@@ -7,13 +8,13 @@ use Prim.Native.Nat.{ℕ, zero, suc, _+_, _-_, _<_, _≤_}
 use native.Mathlib.Nat.{sub-zero}
 use native.Mathlib.Numerals.{add-one}
 use native.Mathlib.Omega.{arith}
-use borrow.Author.Tests.{eq-eqb, ne-eqb, lt-ltb, le-ltb, le-leb, lt-leb, not-true, not-false}
+use borrow.Author.Tests.{eq-eqb, ne-eqb, le-leb, lt-leb, not-true, not-false}
 use lib.Dec.{eqb, leb, ltb}
 use lib.ListN.{length}
 use types.Run.{OneOf}
 use Rattle.lists.specs.Lists.{from, any}
 use denote.Enum.Declared.{tagOf}
-use Rattle.primitive.specs.Kinds.{kept, unknown, obeys}
+use Rattle.primitive.specs.Kinds.{obeys}
 use Rattle.primitive.specs.declared.table.Fields.{Fields}
 use Rattle.component.specs.declared.ChildNo.{ChildNo}
 use Rattle.component.specs.declared.Id.{Id}
@@ -34,7 +35,8 @@ module _ (s : List ℕ) (n : ℕ) where
   fails3-at p f r e h = rw (h, e)
 
   -- 4: the first record; a later one
-  pub fails4-first : (p f : ℕ) (r : Record) → p ≡ 0 → r ≡ recordAt s p → f ≡ formOf r → not (eqb f 1) ≡ fails4 (recordAt s) n p
+  pub fails4-first : (p f : ℕ) (r : Record) → p ≡ 0 → r ≡ recordAt s p → f ≡ formOf r
+      → not (eqb f 1) ≡ fails4 (recordAt s) n p
   fails4-first p f r z e h = rw (h, e, z)
 
   fails4-pred : (p : ℕ) → (p ≡ 0 → ⊥) → fails4 (recordAt s) n p
@@ -44,7 +46,8 @@ module _ (s : List ℕ) (n : ℕ) where
   fails4-pred zero z = absurd (z refl)
   fails4-pred (suc q) z = let e : suc q - 1 ≡ q = omega arith in rw e
 
-  pub fails4-later : (p f g o m : ℕ) (r b : Record) → (p ≡ 0 → ⊥) → r ≡ recordAt s p → f ≡ formOf r → b ≡ recordAt s (p - 1)
+  pub fails4-later : (p f g o m : ℕ) (r b : Record) → (p ≡ 0 → ⊥) → r ≡ recordAt s p → f ≡ formOf r
+      → b ≡ recordAt s (p - 1)
       → g ≡ formOf b → o ≡ ownerOf r → m ≡ ownerOf b
       → (ltb f g || (eqb f g && leb 2 g && ltb o m)) ≡ fails4 (recordAt s) n p
   fails4-later p f g o m r b z e h d k i j = rw (h, k, i, j, e, d) (sym (fails4-pred p z))
@@ -90,11 +93,14 @@ module _ (s : List ℕ) (n : ℕ) where
   deeper-none zero q b e h = e
   deeper-none (suc d) q b e h = absurd (omega arith)
 
-  -- 5: the root; an owner that is no composite; a record that is no component; owned by the component before; by another
-  pub fails5-root : (p o : ℕ) (r : Record) → p ≡ 0 → r ≡ recordAt s p → o ≡ ownerOf r → not (eqb o 0) ≡ fails5 (recordAt s) n p
+  -- 5: the root; an owner that is no composite; a record that is no component; owned by the component before; by
+  -- another
+  pub fails5-root : (p o : ℕ) (r : Record) → p ≡ 0 → r ≡ recordAt s p → o ≡ ownerOf r
+      → not (eqb o 0) ≡ fails5 (recordAt s) n p
   fails5-root p o r z e h = rw (h, e, z)
 
-  module _ (p o : ℕ) (r w : Record) (z : p ≡ 0 → ⊥) (e : r ≡ recordAt s p) (h : o ≡ ownerOf r) (d : w ≡ recordAt s o) where
+  module _ (p o : ℕ) (r w : Record) (z : p ≡ 0 → ⊥) (e : r ≡ recordAt s p) (h : o ≡ ownerOf r)
+      (d : w ≡ recordAt s o) where
     fails5-pred : fails5 (recordAt s) n p
         ≡ not (composite w && (not (eqb (formOf r) 1) || eqb o (p - 1) || holds (recordAt s) n (p - 1) o (p - 1)))
     fails5-pred = rw (d, h, e) (by-place p z)
@@ -159,14 +165,16 @@ module _ (s : List ℕ) (n : ℕ) where
     pub fails10-other : (f ≡ 1 → ⊥) → false ≡ fails10 (recordAt s) n p
     fails10-other g = rw (← e, ← h, ne-eqb f 1 g)
 
-    pub fails10-component : (d : Id) (b : Bool) → f ≡ 1 → d .0 ≡ idOf r → b ≡ any (λ q. hasId (d .0) (recordAt s q)) (from 0 p)
+    pub fails10-component : (d : Id) (b : Bool) → f ≡ 1 → d .0 ≡ idOf r
+        → b ≡ any (λ q. hasId (d .0) (recordAt s q)) (from 0 p)
         → b ≡ fails10 (recordAt s) n p
     fails10-component d b g k j = j ∙ rw (k, e, ← e, ← h, eq-eqb f 1 g)
 
     pub fails11-other : (f ≡ 1 → ⊥) → false ≡ fails11 (recordAt s) n p
     fails11-other g = rw (← e, ← h, ne-eqb f 1 g)
 
-    pub fails11-component : (a b : ℕ) → f ≡ 1 → a ≡ inputsBefore (recordAt s) n (p + 1) → b ≡ outputsBefore (recordAt s) n (p + 1)
+    pub fails11-component : (a b : ℕ) → f ≡ 1 → a ≡ inputsBefore (recordAt s) n (p + 1)
+        → b ≡ outputsBefore (recordAt s) n (p + 1)
         → (ltb 1024 a || ltb 1024 b) ≡ fails11 (recordAt s) n p
     fails11-component a b g i j = rw (i, j, add-one p, ← e, ← h, eq-eqb f 1 g)
 
@@ -190,11 +198,13 @@ module _ (s : List ℕ) (n : ℕ) where
     fails14-composite u m k i j = rw (i, j, e, ← e, ← h, not-false b k)
 
   -- 12: the ports at a record's ends; then by its kind
-  pub fromThere-is : (r w : Record) (d : ChildNo) (o q b u : ℕ) → o ≡ ownerOf r → d .0 ≡ fromOf r → q ≡ child (recordAt s) n o (d .0)
+  pub fromThere-is : (r w : Record) (d : ChildNo) (o q b u : ℕ) → o ≡ ownerOf r → d .0 ≡ fromOf r
+      → q ≡ child (recordAt s) n o (d .0)
       → b ≡ outputOf r → w ≡ recordAt s q → u ≡ outputsOf w → ltb b u ≡ fromThere s n r
   fromThere-is r w d o q b u eo ed eq eb ew eu = rw (eu, ew, eb, eq, ed, eo)
 
-  pub toThere-is : (r w : Record) (d : ChildNo) (o q b u : ℕ) → o ≡ ownerOf r → d .0 ≡ toOf r → q ≡ child (recordAt s) n o (d .0)
+  pub toThere-is : (r w : Record) (d : ChildNo) (o q b u : ℕ) → o ≡ ownerOf r → d .0 ≡ toOf r
+      → q ≡ child (recordAt s) n o (d .0)
       → b ≡ inputOf r → w ≡ recordAt s q → u ≡ inputsOf w → ltb b u ≡ toThere s n r
   toThere-is r w d o q b u eo ed eq eb ew eu = rw (eu, ew, eb, eq, ed, eo)
 
@@ -208,19 +218,22 @@ module _ (s : List ℕ) (n : ℕ) where
     form-is : (k : ℕ) → f ≡ k → eqb (formOf (recordAt s p)) k ≡ true
     form-is k g = eq-eqb (formOf (recordAt s p)) k (form-at ∙ g)
 
-    pub fails12-connection : (a b : Bool) → f ≡ 2 → a ≡ fromThere s n r → b ≡ toThere s n r → not (a && b) ≡ fails12 (recordAt s) n p
+    pub fails12-connection : (a b : Bool) → f ≡ 2 → a ≡ fromThere s n r → b ≡ toThere s n r
+        → not (a && b) ≡ fails12 (recordAt s) n p
     fails12-connection a b g i j = rw (i, j, e, form-is 2 g)
 
     pub fails12-input-map : (a b : Bool) → (f ≡ 2 → ⊥) → f ≡ 3 → a ≡ portThere s r → b ≡ toThere s n r
         → not (a && b) ≡ fails12 (recordAt s) n p
     fails12-input-map a b x g i j = rw (i, j, e, form-not 2 x, form-is 3 g)
 
-    pub fails12-output-map : (a : Bool) → (f ≡ 2 → ⊥) → (f ≡ 3 → ⊥) → f ≡ 4 → a ≡ fromThere s n r → not a ≡ fails12 (recordAt s) n p
+    pub fails12-output-map : (a : Bool) → (f ≡ 2 → ⊥) → (f ≡ 3 → ⊥) → f ≡ 4 → a ≡ fromThere s n r
+        → not a ≡ fails12 (recordAt s) n p
     fails12-output-map a x y g i = rw (i, e, form-not 2 x, form-not 3 y, form-is 4 g)
 
     pub fails12-other : (f ≡ 2 → ⊥) → (f ≡ 3 → ⊥) → (f ≡ 4 → ⊥) → false ≡ fails12 (recordAt s) n p
     fails12-other x y g = rw (form-not 2 x, form-not 3 y, form-not 4 g)
 
-pub portThere-is : (s : List ℕ) (r w : Record) (o b u : ℕ) → b ≡ portOf r → o ≡ ownerOf r → w ≡ recordAt s o → u ≡ inputsOf w
+pub portThere-is : (s : List ℕ) (r w : Record) (o b u : ℕ) → b ≡ portOf r → o ≡ ownerOf r → w ≡ recordAt s o
+    → u ≡ inputsOf w
     → ltb b u ≡ portThere s r
 portThere-is s r w o b u eb eo ew eu = rw (eu, ew, eb, eo)

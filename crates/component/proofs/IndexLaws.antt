@@ -1,13 +1,12 @@
--- Laws of the tables of src/index.rt (specs/Index.antt): the cells of a table, one step of filling it, and what it holds in the end.
+-- Laws of the tables of src/index.rt (specs/Index.antt): the cells of a table, one step of filling it, and what it
+-- holds in the end.
 --   Filling    the invariant of the pass: the table and the counts say what the records before q say
 -- Assumes nothing.
 use mathlib.Core.Path.{_≡_, refl, sym, ap, _∙_}
 use mathlib.Core.Bool.{Bool, true, false, cond, _&&_, false≢true}
 use mathlib.Core.List.{List, [], _∷_, _++_}
-use mathlib.Core.Logic.{_⊎_, inl, inr, ⊎-elim}
-use Prim.Native.Nat.{ℕ, zero, suc, _+_, _-_, _*_, _≤_, _<_}
+use Prim.Native.Nat.{ℕ, _+_, _-_, _*_, _≤_, _<_}
 use native.Mathlib.Nat.{sub-zero, mul-suc, mul-comm, mul-le-mul-left}
-use native.Mathlib.Numerals.{add-one}
 use native.Mathlib.Decide.{decLt}
 use native.Mathlib.Omega.{arith}
 use borrow.Author.Tests.{eq-eqb, ne-eqb, lt-ltb, le-ltb, eqb-true, eqb-false, ltb-true, ltb-false}
@@ -15,11 +14,12 @@ use lib.Dec.{eqb, ltb}
 use lib.ListN.{length, getD, set, length-set, length-append, List·getD-eq-default}
 use lib.Seq.{getD-set-same, getD-set-other}
 use Rattle.lists.specs.Lists.{from, keep}
-use Rattle.lists.proofs.ListsLaws.{and-left, and-right, keep-snoc-here, keep-snoc-next, length-keep-le, getD-snoc-end, getD-snoc-else}
+use Rattle.lists.proofs.ListsLaws.{and-left, and-right, keep-snoc-here, keep-snoc-next, length-keep-le, getD-snoc-end}
+use Rattle.lists.proofs.ListsLaws.{getD-snoc-else}
 use Rattle.component.specs.declared.Record.{Record}
 use Rattle.component.specs.Record.{recordAt, formOf, ownerOf}
 use Rattle.component.specs.Index.{ownedAs, nthOwned, putWord, putCount, widenLow, widenHigh, IsTable, IsRange}
-use Rattle.component.specs.Drawing.{child, outMap}
+use Rattle.component.specs.Drawing.{outMap}
 use Rattle.component.proofs.ScanLaws.{tested}
 
 -- One word more of a table is x.
@@ -67,7 +67,8 @@ module _ (w form : ℕ) (r : Record) (q : ℕ) (counts t : List ℕ) (o f : ℕ)
   )
 
   pub put-placed : f ≡ form → o < 256 → getD counts o 0 < w
-      → (set t (w * o + getD counts o 0) q ≡ putWord w form r q counts t) × (set counts o (getD counts o 0 + 1) ≡ putCount form r counts)
+      → (set t (w * o + getD counts o 0) q ≡ putWord w form r q counts t)
+      × (set counts o (getD counts o 0 + 1) ≡ putCount form r counts)
   put-placed h g k = (
     rw (← ef, eq-eqb f form h, ← eo, lt-ltb o 256 g, lt-ltb (getD counts o 0) w k),
     rw (← ef, eq-eqb f form h, ← eo, lt-ltb o 256 g),
@@ -94,10 +95,12 @@ module _ (w form : ℕ) (r : Record) (q : ℕ) (counts t : List ℕ) where
   owner-else : (o : ℕ) → ownedAs form o r ≡ false → eqb (formOf r) form ≡ true → o ≡ m → ⊥
   owner-else o e f z = false≢true (sym e ∙ both-true (eqb (formOf r) form) (eqb m o) f (eq-eqb m o (sym z)))
 
-  putWord-else : (o k : ℕ) → k < w → ownedAs form o r ≡ false → getD (putWord w form r q counts t) (w * o + k) 0 ≡ getD t (w * o + k) 0
+  putWord-else : (o k : ℕ) → k < w → ownedAs form o r ≡ false
+      → getD (putWord w form r q counts t) (w * o + k) 0 ≡ getD t (w * o + k) 0
   putWord-else o k h e = by-test (counting && ltb had w) refl
     where
-      by-test : (b : Bool) → (counting && ltb had w) ≡ b → getD (cond b (set t (w * m + had) q) t) (w * o + k) 0 ≡ getD t (w * o + k) 0
+      by-test : (b : Bool) → (counting && ltb had w) ≡ b
+          → getD (cond b (set t (w * m + had) q) t) (w * o + k) 0 ≡ getD t (w * o + k) 0
       by-test true d =
           getD-set-other t (w * m + had) (w * o + k) q 0
           (λ z. owner-else o e (and-left (eqb (formOf r) form) (ltb m 256) (and-left counting (ltb had w) d))
@@ -108,7 +111,8 @@ module _ (w form : ℕ) (r : Record) (q : ℕ) (counts t : List ℕ) where
   putCount-else o e = by-test counting refl
     where
       by-test : (b : Bool) → counting ≡ b → getD (cond b (set counts m (had + 1)) counts) o 0 ≡ getD counts o 0
-      by-test true d = getD-set-other counts m o (had + 1) 0 (λ z. owner-else o e (and-left (eqb (formOf r) form) (ltb m 256) d) z)
+      by-test true d =
+          getD-set-other counts m o (had + 1) 0 (λ z. owner-else o e (and-left (eqb (formOf r) form) (ltb m 256) d) z)
       by-test false d = refl
 
   module _ (o : ℕ) (g : o < 256) (e : ownedAs form o r ≡ true) where
@@ -124,12 +128,14 @@ module _ (w form : ℕ) (r : Record) (q : ℕ) (counts t : List ℕ) where
     putCount-owner z =
         rw (counting-is, owner-is) (getD-set-same counts o (getD counts o 0 + 1) 0 (omega arith))
 
-    putWord-here : (k : ℕ) → k < w → length t ≡ 256 * w → k ≡ getD counts o 0 → getD (putWord w form r q counts t) (w * o + k) 0 ≡ q
+    putWord-here : (k : ℕ) → k < w → length t ≡ 256 * w → k ≡ getD counts o 0
+        → getD (putWord w form r q counts t) (w * o + k) 0 ≡ q
     putWord-here k h z y =
         let d : ltb had w ≡ true = lt-ltb had w (omega (arith, ap (λ (x : ℕ). getD counts x 0) owner-is)) in
         rw (counting-is, d, owner-is, ← y) (getD-set-same t (w * o + k) q 0 (omega (arith, cell-lt w o k g h)))
 
-    putWord-there : (k : ℕ) → k < w → (k ≡ getD counts o 0 → ⊥) → getD (putWord w form r q counts t) (w * o + k) 0 ≡ getD t (w * o + k) 0
+    putWord-there : (k : ℕ) → k < w → (k ≡ getD counts o 0 → ⊥)
+        → getD (putWord w form r q counts t) (w * o + k) 0 ≡ getD t (w * o + k) 0
     putWord-there k h y = by-test (counting && ltb had w)
       where
         by-test : (b : Bool) → getD (cond b (set t (w * m + had) q) t) (w * o + k) 0 ≡ getD t (w * o + k) 0
@@ -158,7 +164,8 @@ pub record Filling (s : List ℕ) (n w form first q : ℕ) (counts t : List ℕ)
   pub rows : length counts ≡ 256
   pub begun : first ≤ q
   pub until : q - first ≤ n - first
-  pub word : (o k : ℕ) → o < 256 → k < w → getD t (w * o + k) 0 ≡ getD (keep (tested s (ownedAs form o)) (from first (q - first))) k n
+  pub word : (o k : ℕ) → o < 256 → k < w
+      → getD t (w * o + k) 0 ≡ getD (keep (tested s (ownedAs form o)) (from first (q - first))) k n
   pub count : (o : ℕ) → o < 256 → getD counts o 0 ≡ length (keep (tested s (ownedAs form o)) (from first (q - first)))
 
 module _ (s : List ℕ) (n w form first : ℕ) where
@@ -175,14 +182,17 @@ module _ (s : List ℕ) (n w form first : ℕ) where
         count = λ o a. rw z (g o a);
       }
 
-  pub filling-counts : (q : ℕ) (counts t : List ℕ) → Filling s n w form first q counts t → n ≤ 1024 → (o : ℕ) → getD counts o 0 ≤ 1024
+  pub filling-counts : (q : ℕ) (counts t : List ℕ) → Filling s n w form first q counts t → n ≤ 1024 → (o : ℕ)
+      → getD counts o 0 ≤ 1024
   filling-counts q counts t h e o = by-place (decLt o 256)
     where
       by-place : Dec (o < 256) → getD counts o 0 ≤ 1024
-      by-place (yes a) = omega (arith, h .count o a, length-keep-le (tested s (ownedAs form o)) first q (h .begun), h .until)
+      by-place (yes a) =
+          omega (arith, h .count o a, length-keep-le (tested s (ownedAs form o)) first q (h .begun), h .until)
       by-place (no a) = omega (arith, List·getD-eq-default counts 0 {n = o} (omega (arith, h .rows)))
 
-  pub filling-end : (q : ℕ) (counts t : List ℕ) → Filling s n w form first q counts t → n ≤ q → IsTable w (nthOwned s n form first) t
+  pub filling-end : (q : ℕ) (counts t : List ℕ) → Filling s n w form first q counts t → n ≤ q
+      → IsTable w (nthOwned s n form first) t
   filling-end q counts t h e =
       let z : q - first ≡ n - first = omega (arith, h .until) in
       record {
@@ -190,12 +200,14 @@ module _ (s : List ℕ) (n w form first : ℕ) where
         word = λ o k a b. h .word o k a b ∙ rw z;
       }
 
-  module _ (q : ℕ) (counts t : List ℕ) (h : Filling s n w form first q counts t) (r : Record) (er : r ≡ recordAt s q) where
+  module _ (q : ℕ) (counts t : List ℕ) (h : Filling s n w form first q counts t) (r : Record)
+      (er : r ≡ recordAt s q) where
     owned-at : (o : ℕ) (b : Bool) → ownedAs form o r ≡ b → tested s (ownedAs form o) q ≡ b
     owned-at o b e = ap (ownedAs form o) (sym er) ∙ e
 
     step-word : (o k : ℕ) → o < 256 → k < w
-        → getD (putWord w form r q counts t) (w * o + k) 0 ≡ getD (keep (tested s (ownedAs form o)) (from first (q + 1 - first))) k n
+        → getD (putWord w form r q counts t) (w * o + k) 0
+        ≡ getD (keep (tested s (ownedAs form o)) (from first (q + 1 - first))) k n
     step-word o k a b = by-owner (ownedAs form o r) refl
       where
         passed : List ℕ
@@ -212,13 +224,16 @@ module _ (s : List ℕ) (n w form first : ℕ) where
             ∙ sym (getD-snoc-else passed q k n (λ x. z (x ∙ sym (h .count o a))))
 
         by-owner : (c : Bool) → ownedAs form o r ≡ c
-            → getD (putWord w form r q counts t) (w * o + k) 0 ≡ getD (keep (tested s (ownedAs form o)) (from first (q + 1 - first))) k n
+            → getD (putWord w form r q counts t) (w * o + k) 0
+            ≡ getD (keep (tested s (ownedAs form o)) (from first (q + 1 - first))) k n
         by-owner true e =
             by-place (eqb k (getD counts o 0)) e refl
-            ∙ ap (λ (l : List ℕ). getD l k n) (sym (keep-snoc-here (tested s (ownedAs form o)) first q (h .begun) (owned-at o true e)))
+            ∙ ap (λ (l : List ℕ). getD l k n)
+            (sym (keep-snoc-here (tested s (ownedAs form o)) first q (h .begun) (owned-at o true e)))
         by-owner false e =
             putWord-else w form r q counts t o k b e ∙ h .word o k a b
-            ∙ ap (λ (l : List ℕ). getD l k n) (sym (keep-snoc-next (tested s (ownedAs form o)) first q (h .begun) (owned-at o false e)))
+            ∙ ap (λ (l : List ℕ). getD l k n)
+            (sym (keep-snoc-next (tested s (ownedAs form o)) first q (h .begun) (owned-at o false e)))
 
     step-count : (o : ℕ) → o < 256
         → getD (putCount form r counts) o 0 ≡ length (keep (tested s (ownedAs form o)) (from first (q + 1 - first)))
@@ -231,15 +246,18 @@ module _ (s : List ℕ) (n w form first : ℕ) where
             → getD (putCount form r counts) o 0 ≡ length (keep (tested s (ownedAs form o)) (from first (q + 1 - first)))
         by-owner true e =
             let z : length (keep (tested s (ownedAs form o)) (from first (q + 1 - first))) ≡ length passed + 1 =
-            ap (λ (l : List ℕ). length l) (keep-snoc-here (tested s (ownedAs form o)) first q (h .begun) (owned-at o true e))
+            ap (λ (l : List ℕ). length l)
+            (keep-snoc-here (tested s (ownedAs form o)) first q (h .begun) (owned-at o true e))
             ∙ length-append passed (q ∷ [])
             in
             omega (arith, putCount-owner w form r q counts t o a e (h .rows), h .count o a, z)
         by-owner false e =
             putCount-else w form r q counts t o e ∙ h .count o a
-            ∙ ap (λ (l : List ℕ). length l) (sym (keep-snoc-next (tested s (ownedAs form o)) first q (h .begun) (owned-at o false e)))
+            ∙ ap (λ (l : List ℕ). length l)
+            (sym (keep-snoc-next (tested s (ownedAs form o)) first q (h .begun) (owned-at o false e)))
 
-    pub filling-step : (counts' t' : List ℕ) → q < n → t' ≡ putWord w form r q counts t → counts' ≡ putCount form r counts
+    pub filling-step : (counts' t' : List ℕ) → q < n → t' ≡ putWord w form r q counts t
+        → counts' ≡ putCount form r counts
         → Filling s n w form first (q + 1) counts' t'
     filling-step counts' t' l et ec =
         rw (et, ec) (record {
@@ -255,13 +273,15 @@ module _ (s : List ℕ) (n w form first : ℕ) where
 pub outMap-nth : (s : List ℕ) (n c i : ℕ) → nthOwned s n 4 0 c i ≡ outMap (recordAt s) n c i
 outMap-nth s n c i = rw (sub-zero n)
 
-pub outMap-table : (s : List ℕ) (n : ℕ) (t : List ℕ) → IsTable 64 (nthOwned s n 4 0) t → IsTable 64 (outMap (recordAt s) n) t
+pub outMap-table : (s : List ℕ) (n : ℕ) (t : List ℕ) → IsTable 64 (nthOwned s n 4 0) t
+    → IsTable 64 (outMap (recordAt s) n) t
 outMap-table s n t h = record {
   size = h .size;
   word = λ c i a b. h .word c i a b ∙ outMap-nth s n c i;
 }
 
--- A step of the ranges, by the tests made: no input map; an owner past the tables; one that is not the first; the first.
+-- A step of the ranges, by the tests made: no input map; an owner past the tables; one that is not the first; the
+-- first.
 module _ (r : Record) (q : ℕ) (lo hi : List ℕ) (c f : ℕ) (ec : c ≡ ownerOf r) (ef : f ≡ formOf r) where
   pub widen-other : (f ≡ 3 → ⊥) → (lo ≡ widenLow r q lo) × (hi ≡ widenHigh r q hi)
   widen-other h = (rw (← ef, ne-eqb f 3 h), rw (← ef, ne-eqb f 3 h))
@@ -275,13 +295,15 @@ module _ (r : Record) (q : ℕ) (lo hi : List ℕ) (c f : ℕ) (ec : c ≡ owner
     rw (← ef, eq-eqb f 3 h, ← ec, lt-ltb c 256 g),
   )
 
-  pub widen-first : f ≡ 3 → c < 256 → q < getD lo c 0 → (set lo c q ≡ widenLow r q lo) × (set hi c (q + 1) ≡ widenHigh r q hi)
+  pub widen-first : f ≡ 3 → c < 256 → q < getD lo c 0
+      → (set lo c q ≡ widenLow r q lo) × (set hi c (q + 1) ≡ widenHigh r q hi)
   widen-first h g k = (
     rw (← ef, eq-eqb f 3 h, ← ec, lt-ltb c 256 g, lt-ltb q (getD lo c 0) k),
     rw (← ef, eq-eqb f 3 h, ← ec, lt-ltb c 256 g),
   )
 
--- What a step does to the range of composite c: its low end never rises, its high end never falls, and they take in a map of c's own.
+-- What a step does to the range of composite c: its low end never rises, its high end never falls, and they take in a
+-- map of c's own.
 module _ (r : Record) (q : ℕ) (t : List ℕ) (size : length t ≡ 256) (c : ℕ) (g : c < 256) where
   abbrev mapping : Bool
   mapping = eqb (formOf r) 3 && ltb (ownerOf r) 256
@@ -300,9 +322,11 @@ module _ (r : Record) (q : ℕ) (t : List ℕ) (size : length t ≡ 256) (c : �
       by-place true e l = omega (arith, ap (λ (x : ℕ). getD t x 0) (eqb-true c (ownerOf r) e))
       by-place false e l = omega arith
 
-      by-test : (b : Bool) → (mapping && ltb q (getD t (ownerOf r) 0)) ≡ b → getD (cond b (set t (ownerOf r) q) t) c 0 ≤ getD t c 0
+      by-test : (b : Bool) → (mapping && ltb q (getD t (ownerOf r) 0)) ≡ b
+          → getD (cond b (set t (ownerOf r) q) t) c 0 ≤ getD t c 0
       by-test true e =
-          let l : q < getD t (ownerOf r) 0 = ltb-true q (getD t (ownerOf r) 0) (and-right mapping (ltb q (getD t (ownerOf r) 0)) e) in
+          let d : ltb q (getD t (ownerOf r) 0) ≡ true = and-right mapping (ltb q (getD t (ownerOf r) 0)) e in
+          let l : q < getD t (ownerOf r) 0 = ltb-true q (getD t (ownerOf r) 0) d in
           rw (set-at (ownerOf r) q) (by-place (eqb c (ownerOf r)) refl l)
       by-test false e = omega arith
 
@@ -371,7 +395,8 @@ pub record Widening (s : List ℕ) (n q : ℕ) (lo hi : List ℕ) : Type 0 where
   pub most : (p c : ℕ) → p < q → c < 256 → ownedAs 3 c (recordAt s p) ≡ true → p < getD hi c 0
 
 module _ (s : List ℕ) (n : ℕ) where
-  pub widening-start : (lo hi : List ℕ) → length lo ≡ 256 → length hi ≡ 256 → ((c : ℕ) → c < length hi → getD hi c 0 ≡ 0) → Widening s n 0 lo hi
+  pub widening-start : (lo hi : List ℕ) → length lo ≡ 256 → length hi ≡ 256
+      → ((c : ℕ) → c < length hi → getD hi c 0 ≡ 0) → Widening s n 0 lo hi
   widening-start lo hi e d h = record {
     lo-size = e;
     hi-size = d;
@@ -410,7 +435,8 @@ module _ (s : List ℕ) (n : ℕ) where
         by-place (yes a) = omega (arith, widenHigh-ge r q hi (h .hi-size) c g (h .within c g), h .most p c a g o)
         by-place (no a) = omega (arith, widenHigh-own r q hi (h .hi-size) c g (last-own p c l a o))
 
-    pub widening-step : (lo' hi' : List ℕ) → q < n → lo' ≡ widenLow r q lo → hi' ≡ widenHigh r q hi → Widening s n (q + 1) lo' hi'
+    pub widening-step : (lo' hi' : List ℕ) → q < n → lo' ≡ widenLow r q lo → hi' ≡ widenHigh r q hi
+        → Widening s n (q + 1) lo' hi'
     widening-step lo' hi' l el eh =
         rw (el, eh) (record {
           lo-size = widenLow-length r q lo (h .lo-size) 0 (omega arith);

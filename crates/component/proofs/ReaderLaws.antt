@@ -1,4 +1,5 @@
--- Laws of specs/Record.antt, one for each way out of a function of src/reader.rt: the tests made so far decide what is read.
+-- Laws of specs/Record.antt, one for each way out of a function of src/reader.rt: the tests made so far decide what is
+-- read.
 -- Assumes nothing.
 use mathlib.Core.Path.{_≡_, ap, _∙_}
 use Prim.Native.Nat.{ℕ, _+_, _-_, _*_, _/_, _<_, _≤_}
@@ -8,7 +9,8 @@ use borrow.Author.Tests.{eq-eqb, ne-eqb, lt-ltb, le-ltb}
 use lib.ListN.{length, getD, take, drop}
 use Rattle.component.specs.declared.Record.{Record}
 use Rattle.component.specs.declared.Record.the-variants.{Component, Connection, InputMap, OutputMap, Refused}
-use Rattle.component.specs.Record.{le16, le32, le64, componentIn, connectionIn, inputMapIn, outputMapIn, lineIn, readRecord, recordCount, recordAt}
+use Rattle.component.specs.Record.{le16, le32, le64, componentIn, connectionIn, inputMapIn, outputMapIn, lineIn}
+use Rattle.component.specs.Record.{readRecord, recordAt}
 
 module _ (s : List ℕ) where
   -- kind 1: D is not 0; D is 0
@@ -17,7 +19,8 @@ module _ (s : List ℕ) where
 
   pub component-read : (d o i a b w p : ℕ) → d ≡ le16 s 10 → d ≡ 0
       → o ≡ le16 s 2 → i ≡ le32 s 12 → a ≡ le16 s 4 → b ≡ le16 s 6 → w ≡ le16 s 8 → p ≡ le64 s 16
-      → Component o (record { 0 = i }) (record { kind = getD s 1 0; inputs = a; outputs = b; width = w; parameter = p }) ≡ componentIn s
+      → Component o (record { 0 = i }) (record { kind = getD s 1 0; inputs = a; outputs = b; width = w; parameter = p })
+      ≡ componentIn s
   component-read d o i a b w p e h eo ei ea eb ew ep = rw (← e, eq-eqb d 0 h, eo, ei, ea, eb, ew, ep)
 
   -- kind 2
@@ -57,11 +60,20 @@ module _ (s : List ℕ) where
 
     -- kind 2, 3, 4, none
     pub line-connection : (r : Record) → p ≡ 0 → getD s 0 0 ≡ 2 → r ≡ connectionIn s → r ≡ lineIn s
-    line-connection r k z q = q ∙ rw (eq-eqb (getD s 1 0) 0 h, ← e, eq-eqb i 0 g, ← f, eq-eqb p 0 k, eq-eqb (getD s 0 0) 2 z)
+    line-connection r k z q =
+        q ∙ rw (eq-eqb (getD s 1 0) 0 h, ← e, eq-eqb i 0 g, ← f, eq-eqb p 0 k, eq-eqb (getD s 0 0) 2 z)
 
     pub line-input-map : (r : Record) → p ≡ 0 → (getD s 0 0 ≡ 2 → ⊥) → getD s 0 0 ≡ 3 → r ≡ inputMapIn s → r ≡ lineIn s
     line-input-map r k y z q =
-        q ∙ rw (eq-eqb (getD s 1 0) 0 h, ← e, eq-eqb i 0 g, ← f, eq-eqb p 0 k, ne-eqb (getD s 0 0) 2 y, eq-eqb (getD s 0 0) 3 z)
+        q ∙ rw (
+          eq-eqb (getD s 1 0) 0 h,
+          ← e,
+          eq-eqb i 0 g,
+          ← f,
+          eq-eqb p 0 k,
+          ne-eqb (getD s 0 0) 2 y,
+          eq-eqb (getD s 0 0) 3 z,
+        )
 
     pub line-output-map : (r : Record) → p ≡ 0 → (getD s 0 0 ≡ 2 → ⊥) → (getD s 0 0 ≡ 3 → ⊥) → getD s 0 0 ≡ 4
         → r ≡ outputMapIn s → r ≡ lineIn s
@@ -77,7 +89,8 @@ module _ (s : List ℕ) where
           eq-eqb (getD s 0 0) 4 z,
         )
 
-    pub line-refused-kind : p ≡ 0 → (getD s 0 0 ≡ 2 → ⊥) → (getD s 0 0 ≡ 3 → ⊥) → (getD s 0 0 ≡ 4 → ⊥) → Refused ≡ lineIn s
+    pub line-refused-kind : p ≡ 0 → (getD s 0 0 ≡ 2 → ⊥) → (getD s 0 0 ≡ 3 → ⊥) → (getD s 0 0 ≡ 4 → ⊥)
+        → Refused ≡ lineIn s
     line-refused-kind k x y z =
         rw (
           eq-eqb (getD s 1 0) 0 h,
@@ -97,7 +110,8 @@ module _ (s : List ℕ) where
   read-line r h q = q ∙ rw (ne-eqb (getD s 0 0) 1 h)
 
   -- a position in the file, and one past its end
-  pub recordAt-read : (r : Record) (p : ℕ) → p < length s / 24 → r ≡ readRecord (take (24 * p + 24 - 24 * p) (drop (24 * p) s)) → r ≡ recordAt s p
+  pub recordAt-read : (r : Record) (p : ℕ) → p < length s / 24
+      → r ≡ readRecord (take (24 * p + 24 - 24 * p) (drop (24 * p) s)) → r ≡ recordAt s p
   recordAt-read r p h q =
       let e : 24 * p + 24 - 24 * p ≡ 24 = omega arith in
       q ∙ ap (λ (n : ℕ). readRecord (take n (drop (24 * p) s))) e ∙ rw (lt-ltb p (length s / 24) h)

@@ -1,9 +1,9 @@
 -- Laws of a record's kind: what the else of a `let .. else` knows, by the variant that its pattern names.
 -- Assumes nothing.
-use mathlib.Core.Path.{_≡_, refl}
+use mathlib.Core.Path.{_≡_, refl, sym, ap, _∙_}
 use mathlib.Core.Logic.{⊎-elim}
 use mathlib.Core.List.{[], _∷_}
-use Prim.Native.Nat.{_+_, _%_}
+use Prim.Native.Nat.{ℕ, _+_, _%_}
 use native.Mathlib.Omega.{arith}
 use types.Run.{OneOf}
 use denote.Enum.Declared.{tagOf}
@@ -20,23 +20,28 @@ formOf-tag (InputMap o a c d) = refl
 formOf-tag (OutputMap o a b) = refl
 formOf-tag Refused = refl
 
+-- A tag that is one of four belongs to none but the kinds of those four.
+not-among : (r : Record) (a b c d k : ℕ) → OneOf (a ∷ b ∷ c ∷ d ∷ []) (tagOf the-type r)
+    → (k ≡ (a + 1) % 5 → ⊥) → (k ≡ (b + 1) % 5 → ⊥) → (k ≡ (c + 1) % 5 → ⊥) → (k ≡ (d + 1) % 5 → ⊥) → formOf r ≡ k → ⊥
+not-among r a b c d k h ha hb hc hd e =
+    ⊎-elim (λ z. ha (kind z)) (⊎-elim (λ z. hb (kind z)) (⊎-elim (λ z. hc (kind z)) (λ z. hd (kind z)))) h
+  where
+    kind : {t : ℕ} → tagOf the-type r ≡ t → k ≡ (t + 1) % 5
+    kind z = sym e ∙ formOf-tag r ∙ ap (λ (t : ℕ). (t + 1) % 5) z
+
 module _ (r : Record) where
   pub formOf-no-component : OneOf (1 ∷ 2 ∷ 3 ∷ 4 ∷ []) (tagOf the-type r) → formOf r ≡ 1 → ⊥
-  formOf-no-component k e =
-      ⊎-elim (λ h. omega (arith, formOf-tag r))
-      (⊎-elim (λ h. omega (arith, formOf-tag r)) (⊎-elim (λ h. omega (arith, formOf-tag r)) (λ h. omega (arith, formOf-tag r)))) k
+  formOf-no-component h =
+      not-among r 1 2 3 4 1 h (λ z. omega arith) (λ z. omega arith) (λ z. omega arith) (λ z. omega arith)
 
   pub formOf-no-connection : OneOf (0 ∷ 2 ∷ 3 ∷ 4 ∷ []) (tagOf the-type r) → formOf r ≡ 2 → ⊥
-  formOf-no-connection k e =
-      ⊎-elim (λ h. omega (arith, formOf-tag r))
-      (⊎-elim (λ h. omega (arith, formOf-tag r)) (⊎-elim (λ h. omega (arith, formOf-tag r)) (λ h. omega (arith, formOf-tag r)))) k
+  formOf-no-connection h =
+      not-among r 0 2 3 4 2 h (λ z. omega arith) (λ z. omega arith) (λ z. omega arith) (λ z. omega arith)
 
   pub formOf-no-input-map : OneOf (0 ∷ 1 ∷ 3 ∷ 4 ∷ []) (tagOf the-type r) → formOf r ≡ 3 → ⊥
-  formOf-no-input-map k e =
-      ⊎-elim (λ h. omega (arith, formOf-tag r))
-      (⊎-elim (λ h. omega (arith, formOf-tag r)) (⊎-elim (λ h. omega (arith, formOf-tag r)) (λ h. omega (arith, formOf-tag r)))) k
+  formOf-no-input-map h =
+      not-among r 0 1 3 4 3 h (λ z. omega arith) (λ z. omega arith) (λ z. omega arith) (λ z. omega arith)
 
   pub formOf-no-output-map : OneOf (0 ∷ 1 ∷ 2 ∷ 4 ∷ []) (tagOf the-type r) → formOf r ≡ 4 → ⊥
-  formOf-no-output-map k e =
-      ⊎-elim (λ h. omega (arith, formOf-tag r))
-      (⊎-elim (λ h. omega (arith, formOf-tag r)) (⊎-elim (λ h. omega (arith, formOf-tag r)) (λ h. omega (arith, formOf-tag r)))) k
+  formOf-no-output-map h =
+      not-among r 0 1 2 4 4 h (λ z. omega arith) (λ z. omega arith) (λ z. omega arith) (λ z. omega arith)

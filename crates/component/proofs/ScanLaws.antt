@@ -1,12 +1,11 @@
--- Laws of a loop over the records of a file that makes one test T of each: the laws of ListsLaws over positions, in the form in which
--- such a loop has its facts. Record q is r, and t says whether T holds of it.
+-- Laws of a loop over the records of a file that makes one test T of each: the laws of ListsLaws over positions, in the
+-- form in which such a loop has its facts. Record q is r, and t says whether T holds of it.
 -- Not here: the laws over positions (ListsLaws).
 -- Assumes nothing.
-use mathlib.Core.Path.{_≡_, refl, sym, ap, _∙_}
+use mathlib.Core.Path.{_≡_, sym, ap, _∙_}
 use mathlib.Core.Bool.{Bool, true, false, cond}
-use mathlib.Core.List.{List, []}
-use Prim.Native.Nat.{ℕ, zero, suc, _+_, _-_, _*_, _≤_, _<_}
-use native.Mathlib.Nat.{sub-zero}
+use mathlib.Core.List.{List}
+use Prim.Native.Nat.{ℕ, _+_, _-_, _≤_, _<_}
 use native.Mathlib.Omega.{arith}
 use lib.ListN.{length, getD}
 use Rattle.lists.specs.Lists.{from, keep, any, total}
@@ -41,7 +40,8 @@ module _ (s : List ℕ) (T : Record → Bool) (q n : ℕ) where
   scan-kth-here r t k d x i h e f g z = kth-here (tested s T) q n k d x i h (tested-is r t true e f g) z
 
   pub scan-kth-counts : (r : Record) (t : Bool) (k d x : ℕ) → getD (keep (tested s T) (from q (n - q))) k d ≡ x → q < n
-      → r ≡ recordAt s q → t ≡ T r → t ≡ true → (k ≡ 0 → ⊥) → getD (keep (tested s T) (from (q + 1) (n - (q + 1)))) (k - 1) d ≡ x
+      → r ≡ recordAt s q → t ≡ T r → t ≡ true → (k ≡ 0 → ⊥)
+      → getD (keep (tested s T) (from (q + 1) (n - (q + 1)))) (k - 1) d ≡ x
   scan-kth-counts r t k d x i h e f g z = kth-counts (tested s T) q n k d x i h (tested-is r t true e f g) z
 
   pub scan-kth-next : (r : Record) (t : Bool) (k d x : ℕ) → getD (keep (tested s T) (from q (n - q))) k d ≡ x → q < n
@@ -55,25 +55,29 @@ module _ (s : List ℕ) (T : Record → Bool) (q n : ℕ) where
   pub scan-length-here : (r : Record) (t : Bool) (m x : ℕ) → m + length (keep (tested s T) (from q (n - q))) ≡ x → q < n
       → r ≡ recordAt s q → t ≡ T r → t ≡ true → (m + 1) + length (keep (tested s T) (from (q + 1) (n - (q + 1)))) ≡ x
   scan-length-here r t m x i h e f g =
-      omega (arith, length-keep-step (tested s T) q n h, ap (λ (b : Bool). cond {A = ℕ} b 1 0) (tested-is r t true e f g))
+      let z = ap (λ (b : Bool). cond {A = ℕ} b 1 0) (tested-is r t true e f g) in
+      omega (arith, length-keep-step (tested s T) q n h, z)
 
   pub scan-length-next : (r : Record) (t : Bool) (m x : ℕ) → m + length (keep (tested s T) (from q (n - q))) ≡ x → q < n
       → r ≡ recordAt s q → t ≡ T r → t ≡ false → m + length (keep (tested s T) (from (q + 1) (n - (q + 1)))) ≡ x
   scan-length-next r t m x i h e f g =
-      omega (arith, length-keep-step (tested s T) q n h, ap (λ (b : Bool). cond {A = ℕ} b 1 0) (tested-is r t false e f g))
+      let z = ap (λ (b : Bool). cond {A = ℕ} b 1 0) (tested-is r t false e f g) in
+      omega (arith, length-keep-step (tested s T) q n h, z)
 
   pub scan-length-all : (m x : ℕ) → m + length (keep (tested s T) (from q (n - q))) ≡ x → n ≤ q → m ≡ x
   scan-length-all m x i h = omega (arith, ap (λ (l : List ℕ). length l) (keep-none (tested s T) q n h))
 
   -- the sum of what F gives of those that pass, m so far and a added here: one step; all
   module _ (F : Record → ℕ) where
-    pub scan-total-next : (r : Record) (f a m x : ℕ) → m + total (λ p. F (recordAt s p)) (keep (tested s T) (from q (n - q))) ≡ x
+    pub scan-total-next : (r : Record) (f a m x : ℕ)
+        → m + total (λ p. F (recordAt s p)) (keep (tested s T) (from q (n - q))) ≡ x
         → q < n → r ≡ recordAt s q → f ≡ F r → a ≡ cond (T r) f 0
         → (m + a) + total (λ p. F (recordAt s p)) (keep (tested s T) (from (q + 1) (n - (q + 1)))) ≡ x
     scan-total-next r f a m x i h e d k =
         let y : a ≡ cond (T (recordAt s q)) (F (recordAt s q)) 0 = k ∙ rw (d, e) in
         omega (arith, total-keep-step (tested s T) q n (λ p. F (recordAt s p)) h, y)
 
-    pub scan-total-all : (m x : ℕ) → m + total (λ p. F (recordAt s p)) (keep (tested s T) (from q (n - q))) ≡ x → n ≤ q → m ≡ x
+    pub scan-total-all : (m x : ℕ) → m + total (λ p. F (recordAt s p)) (keep (tested s T) (from q (n - q))) ≡ x → n ≤ q
+        → m ≡ x
     scan-total-all m x i h =
         omega (arith, ap (total (λ p. F (recordAt s p))) (keep-none (tested s T) q n h))

@@ -7,6 +7,7 @@
 --   ownedAs form o r      it is of a record kind and of owner o
 --   nthOwned s n form first o k   the kth such record from `first` on; n where there is none
 --   putWord, putCount     one step of filling a table
+--   IsClear x t u         u is as long as t, and each of its words is x
 --   IsTable w g t         a table of w words for each of 256 owners: word k of owner o is g o k
 --   widenLow, widenHigh   one step of filling the ranges
 --   IsRange s n lo hi     for each of 256 composites, its input maps stand from lo to below hi
@@ -47,7 +48,8 @@ ownedAs form o r = eqb (formOf r) form && eqb (ownerOf r) o
 abbrev pub nthOwned : List ℕ → ℕ → ℕ → ℕ → ℕ → ℕ → ℕ
 nthOwned s n form first o k = getD (keep (λ q. ownedAs form o (recordAt s q)) (from first (n - first))) k n
 
--- One step of filling such a table: r at position q is the next record of its owner, where it is of the kind; past w it is only counted.
+-- One step of filling such a table: r at position q is the next record of its owner, where it is of the kind; past w it
+-- is only counted.
 abbrev pub putWord : ℕ → ℕ → Record → ℕ → List ℕ → List ℕ → List ℕ
 putWord w form r q counts t =
     cond (eqb (formOf r) form && ltb (ownerOf r) 256 && ltb (getD counts (ownerOf r) 0) w)
@@ -57,6 +59,10 @@ putWord w form r q counts t =
 abbrev pub putCount : ℕ → Record → List ℕ → List ℕ
 putCount form r counts =
     cond (eqb (formOf r) form && ltb (ownerOf r) 256) (set counts (ownerOf r) (getD counts (ownerOf r) 0 + 1)) counts
+
+pub record IsClear (x : ℕ) (t u : List ℕ) : Type 0 where
+  pub size : length u ≡ length t
+  pub word : (i : ℕ) → i < length u → getD u i 0 ≡ x
 
 pub record IsTable (w : ℕ) (g : ℕ → ℕ → ℕ) (t : List ℕ) : Type 0 where
   pub size : length t ≡ 256 * w

@@ -1,5 +1,5 @@
 -- The bytes of a file as records. docs/SPECIFICATION.md, "The drawing file", and check 3 of "Numbers given back".
-use Prim.Native.Nat.{ℕ, _+_, _*_, _/_}
+use Prim.Native.Nat.{ℕ, _+_, _*_, _/_, _<_}
 use mathlib.Core.Bool.{Bool, true, false, cond, _&&_}
 use mathlib.Core.List.{List}
 use lib.ListN.{length, getD, take, drop}
@@ -53,6 +53,10 @@ lineIn s =
 -- What the 24 bytes of a record say.
 abbrev pub readRecord : List ℕ → Record
 readRecord s = cond (eqb (getD s 0 0) 1) (componentIn s) (lineIn s)
+
+-- A file is bytes: what is lent as a slice of bytes is such a list.
+abbrev pub IsBytes : List ℕ → Type 0
+IsBytes file = (i : ℕ) → getD file i 0 < 256
 
 -- How many whole records a file has.
 abbrev pub recordCount : List ℕ → ℕ

@@ -1,12 +1,13 @@
-// An index of the records: where child k of a component stands, and output map i of a composite, and between which records its
-// input maps stand. Rule: docs/SPECIFICATION.md, "The drawing file". The tables are filled in one pass each, for the first 256
-// owners; past them the records are searched one by one.
+// An index of the records: where child k of a component stands, and output map i of a composite, and between which
+// records its input maps stand. Rule: docs/SPECIFICATION.md, "The drawing file". The tables are filled in one pass
+// each, for the first 256 owners; past them the records are searched one by one.
 // Only crate flatten calls these functions, with the number of records for n.
 ghost use mathlib.Core.Path.{_≡_};
 ghost use Prim.Native.Nat.{ℕ, _*_, _≤_, _<_};
 ghost use lib.ListN.{length, getD};
 ghost use Rattle.component.specs.Record.{recordAt};
-ghost use Rattle.component.specs.Index.{ownedAs, nthOwned, putWord, putCount, widenLow, widenHigh, IsTable, IsRange};
+ghost use Rattle.component.specs.Index.{ownedAs, nthOwned, putWord, putCount, widenLow, widenHigh};
+ghost use Rattle.component.specs.Index.{IsClear, IsTable, IsRange};
 ghost use Rattle.component.specs.Drawing.{child, outMap};
 use crate::ChildNo;
 use crate::Record;
@@ -41,7 +42,7 @@ fn nth_owned(file: &[u8], n: usize, form: u8, first: usize, o: usize, k: usize) 
 
 // Writes x into every word of a table.
 fn clear(table: &mut [u16], x: u16)
-    ensures { λ _. ⌜ (length (now (table .exit)) ≡ length (now (table .entry))) × ((i : ℕ) → i < length (now (table .exit)) → getD (now (table .exit)) i 0 ≡ x) ⌝ }
+    ensures { λ _. ⌜ IsClear x (now (table .entry)) (now (table .exit)) ⌝ }
 {
     let mut i: usize = 0;
     while i < table.len() {

@@ -1,4 +1,5 @@
-// The records of a drawing file. Rules: docs/SPECIFICATION.md, "The drawing file" and "Numbers given back". Source: component.rs.
+// The records of a drawing file. Rules: docs/SPECIFICATION.md, "The drawing file" and "Numbers given back". Source:
+// component.rs.
 mod checks;
 mod fields;
 mod index;

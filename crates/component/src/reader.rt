@@ -2,7 +2,8 @@
 ghost use mathlib.Core.Path.{_≡_};
 ghost use Prim.Native.Nat.{_+_, _*_, _≤_, _<_};
 ghost use lib.ListN.{length};
-ghost use Rattle.component.specs.Record.{le16, le32, le64, readRecord, recordAt, lineIn, componentIn, connectionIn, inputMapIn, outputMapIn};
+ghost use Rattle.component.specs.Record.{le16, le32, le64, readRecord, recordAt};
+ghost use Rattle.component.specs.Record.{lineIn, componentIn, connectionIn, inputMapIn, outputMapIn};
 use crate::ChildNo;
 use crate::Id;
 use crate::Record;

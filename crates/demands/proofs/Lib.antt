@@ -1,2 +1,3 @@
 pub mod LampHold
 pub mod MarkedHold
+pub mod Demand3

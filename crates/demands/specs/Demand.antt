@@ -1,10 +1,14 @@
--- Demand 3, stated on the drawing: its records say what leads where and what each component is, the tables only hold the values. docs/SPECIFICATION.md, "Flattening" (leads, satisfied).
+-- Demand 3, stated on the drawing: its records say what leads where and what each component is; the tables only hold the values.
+-- docs/SPECIFICATION.md, "Flattening" (leads, satisfied).
+--   Equal s d, Follows t x   an output and an input hold the same number; a component holds its function of its inputs
+--   Satisfied, Obeyed        the drawing is satisfied; the three parts of demand 3
+--   Demand3                  the demand
+-- Assumes nothing.
 use mathlib.Core.Path.{_≡_}
 use Prim.Native.Nat.{ℕ, _<_}
 use mathlib.Core.Bool.{Bool, true, false, not, _||_}
 use mathlib.Core.List.{List}
 use lib.ListN.{getD}
-use Rattle.lists.specs.Lists.{has}
 use Rattle.primitive.specs.declared.kinds.Kind.the-variants.{Switch, Clock}
 use Rattle.primitive.specs.Kinds.{is}
 use Rattle.primitive.specs.Evaluate.{functionOf}
@@ -13,12 +17,9 @@ use Rattle.component.specs.Record.{recordAt, recordCount, fieldsOf, inputsOf, o
 use Rattle.flatten.specs.declared.Pin.{Pin}
 use Rattle.flatten.specs.Descent.{flat, flatPin}
 use Rattle.flatten.specs.Leads.{Leads}
-use Rattle.tables.specs.Tables.{Tables, firstInput, firstOutput, inputPlace, outputPlace, numbers, currentList, followingList, standingList}
+use Rattle.tables.specs.Tables.{Tables, firstInput, firstOutput, inputPlace, outputPlace, numbers, named}
+use Rattle.net.specs.Net.{netNumber}
 use Rattle.demands.specs.Reached.{Reached}
-
--- One of the three update lists names the component of flat index i.
-abbrev pub named : Tables → ℕ → Bool
-named T i = has i (currentList T) || has i (followingList T) || has i (standingList T)
 
 module _ (at : ℕ → Record) (n : ℕ) (T : Tables) where
   -- The primitive output s and the primitive input d of the drawing hold the same number.
@@ -47,6 +48,8 @@ module _ (at : ℕ → Record) (n : ℕ) (T : Tables) where
     pub settled : ran ≡ true
         → ((x : ℕ) → x < n → isPrimitive (at x) ≡ true → named T (flat at n x) ≡ true → is Clock (fieldsOf (at x)) ≡ true) → Satisfied t
 
--- Demand 3: any accepted drawing, any rounds and edits since its load.
+-- Demand 3: for any accepted drawing and any rounds and edits since its load, no call is refused with 2 or 16, and the three parts hold.
 abbrev pub Demand3 : Type 0
-Demand3 = (file : List ℕ) (ran : Bool) (t : ℕ) (T : Tables) → Reached file ran t T → Obeyed (recordAt file) (recordCount file) T ran t
+Demand3 =
+    (file : List ℕ) (ran : Bool) (t : ℕ) (T : Tables) → Reached file ran t T
+    → (netNumber T ≡ 0) × Obeyed (recordAt file) (recordCount file) T ran t

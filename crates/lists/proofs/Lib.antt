@@ -1,2 +1,4 @@
 pub mod ListsLaws
 pub mod MembersLaws
+pub mod NamesLaws
+pub mod OverlayLaws

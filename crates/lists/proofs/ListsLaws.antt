@@ -1,5 +1,6 @@
--- Laws of the words of specs/Lists.antt: a test of two parts; loops over positions against `from`, by what they look for: whether
--- one passes, the first that passes, the kth that passes, how many pass, the sum over those that pass; and `every`.
+-- Laws of the words of specs/Lists.antt: a test of two parts; loops over positions against `from`, by what they look
+-- for: whether one passes, the first that passes, the kth that passes, how many pass, the sum over those that pass; and
+-- `every`.
 -- Not here: laws of length, getD, take, drop and _++_ (lib.ListN, lib.Seq).
 -- Assumes nothing.
 use mathlib.Core.Path.{_≡_, refl, sym, ap, _∙_}
@@ -7,7 +8,6 @@ use mathlib.Core.Bool.{Bool, true, false, cond, _&&_, _||_, false≢true}
 use mathlib.Core.List.{List, [], _∷_, _++_, append-nil}
 use mathlib.Core.Option.{Option, none, some}
 use Prim.Native.Nat.{ℕ, zero, suc, _+_, _-_, _≤_, _<_}
-use native.Mathlib.Nat.{sub-zero}
 use native.Mathlib.Numerals.{add-one}
 use native.Mathlib.Decide.{decLt}
 use native.Mathlib.Omega.{arith}
@@ -15,7 +15,7 @@ use borrow.Author.Tests.{leb-true}
 use lib.Dec.{leb}
 use lib.ListN.{length, getD}
 use lib.Seq.{getD-append-seam}
-use Rattle.lists.specs.Lists.{within, from, keep, every, any, total, first, refusal, _if_}
+use Rattle.lists.specs.Lists.{within, from, keep, every, any, total, joined, first, refusal, _if_}
 
 pub and-left : (a b : Bool) → (a && b) ≡ true → a ≡ true
 and-left true b e = refl
@@ -75,8 +75,8 @@ module _ (f : ℕ → Bool) (q n : ℕ) (x : Bool) where
   pub every-end : n ≤ q → every f (from q (n - q)) ≡ x → true ≡ x
   every-end h inv = ap (every f) (sym (from-end q n h)) ∙ inv
 
--- Such a loop against a definition over `from`, in the form "what the definition says of the positions still to come is the answer":
--- position q decides it, or leaves it to the later ones; or there are no later ones.
+-- Such a loop against a definition over `from`, in the form "what the definition says of the positions still to come is
+-- the answer": position q decides it, or leaves it to the later ones; or there are no later ones.
 module _ (f : ℕ → Bool) (q n : ℕ) where
   -- whether one passes
   pub any-here : (x : Bool) → any f (from q (n - q)) ≡ x → q < n → f q ≡ true → true ≡ x
@@ -98,7 +98,8 @@ module _ (f : ℕ → Bool) (q n : ℕ) where
       let z : first f (from q (n - q)) ≡ some q = rw (from-step q n h, t) in
       sym z ∙ e
 
-  pub first-next : (x : Option ℕ) → first f (from q (n - q)) ≡ x → q < n → f q ≡ false → first f (from (q + 1) (n - (q + 1))) ≡ x
+  pub first-next : (x : Option ℕ) → first f (from q (n - q)) ≡ x → q < n → f q ≡ false
+      → first f (from (q + 1) (n - (q + 1))) ≡ x
   first-next x e h t =
       let z : first f (from q (n - q)) ≡ first f (from (q + 1) (n - (q + 1))) = rw (from-step q n h, t) in
       sym z ∙ e
@@ -119,13 +120,15 @@ module _ (f : ℕ → Bool) (q n : ℕ) where
   -- the kth that passes: it is the one sought; it counts; it does not pass; there is none, and d stands for it
   pub kth-here : (k d x : ℕ) → getD (keep f (from q (n - q))) k d ≡ x → q < n → f q ≡ true → k ≡ 0 → q ≡ x
   kth-here k d x e h t z =
-      ap (λ (j : ℕ). getD (q ∷ keep f (from (q + 1) (n - (q + 1)))) j d) (sym z) ∙ ap (λ (l : List ℕ). getD l k d) (sym (keep-here h t)) ∙ e
+      ap (λ (j : ℕ). getD (q ∷ keep f (from (q + 1) (n - (q + 1)))) j d) (sym z)
+      ∙ ap (λ (l : List ℕ). getD l k d) (sym (keep-here h t)) ∙ e
 
   pub kth-counts : (k d x : ℕ) → getD (keep f (from q (n - q))) k d ≡ x → q < n → f q ≡ true → (k ≡ 0 → ⊥)
       → getD (keep f (from (q + 1) (n - (q + 1)))) (k - 1) d ≡ x
   kth-counts k d x e h t z =
       let j : k ≡ suc (k - 1) = omega arith in
-      sym (ap (λ (m : ℕ). getD (q ∷ keep f (from (q + 1) (n - (q + 1)))) m d) j) ∙ ap (λ (l : List ℕ). getD l k d) (sym (keep-here h t)) ∙ e
+      sym (ap (λ (m : ℕ). getD (q ∷ keep f (from (q + 1) (n - (q + 1)))) m d) j)
+      ∙ ap (λ (l : List ℕ). getD l k d) (sym (keep-here h t)) ∙ e
 
   pub kth-next : (k d x : ℕ) → getD (keep f (from q (n - q))) k d ≡ x → q < n → f q ≡ false
       → getD (keep f (from (q + 1) (n - (q + 1)))) k d ≡ x
@@ -135,10 +138,12 @@ module _ (f : ℕ → Bool) (q n : ℕ) where
   kth-none k d x e h = ap (λ (l : List ℕ). getD l k d) (sym (keep-none h)) ∙ e
 
   -- how many pass, and the sum of g over them: one step for a position that passes or not
-  pub length-keep-step : q < n → length (keep f (from q (n - q))) ≡ cond (f q) 1 0 + length (keep f (from (q + 1) (n - (q + 1))))
+  pub length-keep-step : q < n
+      → length (keep f (from q (n - q))) ≡ cond (f q) 1 0 + length (keep f (from (q + 1) (n - (q + 1))))
   length-keep-step h = ap (λ (l : List ℕ). length (keep f l)) (from-step q n h) ∙ by-test (f q)
     where
-      by-test : (b : Bool) → length (cond b (q ∷ keep f (from (q + 1) (n - (q + 1)))) (keep f (from (q + 1) (n - (q + 1)))))
+      by-test : (b : Bool)
+          → length (cond b (q ∷ keep f (from (q + 1) (n - (q + 1)))) (keep f (from (q + 1) (n - (q + 1)))))
           ≡ cond b 1 0 + length (keep f (from (q + 1) (n - (q + 1))))
       by-test true = omega arith
       by-test false = omega arith
@@ -147,10 +152,28 @@ module _ (f : ℕ → Bool) (q n : ℕ) where
       → total g (keep f (from q (n - q))) ≡ cond (f q) (g q) 0 + total g (keep f (from (q + 1) (n - (q + 1))))
   total-keep-step g h = ap (λ (l : List ℕ). total g (keep f l)) (from-step q n h) ∙ by-test (f q)
     where
-      by-test : (b : Bool) → total g (cond b (q ∷ keep f (from (q + 1) (n - (q + 1)))) (keep f (from (q + 1) (n - (q + 1)))))
+      by-test : (b : Bool)
+          → total g (cond b (q ∷ keep f (from (q + 1) (n - (q + 1)))) (keep f (from (q + 1) (n - (q + 1)))))
           ≡ cond b (g q) 0 + total g (keep f (from (q + 1) (n - (q + 1))))
       by-test true = refl
       by-test false = omega arith
+
+-- What each position gives, one after the other: one position; positions that give nothing, as those outside a range.
+module _ {B : Type 0} (f : ℕ → List B) where
+  pub joined-step : (q n : ℕ) → q < n → joined f (from q (n - q)) ≡ f q ++ joined f (from (q + 1) (n - (q + 1)))
+  joined-step q n h = rw (from-step q n h)
+
+  pub joined-skip : (a b n : ℕ) → a ≤ b → b ≤ n → ((q : ℕ) → a ≤ q → q < b → f q ≡ [])
+      → joined f (from a (n - a)) ≡ joined f (from b (n - b))
+  joined-skip a b n h g e = by-count (b - a) a (omega arith) (λ q l k. e q l k)
+    where
+      by-count : (k a : ℕ) → a + k ≡ b → ((q : ℕ) → a ≤ q → q < b → f q ≡ [])
+          → joined f (from a (n - a)) ≡ joined f (from b (n - b))
+      by-count zero a z e = let y : a ≡ b = omega arith in ap (λ (m : ℕ). joined f (from m (n - m))) y
+      by-count (suc k) a z e =
+          joined-step a n (omega arith)
+          ∙ ap (λ (l : List B). l ++ joined f (from (a + 1) (n - (a + 1)))) (e a (omega arith) (omega arith))
+          ∙ by-count k (a + 1) (omega arith) (λ q l m. e q (omega arith) m)
 
 -- A loop that builds as it goes, against what the positions passed so far say: one position more.
 pub from-snoc : (a q : ℕ) → a ≤ q → from a (q + 1 - a) ≡ from a (q - a) ++ (q ∷ [])
@@ -179,7 +202,9 @@ module _ (f : ℕ → Bool) (a q : ℕ) (h : a ≤ q) where
   keep-snoc-here t = ap (keep f) (from-snoc a q h) ∙ keep-append f (from a (q - a)) (q ∷ []) ∙ rw t
 
   pub keep-snoc-next : f q ≡ false → keep f (from a (q + 1 - a)) ≡ keep f (from a (q - a))
-  keep-snoc-next t = ap (keep f) (from-snoc a q h) ∙ keep-append f (from a (q - a)) (q ∷ []) ∙ rw t (append-nil (keep f (from a (q - a))))
+  keep-snoc-next t =
+      ap (keep f) (from-snoc a q h) ∙ keep-append f (from a (q - a)) (q ∷ [])
+      ∙ rw t (append-nil (keep f (from a (q - a))))
 
   pub length-keep-le : length (keep f (from a (q - a))) ≤ q - a
   length-keep-le = by-count (q - a) a
@@ -206,7 +231,8 @@ getD-snoc-else (y ∷ xs) x (suc k) d h = getD-snoc-else xs x k d (λ e. h (ap s
 every-at : (f : ℕ → Bool) (q k i : ℕ) → every f (from q k) ≡ true → q ≤ i → i < q + k → f i ≡ true
 every-at f q zero i e h l = absurd (omega arith)
 every-at f q (suc k) i e h l =
-    by-place (decLt q i) (λ (g : q < i). every-at f (suc q) k i (and-right (f q) (every f (from (suc q) k)) e) g (omega arith))
+    by-place (decLt q i)
+    (λ (g : q < i). every-at f (suc q) k i (and-right (f q) (every f (from (suc q) k)) e) g (omega arith))
   where
     by-place : Dec (q < i) → (q < i → f i ≡ true) → f i ≡ true
     by-place (yes g) later = later g

@@ -1,12 +1,12 @@
 -- The lent tables and how they are read. docs/SPECIFICATION.md, "Numbers given back" (full size) and "Flattening" (sources and targets).
 use Prim.Native.Nat.{ℕ, _+_, _*_}
-use mathlib.Core.Bool.{Bool, true, false, _&&_}
+use mathlib.Core.Bool.{Bool, true, false, _&&_, _||_}
 use mathlib.Core.List.{List, map}
 use mathlib.Core.Option.{Option}
 use lib.ListN.{length, getD, take}
 use lib.Seq.{slice}
 use lib.Dec.{eqb, leb}
-use Rattle.lists.specs.Lists.{from, keep, any, first}
+use Rattle.lists.specs.Lists.{from, keep, any, first, has}
 use Rattle.value.specs.Value.{below}
 use Rattle.primitive.specs.declared.table.Fields.{Fields}
 use Rattle.flatten.specs.declared.Pin.{Pin}
@@ -116,6 +116,10 @@ followingList T = take (T .counts .following) (T .following)
 -- The standing list.
 abbrev pub standingList : Tables → List ℕ
 standingList T = take (T .counts .standing) (T .standing)
+
+-- "one of the three update lists" names component i.
+abbrev pub named : Tables → ℕ → Bool
+named T i = has i (currentList T) || has i (followingList T) || has i (standingList T)
 
 -- A wire runs from component i to component j.
 abbrev pub joins : Tables → ℕ → ℕ → Bool

@@ -3,7 +3,7 @@ ghost use Prim.Native.Nat.{_<_};
 use libc::STDIN_FILENO;
 
 // Fills a buffer from standard input; false where the input ends before.
-pub fn fill(buf: &mut [u8]) -> bool {
+pub(crate) fn fill(buf: &mut [u8]) -> bool {
     let wanted = buf.len();
     io::read_full(STDIN_FILENO, buf) == wanted
 }
@@ -27,7 +27,7 @@ fn byte_at(bytes: &[u8], at: usize, i: usize) -> u64
 }
 
 // The little-endian number of so many bytes at a place; of more than eight, the last eight.
-pub fn number(bytes: &[u8], at: usize, count: usize) -> u64 {
+pub(crate) fn number(bytes: &[u8], at: usize, count: usize) -> u64 {
     let mut value: u64 = 0;
     let mut i = count;
     while 0 < i {

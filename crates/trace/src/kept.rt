@@ -22,7 +22,7 @@ fn put_short(table: &mut [u16], at: usize, word: u64) {
 }
 
 // W: a table, a place and a word.
-pub fn write_word(
+pub(crate) fn write_word(
     components: &mut [u64],
     inputs: &mut [u64],
     outputs: &mut [u64],
@@ -52,7 +52,7 @@ pub fn write_word(
 }
 
 // K: a count and its number.
-pub fn set_count(counts: &mut [u64]) -> bool {
+pub(crate) fn set_count(counts: &mut [u64]) -> bool {
     let mut bytes = [0u8; 9];
     if !input::fill(&mut bytes) {
         return false;
@@ -63,7 +63,7 @@ pub fn set_count(counts: &mut [u64]) -> bool {
 }
 
 // Z: a table, and how many of its words are lent from now on.
-pub fn lend_less(lent: &mut [u64]) -> bool {
+pub(crate) fn lend_less(lent: &mut [u64]) -> bool {
     let mut bytes = [0u8; 3];
     if !input::fill(&mut bytes) {
         return false;
@@ -79,7 +79,7 @@ pub fn lend_less(lent: &mut [u64]) -> bool {
 }
 
 // How many words of a table are lent.
-pub fn lending(lent: &[u64], which: usize, most: usize) -> usize
+pub(crate) fn lending(lent: &[u64], which: usize, most: usize) -> usize
     ensures { λ r. ⌜ r ≤ most ⌝ }
 {
     if which < lent.len() {

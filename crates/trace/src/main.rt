@@ -2,7 +2,7 @@
 // can be compared with the Rust, and every refusal tried, from outside. docs/TRACE.md has its language.
 mod input;
 mod kept;
-mod output;
+mod lines;
 mod show;
 mod single;
 
@@ -100,8 +100,7 @@ fn command(
     ) {
         return true;
     }
-    let at = output::put_bytes(out, 0, b"bad command\n");
-    output::flush(out, at);
+    lines::said(out, b"bad command");
     false
 }
 

@@ -1,7 +1,7 @@
 // What the program shows of its tables: the commands N, P and A. They speak of its own tables, whatever is lent.
 ghost use Prim.Native.Nat.{_*_, _≤_};
 ghost use lib.ListN.{length};
-use crate::output;
+use crate::lines;
 
 // The most entries of each table.
 const MOST: [u64; 7] = [256, 1024, 1024, 1024, 256, 256, 256];
@@ -19,12 +19,19 @@ fn counted(counts: &[u64], which: usize, most: usize) -> usize
     most
 }
 
-// Whether every count is within its table.
-fn within(counts: &[u64]) -> bool {
+fn least(a: usize, b: usize) -> usize
+    ensures { λ r. ⌜ r ≤ a ⌝ }
+{
+    if a < b { a } else { b }
+}
+
+// Whether every count is within its table; says so where one is not.
+fn within(counts: &[u64], out: &mut [u8]) -> bool {
     let mut i: usize = 0;
     while i < 7 {
         if i < counts.len() {
             if MOST[i] < counts[i] {
+                lines::said(out, b"counts past the tables");
                 return false;
             }
         }
@@ -33,91 +40,52 @@ fn within(counts: &[u64]) -> bool {
     true
 }
 
-// A line of a word and numbers.
-fn line(out: &mut [u8], at: usize, word: &[u8], numbers: &[u64]) -> usize {
-    let named = output::put_bytes(out, at, word);
-    let listed = output::put_numbers(out, named, numbers);
-    output::put(out, listed, b'\n')
-}
-
-// The same of numbers of 16 bits.
-fn short_line(out: &mut [u8], at: usize, word: &[u8], numbers: &[u16]) -> usize {
-    let named = output::put_bytes(out, at, word);
-    let listed = output::put_shorts(out, named, numbers);
-    output::put(out, listed, b'\n')
-}
-
 // A line for each of the first count components.
-fn component_lines(out: &mut [u8], at: usize, components: &[u64], count: usize) -> usize
+fn component_lines(out: &mut [u8], components: &[u64], count: usize)
     requires { ⌜ 8 * count ≤ length (now components) ⌝ }
 {
-    let mut next = at;
     let mut i: usize = 0;
     while i < count {
         let from = 8 * i;
         let end = from + 8;
-        next = line(out, next, b"component", &components[from..end]);
+        lines::line(out, b"component", &components[from..end]);
         i += 1;
     }
-    next
 }
 
 // A line for each of the first count wires.
-fn wire_lines(out: &mut [u8], at: usize, wires: &[u16], count: usize) -> usize
+fn wire_lines(out: &mut [u8], wires: &[u16], count: usize)
     requires { ⌜ 4 * count ≤ length (now wires) ⌝ }
 {
-    let mut next = at;
     let mut i: usize = 0;
     while i < count {
         let from = 4 * i;
         let end = from + 4;
-        next = short_line(out, next, b"wire", &wires[from..end]);
+        lines::short_line(out, b"wire", &wires[from..end]);
         i += 1;
     }
-    next
-}
-
-// The line where counts are past the tables.
-fn past(out: &mut [u8]) {
-    let at = output::put_bytes(out, 0, b"counts past the tables\n");
-    output::flush(out, at);
 }
 
 // N: the counts, then the components and the wires.
-pub fn show_net(components: &[u64], wires: &[u16], counts: &[u64], out: &mut [u8]) {
-    if !within(counts) {
-        past(out);
+pub(crate) fn show_net(components: &[u64], wires: &[u16], counts: &[u64], out: &mut [u8]) {
+    if !within(counts, out) {
         return;
     }
-    if counts.len() < 4 {
-        return;
-    }
-    let head = line(out, 0, b"net", &counts[..4]);
-    let listed = component_lines(
-        out,
-        head,
-        components,
-        counted(counts, 0, components.len() / 8),
-    );
-    let wired = wire_lines(out, listed, wires, counted(counts, 3, wires.len() / 4));
-    output::flush(out, wired);
+    let shown = least(counts.len(), 4);
+    lines::line(out, b"net", &counts[..shown]);
+    component_lines(out, components, counted(counts, 0, components.len() / 8));
+    wire_lines(out, wires, counted(counts, 3, wires.len() / 4));
 }
 
 // The lines of the three lists.
-fn list_lines(
-    out: &mut [u8],
-    at: usize,
-    current: &[u16],
-    following: &[u16],
-    standing: &[u16],
-) -> usize {
-    let a = short_line(out, at, b"current", current);
-    let b = short_line(out, a, b"following", following);
-    short_line(out, b, b"standing", standing)
+fn list_lines(current: &[u16], following: &[u16], standing: &[u16], out: &mut [u8]) {
+    lines::short_line(out, b"current", current);
+    lines::short_line(out, b"following", following);
+    lines::short_line(out, b"standing", standing);
 }
 
 // P: ports and lists, up to their counts.
-pub fn show_state(
+pub(crate) fn show_state(
     inputs: &[u64],
     outputs: &[u64],
     current: &[u16],
@@ -126,8 +94,7 @@ pub fn show_state(
     counts: &[u64],
     out: &mut [u8],
 ) {
-    if !within(counts) {
-        past(out);
+    if !within(counts, out) {
         return;
     }
     let i = counted(counts, 1, inputs.len());
@@ -135,14 +102,13 @@ pub fn show_state(
     let c = counted(counts, 4, current.len());
     let f = counted(counts, 5, following.len());
     let s = counted(counts, 6, standing.len());
-    let a = line(out, 0, b"inputs", &inputs[..i]);
-    let b = line(out, a, b"outputs", &outputs[..o]);
-    let d = list_lines(out, b, &current[..c], &following[..f], &standing[..s]);
-    output::flush(out, d);
+    lines::line(out, b"inputs", &inputs[..i]);
+    lines::line(out, b"outputs", &outputs[..o]);
+    list_lines(&current[..c], &following[..f], &standing[..s], out);
 }
 
 // A: every word of every table.
-pub fn show_all(
+pub(crate) fn show_all(
     components: &[u64],
     inputs: &[u64],
     outputs: &[u64],
@@ -152,10 +118,9 @@ pub fn show_all(
     standing: &[u16],
     out: &mut [u8],
 ) {
-    let a = line(out, 0, b"components", components);
-    let b = line(out, a, b"inputs", inputs);
-    let c = line(out, b, b"outputs", outputs);
-    let d = short_line(out, c, b"wires", wires);
-    let e = list_lines(out, d, current, following, standing);
-    output::flush(out, e);
+    lines::line(out, b"components", components);
+    lines::line(out, b"inputs", inputs);
+    lines::line(out, b"outputs", outputs);
+    lines::short_line(out, b"wires", wires);
+    list_lines(current, following, standing, out);
 }

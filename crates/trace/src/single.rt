@@ -2,7 +2,7 @@
 ghost use Prim.Native.Nat.{_*_, _≤_};
 ghost use lib.ListN.{length};
 use crate::input;
-use crate::output;
+use crate::lines;
 use primitive::Evaluated;
 use primitive::Fields;
 
@@ -55,11 +55,7 @@ fn print(answer: Evaluated, outputs: &[u64], out: &mut [u8]) {
         Evaluated::Done => 0,
         Evaluated::Refused(refusal) => refusal.number,
     };
-    let word = output::put_bytes(out, 0, b"evaluate");
-    let counted = output::put_number(out, word, number as u64);
-    let listed = output::put_numbers(out, counted, outputs);
-    let ended = output::put(out, listed, b'\n');
-    output::flush(out, ended);
+    lines::numbered(out, b"evaluate", number as u64, outputs);
 }
 
 // Evaluates a component with its first n inputs and m outputs, and prints the answer.
@@ -99,7 +95,7 @@ fn fields_in(head: &[u8]) -> Fields {
 }
 
 // Reads a component, its values and a time, evaluates it and prints the answer; false where the command is a bad one.
-pub fn evaluate_one(out: &mut [u8]) -> bool {
+pub(crate) fn evaluate_one(out: &mut [u8]) -> bool {
     let mut head = [0u8; 23];
     let mut bytes = [0u8; 2304];
     let mut inputs = [0u64; 256];

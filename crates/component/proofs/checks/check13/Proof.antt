@@ -39,7 +39,9 @@ same-entry-requires c κs = search needs
 
 -- this one
 returns-2 : tie.Need-returns-2 Inv-loop μ-loop
-returns-2 c = search (scan-any-here (c .before .before .before .before .before .before .before .before .before .args .file .now) (enteringAs (c .before .before .before .before .before .before .before .record-at .result)))
+returns-2 c =
+    let b = c .before .before .before .before .before .before .before in
+    search (scan-any-here (b .before .before .args .file .now) (enteringAs (b .record-at .result)))
 
 add-q : tie.Need-add-q Inv-loop μ-loop
 add-q c = search needs
@@ -48,11 +50,15 @@ loop-less : tie.Need-loop-less Inv-loop μ-loop
 loop-less c = search needs
 
 loop-again : tie.Need-loop-again Inv-loop μ-loop
-loop-again c = search (scan-any-next (c .before .before .before .before .before .before .before .before .before .args .file .now) (enteringAs (c .before .before .before .before .before .before .before .record-at .result)))
+loop-again c =
+    let b = c .before .before .before .before .before .before .before in
+    search (scan-any-next (b .before .before .args .file .now) (enteringAs (b .record-at .result)))
 
 -- none
 returns-3 : tie.Need-returns-3 Inv-loop μ-loop
-returns-3 c = search (scan-any-none (c .before .before .before .before .before .before .args .file .now) (enteringAs (c .before .before .before .before .record-at .result)))
+returns-3 c =
+    let b = c .before .before .before .before in
+    search (scan-any-none (b .before .before .args .file .now) (enteringAs (b .record-at .result)))
 
 pub check13-spec : {M : Type 1} → statement M
 check13-spec =

@@ -28,7 +28,9 @@ has-id-requires c κs = search needs
 
 -- this one
 returns : tie.Need-returns Inv-loop μ-loop
-returns c = search (scan-any-here (c .before .before .before .before .before .before .args .file .now) (hasId (c .before .before .before .before .before .before .args .id .0)))
+returns c =
+    let a = c .before .before .before .before .before .before .args in
+    search (scan-any-here (a .file .now) (hasId (a .id .0)))
 
 add-q : tie.Need-add-q Inv-loop μ-loop
 add-q c = search needs
@@ -37,11 +39,15 @@ loop-less : tie.Need-loop-less Inv-loop μ-loop
 loop-less c = search needs
 
 loop-again : tie.Need-loop-again Inv-loop μ-loop
-loop-again c = search (scan-any-next (c .before .before .before .before .before .before .args .file .now) (hasId (c .before .before .before .before .before .before .args .id .0)))
+loop-again c =
+    let a = c .before .before .before .before .before .before .args in
+    search (scan-any-next (a .file .now) (hasId (a .id .0)))
 
 -- none
 returns-2 : tie.Need-returns-2 Inv-loop μ-loop
-returns-2 c = search (scan-any-none (c .before .before .before .args .file .now) (hasId (c .before .before .before .args .id .0)))
+returns-2 c =
+    let a = c .before .before .before .args in
+    search (scan-any-none (a .file .now) (hasId (a .id .0)))
 
 pub id-before-spec : {M : Type 1} → statement M
 id-before-spec =

@@ -17,7 +17,8 @@ use Rattle.component.proofs.checks.out_map_count.Tie as tie
 
 abbrev Inv-loop : tie.InvT-loop
 Inv-loop file n c count₀ q₀ count q =
-    (count + length (keep (tested file (ownedAs 4 c)) (from q (n - q))) ≡ length (outMaps (recordAt file) n c)) × (count ≤ q)
+    (count + length (keep (tested file (ownedAs 4 c)) (from q (n - q))) ≡ length (outMaps (recordAt file) n c)) ×
+    (count ≤ q)
 
 abbrev μ-loop : tie.MeasureT-loop
 μ-loop file n c count₀ q₀ count q = n - q
@@ -49,7 +50,9 @@ loop-again c =
     (λ w. (rw (w .1) (search (scan-length-next (a .file .now) (ownedAs 4 (a .c)))), omega arith)) (c .if1 .came)
 
 returns : tie.Need-returns Inv-loop μ-loop
-returns c = search (scan-length-all (c .before .before .before .args .file .now) (ownedAs 4 (c .before .before .before .args .c)))
+returns c =
+    let a = c .before .before .before .args in
+    search (scan-length-all (a .file .now) (ownedAs 4 (a .c)))
 
 pub out-map-count-spec : {M : Type 1} → statement M
 out-map-count-spec =

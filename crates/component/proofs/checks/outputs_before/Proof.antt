@@ -14,7 +14,8 @@ use Rattle.component.proofs.checks.outputs_before.Tie as tie
 
 abbrev Inv-loop : tie.InvT-loop
 Inv-loop file n p sum₀ q₀ sum q =
-    (sum + total (λ m. outputsOf (recordAt file m)) (keep (tested file isPrimitive) (from q (p - q))) ≡ outputsBefore (recordAt file) n p)
+    (sum + total (λ m. outputsOf (recordAt file m)) (keep (tested file isPrimitive) (from q (p - q)))
+    ≡ outputsBefore (recordAt file) n p)
     × (sum ≤ 65535 * q) × (q ≤ p)
 
 abbrev μ-loop : tie.MeasureT-loop
@@ -45,7 +46,8 @@ loop-again : tie.Need-loop-again Inv-loop μ-loop
 loop-again c =
     let s = c .before .before .before .before in
     let a = s .before .before .args in (
-      scan-total-next (a .file .now) isPrimitive (s .loop .q) (a .p) outputsOf _ _ _ _ _ (s .loop .inv .0) (c .before .before .before .loop-test .taken)
+      scan-total-next (a .file .now) isPrimitive (s .loop .q) (a .p) outputsOf _ _ _ _ _ (s .loop .inv .0)
+          (c .before .before .before .loop-test .taken)
           (c .before .before .record-at .ensures) (c .before .outputs-of .ensures) (c .counted .ensures .0),
       omega (arith, c .counted .ensures .1, s .loop .inv .1),
       search needs,

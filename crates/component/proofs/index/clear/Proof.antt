@@ -33,13 +33,17 @@ loop-less c = simp length-set (omega arith)
 loop-again : tie.Need-loop-again Inv-loop μ-loop
 loop-again c =
     let s = c .before .loop in
-    (simp length-set (s .inv .0), clear-step (s .table) (s .i) (c .before .before .args .x) (c .loop-test .taken) (s .inv .1))
+    let a = c .before .before .args in
+    (simp length-set (s .inv .0), clear-step (s .table) (s .i) (a .x) (c .loop-test .taken) (s .inv .1))
 
 same-length : tie.Need-same-length Inv-loop μ-loop
 same-length c = c .before .loop .inv .0
 
 returns : tie.Need-returns Inv-loop μ-loop
-returns c = (c .before .loop .inv .0, λ k h. c .before .loop .inv .1 k (omega arith))
+returns c = record {
+  size = c .before .loop .inv .0;
+  word = λ k h. c .before .loop .inv .1 k (omega arith);
+}
 
 pub clear-spec : {M : Type 1} → statement M
 clear-spec =

@@ -16,7 +16,8 @@ returns : tie.Need-returns
 returns c =
     let b = c in
     let a = b .before .before .before .before .before .args in
-    widen-other (a .r) (a .q) (a .lo .now) (a .hi .now) _ _ (b .before .before .owner-of .ensures) (b .before .form-of .ensures)
+    widen-other (a .r) (a .q) (a .lo .now) (a .hi .now) _ _ (b .before .before .owner-of .ensures)
+    (b .before .form-of .ensures)
     (b .if1 .taken)
 
 -- an owner past the tables
@@ -24,7 +25,8 @@ returns-2 : tie.Need-returns-2
 returns-2 c =
     let b = c .before in
     let a = b .before .before .before .before .before .args in
-    widen-far (a .r) (a .q) (a .lo .now) (a .hi .now) _ _ (b .before .before .owner-of .ensures) (b .before .form-of .ensures)
+    widen-far (a .r) (a .q) (a .lo .now) (a .hi .now) _ _ (b .before .before .owner-of .ensures)
+    (b .before .form-of .ensures)
     (b .if1 .left) (c .if2 .taken)
 
 add-hi : tie.Need-add-hi
@@ -59,7 +61,8 @@ returns-3 : tie.Need-returns-3
 returns-3 c =
     let b = c .before .before .before in
     let a = b .before .before .before .before .before .args in
-    widen-first (a .r) (a .q) (a .lo .now) (a .hi .now) _ _ (b .before .before .owner-of .ensures) (b .before .form-of .ensures)
+    widen-first (a .r) (a .q) (a .lo .now) (a .hi .now) _ _ (b .before .before .owner-of .ensures)
+    (b .before .form-of .ensures)
     (b .if1 .left) (c .before .before .if2 .left) (c .if3 .taken)
 
 same-length-3 : tie.Need-same-length-3
@@ -70,7 +73,8 @@ returns-4 : tie.Need-returns-4
 returns-4 c =
     let b = c .before .before .before in
     let a = b .before .before .before .before .before .args in
-    widen-later (a .r) (a .q) (a .lo .now) (a .hi .now) _ _ (b .before .before .owner-of .ensures) (b .before .form-of .ensures)
+    widen-later (a .r) (a .q) (a .lo .now) (a .hi .now) _ _ (b .before .before .owner-of .ensures)
+    (b .before .form-of .ensures)
     (b .if1 .left) (c .before .before .if2 .left) (c .if3 .left)
 
 pub widen-spec : {M : Type 1} → statement M

@@ -1,6 +1,7 @@
 -- `line`: the tests stand in the order of `lineIn`, and each decides it at its way out.
 -- Assumes nothing.
-use Rattle.component.proofs.ReaderLaws.{line-refused-byte, line-refused-id, line-refused-parameter, line-connection, line-input-map, line-output-map, line-refused-kind}
+use Rattle.component.proofs.ReaderLaws.{line-refused-byte, line-refused-id, line-refused-parameter}
+use Rattle.component.proofs.ReaderLaws.{line-connection, line-input-map, line-output-map, line-refused-kind}
 use borrow.Author.Needs.{needs}
 use Rattle.component.proofs.reader.line.Statement.{statement}
 use Rattle.component.proofs.reader.line.Tie as tie

@@ -6,13 +6,13 @@ use Rattle.trace.proofs.show.component_lines.Statement.{statement}
 use Rattle.trace.proofs.show.component_lines.Tie as tie
 use Rattle.trace.proofs.show.component_lines.Reads as reads
 use Rattle.trace.proofs.show.component_lines.Lts as lts
-use Rattle.trace.proofs.show.line.Reads as line-reads
+use Rattle.trace.proofs.lines.line.Reads as line-reads
 
 abbrev Inv-loop : tie.InvT-loop
-Inv-loop out₀ at components count next₀ i₀ t9 out next i = (i ≤ count) × (length out ≡ length out₀)
+Inv-loop out₀ components count i₀ t7 out i = (i ≤ count) × (length out ≡ length out₀)
 
 abbrev μ-loop : tie.MeasureT-loop
-μ-loop out₀ at components count next₀ i₀ t9 out next i = count - i
+μ-loop out₀ components count i₀ t7 out i = count - i
 
 loop-holds : tie.Need-loop-holds Inv-loop μ-loop
 loop-holds c = search needs

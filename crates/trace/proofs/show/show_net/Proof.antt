@@ -5,19 +5,15 @@ use Rattle.trace.proofs.show.show_net.Statement.{statement}
 use Rattle.trace.proofs.show.show_net.Tie as tie
 use Rattle.trace.proofs.show.show_net.Reads as reads
 use Rattle.trace.proofs.show.show_net.Lts as lts
-use Rattle.trace.proofs.output.flush.Reads as flush-reads
+use Rattle.trace.proofs.lines.line.Reads as line-reads
 use Rattle.trace.proofs.show.component_lines.Reads as component-lines-reads
 use Rattle.trace.proofs.show.counted.Reads as counted-reads
-use Rattle.trace.proofs.show.line.Reads as line-reads
-use Rattle.trace.proofs.show.past.Reads as past-reads
+use Rattle.trace.proofs.show.least.Reads as least-reads
 use Rattle.trace.proofs.show.wire_lines.Reads as wire-lines-reads
 use Rattle.trace.proofs.show.within.Reads as within-reads
 
 within-requires : tie.Need-within-requires
 within-requires c κs = search needs
-
-past-requires : tie.Need-past-requires
-past-requires c κs = search needs
 
 same-length : tie.Need-same-length
 same-length c = search needs
@@ -25,14 +21,14 @@ same-length c = search needs
 returns : tie.Need-returns
 returns c = search needs
 
-returns-2 : tie.Need-returns-2
-returns-2 c = search needs
+least-requires : tie.Need-least-requires
+least-requires c κs = search needs
 
 slice-aggregate-line : tie.Need-slice-aggregate-line
 slice-aggregate-line c = search needs
 
 slice-aggregate-line-2 : tie.Need-slice-aggregate-line-2
-slice-aggregate-line-2 c = sym (length-take-le 4 (c .before .before .before .before .before .before .before .before .before .before .args .counts .now) (search needs))
+slice-aggregate-line-2 c = sym (length-take-le _ _ (search needs))
 
 line-requires : tie.Need-line-requires
 line-requires c κs = search needs
@@ -49,24 +45,20 @@ counted-requires-2 c κs = search needs
 wire-lines-requires : tie.Need-wire-lines-requires
 wire-lines-requires c κs = search needs
 
-flush-requires : tie.Need-flush-requires
-flush-requires c κs = search needs
-
 same-length-2 : tie.Need-same-length-2
 same-length-2 c = search needs
 
-returns-3 : tie.Need-returns-3
-returns-3 c = search needs
+returns-2 : tie.Need-returns-2
+returns-2 c = search needs
 
 pub show-net-spec : {M : Type 1} → statement M
 show-net-spec =
     tie.close
     (tie.spec
     within-requires
-    past-requires
     same-length
     returns
-    returns-2
+    least-requires
     slice-aggregate-line
     slice-aggregate-line-2
     line-requires
@@ -74,6 +66,5 @@ show-net-spec =
     component-lines-requires
     counted-requires-2
     wire-lines-requires
-    flush-requires
     same-length-2
-    returns-3)
+    returns-2)

@@ -5,18 +5,13 @@ use Rattle.trace.proofs.show.show_state.Statement.{statement}
 use Rattle.trace.proofs.show.show_state.Tie as tie
 use Rattle.trace.proofs.show.show_state.Reads as reads
 use Rattle.trace.proofs.show.show_state.Lts as lts
-use Rattle.trace.proofs.output.flush.Reads as flush-reads
+use Rattle.trace.proofs.lines.line.Reads as line-reads
 use Rattle.trace.proofs.show.counted.Reads as counted-reads
-use Rattle.trace.proofs.show.line.Reads as line-reads
 use Rattle.trace.proofs.show.list_lines.Reads as list-lines-reads
-use Rattle.trace.proofs.show.past.Reads as past-reads
 use Rattle.trace.proofs.show.within.Reads as within-reads
 
 within-requires : tie.Need-within-requires
 within-requires c κs = search needs
-
-past-requires : tie.Need-past-requires
-past-requires c κs = search needs
 
 same-length : tie.Need-same-length
 same-length c = search needs
@@ -69,9 +64,6 @@ slice-aggregate-list-lines-3 c = sym (length-take-le _ _ (search needs))
 list-lines-requires : tie.Need-list-lines-requires
 list-lines-requires c κs = search needs
 
-flush-requires : tie.Need-flush-requires
-flush-requires c κs = search needs
-
 same-length-2 : tie.Need-same-length-2
 same-length-2 c = search needs
 
@@ -83,7 +75,6 @@ show-state-spec =
     tie.close
     (tie.spec
     within-requires
-    past-requires
     same-length
     returns
     counted-requires
@@ -101,6 +92,5 @@ show-state-spec =
     slice-aggregate-list-lines-2
     slice-aggregate-list-lines-3
     list-lines-requires
-    flush-requires
     same-length-2
     returns-2)

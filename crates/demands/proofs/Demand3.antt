@@ -1,0 +1,160 @@
+-- Demand 3 is met: the invariant that rounds and edits keep on the tables (crate quiet), carried to the drawing by what a load leaves
+-- (crate loaded) and by the wires being what the drawing leads to (crate leads). Assumes nothing.
+use mathlib.Core.Path.{_≡_, refl, sym, ap, _∙_, subst}
+use mathlib.Core.Bool.{Bool, true, false, _||_}
+use mathlib.Core.List.{List, [], _∷_, map}
+use Prim.Native.Nat.{ℕ, _<_}
+use lib.Dec.{eqb}
+use Rattle.lists.specs.Lists.{has, keep}
+use Rattle.lists.proofs.MembersLaws.{In, has-complete, map-complete, keep-complete}
+use Rattle.primitive.specs.declared.kinds.Kind.the-variants.{Switch, Clock, Const}
+use Rattle.primitive.specs.declared.table.Fields.{Fields}
+use Rattle.primitive.specs.Kinds.{is}
+use Rattle.primitive.specs.Evaluate.{functionOf}
+use Rattle.component.specs.declared.Record.{Record}
+use Rattle.component.specs.declared.Verdict.the-variants.{Accepted}
+use Rattle.component.specs.Record.{IsBytes, recordAt, recordCount, fieldsOf, isPrimitive}
+use Rattle.component.specs.Drawing.{primitivesBefore}
+use Rattle.flatten.specs.declared.Pin.{Pin}
+use Rattle.flatten.specs.declared.Wire.{Wire}
+use Rattle.flatten.specs.Descent.{flat, flatPin}
+use Rattle.flatten.specs.Leads.{Leads}
+use Rattle.leads.proofs.Wires.{wire}
+use Rattle.leads.proofs.Primitives.{primitivesBefore-complete}
+use Rattle.tables.specs.Tables.{Tables, fieldsAt, wiresIn, numbers, firstInput, firstOutput, standingList, named}
+use Rattle.load.specs.Load.{loadVerdict, loadTables, standingAtLoad}
+use Rattle.net.specs.Net.{isNet, netNumber}
+use Rattle.loaded.proofs.SameNet.{SameNet, sameNet-refl}
+use Rattle.loaded.proofs.Drawn.{IsDrawn, PrimitiveAt, leads-leave, leads-enter}
+use Rattle.loaded.proofs.Net.{load-checked}
+use Rattle.loaded.proofs.Theorems.{accepted-net, accepted-fullSize, accepted-current, accepted-standing, accepted-following, accepted-drawn, accepted-primitive, accepted-below, accepted-leads-wired}
+use Rattle.quiet.proofs.Clauses.{netNumber-none}
+use Rattle.quiet.proofs.Left.{SameWiring}
+use Rattle.quiet.proofs.Since.{Fresh, Since, started, rounded, edited, since-net, since-wiring}
+use Rattle.quiet.proofs.Obeyed.{Follows as FollowsAt, ObeyedAt, SatisfiedAt, since-obeyed}
+use Rattle.demands.specs.Reached.{Reached, loaded}
+use Rattle.demands.specs.Reached as reached
+use Rattle.demands.specs.Demand.{Equal, Follows, Satisfied, Obeyed, Demand3}
+
+-- The load that reached tables started from, and the calls since.
+record From (file : List ℕ) (ran : Bool) (t : ℕ) (T : Tables) : Type 0 where
+  lent : Tables
+  bytes : IsBytes file
+  accepted : loadVerdict file lent ≡ Accepted
+  since : Since (loadTables file lent) ran t T
+
+reached-from : (file : List ℕ) {ran : Bool} {t : ℕ} {T : Tables} → Reached file ran t T → From file ran t T
+reached-from file (loaded T b a) = record { lent = T; bytes = b; accepted = a; since = started }
+reached-from file (reached.rounded u r) =
+    let f = reached-from file r in
+    record { lent = f .lent; bytes = f .bytes; accepted = f .accepted; since = rounded u (f .since) }
+reached-from file (reached.edited i v r) =
+    let f = reached-from file r in
+    record { lent = f .lent; bytes = f .bytes; accepted = f .accepted; since = edited i v (f .since) }
+
+or-second : (a b : Bool) → b ≡ true → (a || b) ≡ true
+or-second true b e = refl
+or-second false b e = e
+
+same-net : {T U : Tables} → SameWiring T U → SameNet T U
+same-net s =
+    record {
+      components = s .components;
+      wires = s .wires;
+      component-count = s .component-count;
+      input-count = s .input-count;
+      output-count = s .output-count;
+      wire-count = s .wire-count;
+    }
+
+-- A load leaves a net in which every call starts afresh: all components current, every Clock standing.
+module _ (file : List ℕ) (T : Tables) (bytes : IsBytes file) (a : loadVerdict file T ≡ Accepted) where
+  abbrev L : Tables
+  L = loadTables file T
+
+  clock-stands : (i : ℕ) → i < L .counts .components → is Clock (fieldsAt L i) ≡ true → has i (standingList L) ≡ true
+  clock-stands i h e =
+      let p = accepted-primitive file T a L (sameNet-refl L) i h in
+      let x = p .number in
+      let q : (is Const (fieldsOf (recordAt file x)) || is Clock (fieldsOf (recordAt file x))) ≡ true =
+          or-second (is Const (fieldsOf (recordAt file x))) (is Clock (fieldsOf (recordAt file x)))
+          (ap (is Clock) (sym (p .fields-are)) ∙ e) in
+      ap (has i) (accepted-standing file T a)
+      ∙ has-complete i (standingAtLoad (recordAt file) (recordCount file))
+      (subst (λ (j : ℕ). In j (standingAtLoad (recordAt file) (recordCount file))) (p .flat-is)
+      (map-complete (flat (recordAt file) (recordCount file)) x
+      (keep (λ c. is Const (fieldsOf (recordAt file c)) || is Clock (fieldsOf (recordAt file c)))
+      (primitivesBefore (recordAt file) (recordCount file) (recordCount file)))
+      (keep-complete (λ c. is Const (fieldsOf (recordAt file c)) || is Clock (fieldsOf (recordAt file c))) x
+      (primitivesBefore (recordAt file) (recordCount file) (recordCount file)) q
+      (primitivesBefore-complete (recordAt file) (recordCount file) x (recordCount file) (p .of-primitive) (p .in-file)))))
+
+  load-fresh : Fresh L
+  load-fresh =
+      record {
+        net = netNumber-none L (accepted-fullSize file T a) (accepted-net file T a bytes);
+        current = accepted-current file T a;
+        following = accepted-following file T a;
+        clocks = clock-stands;
+      }
+
+-- What holds of the tables' wires and components holds of the drawing that was loaded.
+module _ (file : List ℕ) (T₀ : Tables) (a : loadVerdict file T₀ ≡ Accepted) (T : Tables) (same : SameNet (loadTables file T₀) T) where
+  abbrev at : ℕ → Record
+  at = recordAt file
+
+  abbrev n : ℕ
+  n = recordCount file
+
+  drawn : IsDrawn at n T
+  drawn = accepted-drawn file T₀ a T same
+
+  fields : (x : ℕ) → isPrimitive (at x) ≡ true → fieldsAt T (flat at n x) ≡ fieldsOf (at x)
+  fields x e = drawn .fields x e
+
+  -- A component of the tables that follows its function is one of the drawing that does.
+  follows-drawn : (t x : ℕ) → isPrimitive (at x) ≡ true → FollowsAt T t (flat at n x) → Follows at n T t x
+  follows-drawn t x e =
+      subst (λ (f : Fields). numbers (T .outputs) (firstOutput T (flat at n x)) (f .outputs)
+      ≡ functionOf f (numbers (T .inputs) (firstInput T (flat at n x)) (f .inputs)) t) (fields x e)
+
+  leads-in : (s d : Pin) → Leads at n s d → In (wire (flatPin at n s) (flatPin at n d)) (wiresIn T)
+  leads-in = accepted-leads-wired file T₀ a T same
+
+  module _ (ran : Bool) (t : ℕ) (o : ObeyedAt T ran t) where
+    satisfied : SatisfiedAt T t → Satisfied at n T t
+    satisfied s =
+        record {
+          equal = λ p d l. s .equal (wire (flatPin at n p) (flatPin at n d)) (leads-in p d l);
+          follow = λ x h e k.
+              follows-drawn t x e
+              (s .follow (flat at n x) (accepted-below file T₀ a T same x e) (ap (is Switch) (fields x e) ∙ k));
+        }
+
+    obeyed : Obeyed at n T ran t
+    obeyed =
+        record {
+          differing = λ p d l. o .differing (wire (flatPin at n p) (flatPin at n d)) (leads-in p d l);
+          unfollowed = λ x h e k u.
+              o .unfollowed (flat at n x) (accepted-below file T₀ a T same x e)
+              (ap (λ (f : Fields). is Switch f || is Clock f) (fields x e) ∙ k) (λ f. u (follows-drawn t x e f));
+          settled = λ r only.
+              satisfied
+              (o .settled r
+              (λ i h m.
+              let p = accepted-primitive file T₀ a T same i h in
+              ap (is Clock) (p .fields-are)
+              ∙ only (p .number) (p .in-file) (p .of-primitive) (subst (λ (j : ℕ). named T j ≡ true) (sym (p .flat-is)) m)));
+        }
+
+-- Demand 3. For every file that a load accepts, and any rounds at any times and any edits after it, refused calls included: no call
+-- finds the tables to be no net; wherever the drawing leads from an output to an input of another value, the output's component is in
+-- one of the three lists, and so is each component, Switches and Clocks aside, whose outputs are not its function of its inputs; and
+-- once a round has run and the lists name only Clocks, the whole drawing is satisfied, Clocks taken at the last round's time.
+pub demand3 : Demand3
+demand3 file ran t T r =
+    let f = reached-from file r in
+    let fresh = load-fresh file (f .lent) (f .bytes) (f .accepted) in
+    (since-net (loadTables file (f .lent)) fresh (f .since),
+    obeyed file (f .lent) (f .accepted) T (same-net (since-wiring (loadTables file (f .lent)) (f .since))) ran t
+    (since-obeyed (loadTables file (f .lent)) fresh (f .since)))

@@ -1,0 +1,324 @@
+-- Laws of `source` and `targets` of specs/Descent.antt, one for each way out of a function of src/descent.rt.
+--   given at n d c i q    what the record at q gives to the targets of input i of composite c, with depth d left below it
+-- First lists one after the other; then the source; then the targets as lists, for any function that goes down through input maps;
+-- then the same, and whether one of them has another width, in the form in which the functions have their facts.
+-- Assumes nothing.
+use mathlib.Core.Path.{_≡_, refl, sym, ap, _∙_}
+use mathlib.Core.Bool.{Bool, true, false, cond, not, _&&_, _||_}
+use mathlib.Core.List.{List, [], _∷_, _++_, append-assoc, append-nil, map}
+use Prim.Native.Nat.{ℕ, zero, suc, _+_, _-_, _≤_, _<_}
+use native.Mathlib.Decide.{decLt}
+use native.Mathlib.Omega.{arith}
+use borrow.Author.Tests.{eq-eqb, ne-eqb}
+use lib.Dec.{eqb}
+use lib.ListN.{getD}
+use types.Run.{OneOf}
+use denote.Enum.Declared.{tagOf}
+use Rattle.lists.specs.Lists.{from, any, joined}
+use Rattle.lists.proofs.ListsLaws.{from-step, from-end}
+use Rattle.lists.proofs.MembersLaws.{from-append}
+use Rattle.primitive.specs.Kinds.{inputWidth, outputWidth}
+use Rattle.component.specs.declared.ChildNo.{ChildNo}
+use Rattle.component.specs.declared.Record.{Record}
+use Rattle.component.specs.declared.Record.the-variants.{Connection, InputMap}
+use Rattle.component.specs.Record.{recordAt, formOf, ownerOf, portOf, fieldsOf, fromOf, outputOf, toOf, inputOf, isPrimitive}
+use Rattle.component.specs.Drawing.{deepest, child, mapsIn, outMap}
+use Rattle.component.specs.Index.{ownedAs, IsRange}
+use Rattle.component.proofs.Record.{the-type}
+use Rattle.component.proofs.RecordLaws.{formOf-no-connection, formOf-no-input-map}
+use Rattle.flatten.specs.declared.Pin.{Pin}
+use Rattle.flatten.specs.declared.Wire.{Wire}
+use Rattle.flatten.specs.declared.descent.Entered.{Entered}
+use Rattle.flatten.specs.declared.descent.Entered.the-variants.{To, Nothing}
+use Rattle.flatten.specs.Descent.{pin, source, targets, sourceOf, targetsOf, wiresAt, fails15}
+use Rattle.flatten.specs.Steps.{entered, unlike, IsStretch}
+
+-- Lists one after the other.
+
+or-assoc : (a b c : Bool) → (a || (b || c)) ≡ ((a || b) || c)
+or-assoc true b c = refl
+or-assoc false b c = refl
+
+or-false : (a : Bool) → (a || false) ≡ a
+or-false true = refl
+or-false false = refl
+
+module _ {A : Type 0} where
+  pub any-append : (f : A → Bool) (xs ys : List A) → any f (xs ++ ys) ≡ (any f xs || any f ys)
+  any-append f [] ys = refl
+  any-append f (x ∷ xs) ys = ap (λ (b : Bool). f x || b) (any-append f xs ys) ∙ or-assoc (f x) (any f xs) (any f ys)
+
+  pub any-map : {B : Type 0} (f : B → Bool) (g : A → B) (xs : List A) → any f (map g xs) ≡ any (λ x. f (g x)) xs
+  any-map f g [] = refl
+  any-map f g (x ∷ xs) = ap (λ (b : Bool). f (g x) || b) (any-map f g xs)
+
+  pub joined-append : {B : Type 0} (g : A → List B) (xs ys : List A) → joined g (xs ++ ys) ≡ joined g xs ++ joined g ys
+  joined-append g [] ys = refl
+  joined-append {B} g (x ∷ xs) ys =
+      ap (λ (l : List B). g x ++ l) (joined-append g xs ys) ∙ sym (append-assoc (g x) (joined g xs) (joined g ys))
+
+module _ {B : Type 0} (g : ℕ → List B) where
+  -- Positions that give nothing.
+  pub joined-none : (a k : ℕ) → ((q : ℕ) → a ≤ q → q < a + k → g q ≡ []) → joined g (from a k) ≡ []
+  joined-none a zero h = refl
+  joined-none a (suc k) h =
+      ap (λ (l : List B). l ++ joined g (from (suc a) k)) (h a (omega arith) (omega arith))
+      ∙ joined-none (suc a) k (λ q l u. h q (omega arith) (omega arith))
+
+  -- A loop `while q < e`: one turn, and its end.
+  pub joined-step : (q e : ℕ) → q < e → joined g (from q (e - q)) ≡ g q ++ joined g (from (q + 1) (e - (q + 1)))
+  joined-step q e h = ap (joined g) (from-step q e h)
+
+  pub joined-end : (q e : ℕ) → e ≤ q → joined g (from q (e - q)) ≡ []
+  joined-end q e h = ap (joined g) (from-end q e h)
+
+  -- Where only the positions from a to before e give something, the others need not be looked at.
+  pub joined-stretch : (n a e : ℕ) → e ≤ n → ((q : ℕ) → q < n → q < a → g q ≡ []) → ((q : ℕ) → q < n → e ≤ q → g q ≡ [])
+      → joined g (from a (e - a)) ≡ joined g (from 0 n)
+  joined-stretch n a e h below above = by-order (decLt a e)
+    where
+      by-order : Dec (a < e) → joined g (from a (e - a)) ≡ joined g (from 0 n)
+      by-order (yes l) =
+          let m = e - a in
+          let k = n - e in
+          let z : n ≡ a + (m + k) = omega arith in
+          let y : 0 + a ≡ a = omega arith in
+          let x : a + m ≡ e = omega arith in
+          let before : joined g (from 0 a) ≡ [] = joined-none 0 a (λ q u v. below q (omega arith) (omega arith)) in
+          let after : joined g (from (a + m) k) ≡ [] = joined-none (a + m) k (λ q u v. above q (omega arith) (omega arith)) in
+          sym (
+          ap (λ (j : ℕ). joined g (from 0 j)) z
+          ∙ ap (joined g) (from-append 0 a (m + k))
+          ∙ joined-append g (from 0 a) (from (0 + a) (m + k))
+          ∙ ap (λ (l : List B). l ++ joined g (from (0 + a) (m + k))) before
+          ∙ ap (λ (j : ℕ). joined g (from j (m + k))) y
+          ∙ ap (joined g) (from-append a m k)
+          ∙ joined-append g (from a m) (from (a + m) k)
+          ∙ ap (λ (l : List B). joined g (from a m) ++ l) after
+          ∙ append-nil (joined g (from a m))
+          )
+      by-order (no l) =
+          joined-end a e (omega arith)
+          ∙ sym (joined-none 0 n (λ q u v. by-place q (decLt q a) (omega arith)))
+        where
+          by-place : (q : ℕ) → Dec (q < a) → q < n → g q ≡ []
+          by-place q (yes k) u = below q u k
+          by-place q (no k) u = above q u (omega arith)
+
+module _ (at : ℕ → Record) (n : ℕ) where
+  -- The source: no depth left; a primitive; a composite.
+
+  pub source-bottom : (d c i : ℕ) → d ≡ 0 → pin n 0 ≡ source at n d c i
+  unfolding source
+  source-bottom d c i h = rw h
+
+  pub source-ends : (d c i : ℕ) → (d ≡ 0 → ⊥) → isPrimitive (at c) ≡ true → pin c i ≡ source at n d c i
+  unfolding source
+  source-ends zero c i h e = absurd (h refl)
+  source-ends (suc d) c i h e = rw e
+
+  pub source-through : (d c i : ℕ) → (d ≡ 0 → ⊥) → isPrimitive (at c) ≡ false
+      → source at n (d - 1) (child at n c (fromOf (at (outMap at n c i)))) (outputOf (at (outMap at n c i))) ≡ source at n d c i
+  unfolding source
+  source-through zero c i h e = absurd (h refl)
+  source-through (suc d) c i h e = let z : suc d - 1 ≡ d = omega arith in rw (e, z)
+
+  -- The targets: no depth left; a primitive; a composite.
+
+  abbrev pub given : ℕ → ℕ → ℕ → ℕ → List Pin
+  given d c i q = cond (mapsIn at n c i q) (targets at n d (child at n c (toOf (at q))) (inputOf (at q))) []
+
+  pub targets-bottom : (d c i : ℕ) → d ≡ 0 → targets at n d c i ≡ []
+  unfolding targets
+  targets-bottom d c i h = rw h
+
+  pub targets-ends : (d c i : ℕ) → (d ≡ 0 → ⊥) → isPrimitive (at c) ≡ true → targets at n d c i ≡ pin c i ∷ []
+  unfolding targets
+  targets-ends zero c i h e = absurd (h refl)
+  targets-ends (suc d) c i h e = rw e
+
+  pub targets-maps : (d c i : ℕ) → (d ≡ 0 → ⊥) → isPrimitive (at c) ≡ false
+      → targets at n d c i ≡ joined (given (d - 1) c i) (from 0 n)
+  unfolding targets
+  targets-maps zero c i h e = absurd (h refl)
+  targets-maps (suc d) c i h e = let z : suc d - 1 ≡ d = omega arith in rw (e, z)
+
+  -- Only the stretch at which the input maps of c stand has to be looked at.
+  given-none : (d c i q : ℕ) → (ownedAs 3 c (at q) ≡ true → ⊥) → given d c i q ≡ []
+  given-none d c i q h = by-test (mapsIn at n c i q) refl
+    where
+      owned : (a b p : Bool) → (a && b && p) ≡ true → (a && b) ≡ true
+      owned true true p e = refl
+      owned true false p e = e
+      owned false b p e = e
+
+      by-test : (b : Bool) → mapsIn at n c i q ≡ b → cond b (targets at n d (child at n c (toOf (at q))) (inputOf (at q))) [] ≡ []
+      by-test true e = absurd (h (owned (eqb (formOf (at q)) 3) (eqb (ownerOf (at q)) c) (eqb (portOf (at q)) i) e))
+      by-test false e = refl
+
+  pub targets-stretch : (d c i a e : ℕ) → (d ≡ 0 → ⊥) → isPrimitive (at c) ≡ false → IsStretch at n c a e
+      → targets at n d c i ≡ joined (given (d - 1) c i) (from a (e - a))
+  targets-stretch d c i a e h p s =
+      targets-maps d c i h p
+      ∙ sym (joined-stretch (given (d - 1) c i) n a e (s .within)
+      (λ q l u. given-none (d - 1) c i q (λ o. omega (arith, s .least q l o)))
+      (λ q l u. given-none (d - 1) c i q (λ o. omega (arith, s .most q l o))))
+
+  -- One turn of a loop over it: the record at q leads on, or nowhere.
+  abbrev follow : ℕ → Entered → List Pin
+  follow d (To t j) = targets at n d t j
+  follow d Nothing = []
+
+  given-is : (d c i q : ℕ) (g : Entered) → g ≡ entered at n c i q → given d c i q ≡ follow d g
+  given-is d c i q g h = sym (by-test (mapsIn at n c i q)) ∙ ap (follow d) (sym h)
+    where
+      by-test : (b : Bool) → follow d (cond b (To (child at n c (toOf (at q))) (inputOf (at q))) Nothing)
+          ≡ cond b (targets at n d (child at n c (toOf (at q))) (inputOf (at q))) []
+      by-test true = refl
+      by-test false = refl
+
+  pub given-to : (d c i q e t j : ℕ) → q < e → To t j ≡ entered at n c i q
+      → joined (given d c i) (from q (e - q)) ≡ targets at n d t j ++ joined (given d c i) (from (q + 1) (e - (q + 1)))
+  given-to d c i q e t j h k =
+      joined-step (given d c i) q e h
+      ∙ ap (λ (l : List Pin). l ++ joined (given d c i) (from (q + 1) (e - (q + 1)))) (given-is d c i q (To t j) k)
+
+  pub given-nothing : (d c i q e : ℕ) → q < e → Nothing ≡ entered at n c i q
+      → joined (given d c i) (from q (e - q)) ≡ joined (given d c i) (from (q + 1) (e - (q + 1)))
+  given-nothing d c i q e h k =
+      joined-step (given d c i) q e h
+      ∙ ap (λ (l : List Pin). l ++ joined (given d c i) (from (q + 1) (e - (q + 1)))) (given-is d c i q Nothing k)
+
+-- In a file: record q is r, and b says whether a test holds of it.
+module _ (s : List ℕ) (n : ℕ) where
+  primitive-is : (c : ℕ) (r : Record) (b x : Bool) → r ≡ recordAt s c → b ≡ isPrimitive r → b ≡ x → isPrimitive (recordAt s c) ≡ x
+  primitive-is c r b x e h t = sym (h ∙ ap isPrimitive e) ∙ t
+
+  -- the source: a primitive; a composite
+  pub source-here : (d c i : ℕ) (r : Record) (b : Bool) → (d ≡ 0 → ⊥) → r ≡ recordAt s c → b ≡ isPrimitive r → b ≡ true
+      → pin c i ≡ source (recordAt s) n d c i
+  source-here d c i r b h e p t = source-ends (recordAt s) n d c i h (primitive-is c r b true e p t)
+
+  pub source-below : (x : Pin) (d c i m t o : ℕ) (r w : Record) (f : ChildNo) (b : Bool) → (d ≡ 0 → ⊥)
+      → r ≡ recordAt s c → b ≡ isPrimitive r → b ≡ false
+      → m ≡ outMap (recordAt s) n c i → w ≡ recordAt s m → f .0 ≡ fromOf w → t ≡ child (recordAt s) n c (f .0) → o ≡ outputOf w
+      → x ≡ source (recordAt s) n (d - 1) t o → x ≡ source (recordAt s) n d c i
+  source-below x d c i m t o r w f b h e p k em ew ef et eo ex =
+      let z : w ≡ recordAt s (outMap (recordAt s) n c i) = ew ∙ ap (recordAt s) em in
+      ex ∙ ap (λ (j : ℕ). source (recordAt s) n (d - 1) j o) (et ∙ ap (child (recordAt s) n c) ef)
+      ∙ ap (λ (j : ℕ). source (recordAt s) n (d - 1) (child (recordAt s) n c (fromOf w)) j) eo
+      ∙ ap (λ (v : Record). source (recordAt s) n (d - 1) (child (recordAt s) n c (fromOf v)) (outputOf v)) z
+      ∙ source-through (recordAt s) n d c i h (primitive-is c r b false e p k)
+
+  -- where the record at q leads: it is no input map; one of another owner; of another input; of this one
+  module _ (c i q : ℕ) (r : Record) (e : r ≡ recordAt s q) where
+    pub entered-other : OneOf (0 ∷ 1 ∷ 3 ∷ 4 ∷ []) (tagOf the-type r) → Nothing ≡ entered (recordAt s) n c i q
+    entered-other k = rw (← e, ne-eqb (formOf r) 3 (formOf-no-input-map r k))
+
+    module _ (o a d : ℕ) (t : ChildNo) (k : r ≡ InputMap o a t d) where
+      pub entered-owner : (o ≡ c → ⊥) → Nothing ≡ entered (recordAt s) n c i q
+      entered-owner h = rw (← e, k, ne-eqb o c h)
+
+      pub entered-port : o ≡ c → (a ≡ i → ⊥) → Nothing ≡ entered (recordAt s) n c i q
+      entered-port h g = rw (← e, k, eq-eqb o c h, ne-eqb a i g)
+
+      pub entered-to : (x : ℕ) → o ≡ c → a ≡ i → x ≡ child (recordAt s) n c (t .0) → To x d ≡ entered (recordAt s) n c i q
+      entered-to x h g z = rw (z, ← e, k, eq-eqb o c h, eq-eqb a i g)
+
+  -- the stretch of the index, and all positions
+  pub stretch-index : (lo hi : List ℕ) (c : ℕ) → IsRange s n lo hi → c < 256 → IsStretch (recordAt s) n c (getD lo c 0) (getD hi c 0)
+  stretch-index lo hi c h l = record { within = h .within c l; least = λ q u o. h .least q c u l o; most = λ q u o. h .most q c u l o }
+
+  pub stretch-all : (c : ℕ) → IsStretch (recordAt s) n c 0 n
+  stretch-all c = record { within = omega arith; least = λ q u o. omega arith; most = λ q u o. u }
+
+  -- whether a target has another width: no depth left; a primitive; a composite, whose input maps are to be followed
+  pub differs-bottom : (d c i w : ℕ) → d ≡ 0 → false ≡ any (unlike (recordAt s) w) (targets (recordAt s) n d c i)
+  differs-bottom d c i w h = ap (any (unlike (recordAt s) w)) (sym (targets-bottom (recordAt s) n d c i h))
+
+  pub differs-here : (d c i w v : ℕ) (r : Record) (b : Bool) → (d ≡ 0 → ⊥) → r ≡ recordAt s c → b ≡ isPrimitive r → b ≡ true
+      → v ≡ inputWidth (fieldsOf r) → not (eqb w v) ≡ any (unlike (recordAt s) w) (targets (recordAt s) n d c i)
+  differs-here d c i w v r b h e p t ev =
+      ap (λ (x : ℕ). not (eqb w x)) (ev ∙ ap (λ (x : Record). inputWidth (fieldsOf x)) e)
+      ∙ sym (or-false (not (eqb w (inputWidth (fieldsOf (recordAt s c))))))
+      ∙ ap (any (unlike (recordAt s) w)) (sym (targets-ends (recordAt s) n d c i h (primitive-is c r b true e p t)))
+
+  pub differs-start : (d c i w a e : ℕ) (r : Record) (b : Bool) → (d ≡ 0 → ⊥) → r ≡ recordAt s c → b ≡ isPrimitive r → b ≡ false
+      → IsStretch (recordAt s) n c a e
+      → any (unlike (recordAt s) w) (joined (given (recordAt s) n (d - 1) c i) (from a (e - a)))
+      ≡ any (unlike (recordAt s) w) (targets (recordAt s) n d c i)
+  differs-start d c i w a e r b h er p t z =
+      ap (any (unlike (recordAt s) w)) (sym (targets-stretch (recordAt s) n d c i a e h (primitive-is c r b false er p t) z))
+
+  -- one turn: a target of the map at q differs; none does; the record leads nowhere; and the end
+  module _ (d c i w q e : ℕ) (x : Bool)
+      (inv : any (unlike (recordAt s) w) (joined (given (recordAt s) n d c i) (from q (e - q))) ≡ x) where
+    module _ (g : Entered) (t j : ℕ) (y : Bool) (l : q < e) (k : g ≡ To t j) (h : g ≡ entered (recordAt s) n c i q)
+        (ey : y ≡ any (unlike (recordAt s) w) (targets (recordAt s) n d t j)) where
+      turn : (y || any (unlike (recordAt s) w) (joined (given (recordAt s) n d c i) (from (q + 1) (e - (q + 1))))) ≡ x
+      turn =
+          let rest = joined (given (recordAt s) n d c i) (from (q + 1) (e - (q + 1))) in
+          ap (λ (b : Bool). b || any (unlike (recordAt s) w) rest) ey
+          ∙ sym (any-append (unlike (recordAt s) w) (targets (recordAt s) n d t j) rest)
+          ∙ ap (any (unlike (recordAt s) w)) (sym (given-to (recordAt s) n d c i q e t j l (sym k ∙ h)))
+          ∙ inv
+
+      pub differs-found : y ≡ true → true ≡ x
+      differs-found b = rw b at turn
+
+      pub differs-next : y ≡ false → any (unlike (recordAt s) w) (joined (given (recordAt s) n d c i) (from (q + 1) (e - (q + 1)))) ≡ x
+      differs-next b = rw b at turn
+
+    pub differs-nothing : (g : Entered) → q < e → g ≡ Nothing → g ≡ entered (recordAt s) n c i q
+        → any (unlike (recordAt s) w) (joined (given (recordAt s) n d c i) (from (q + 1) (e - (q + 1)))) ≡ x
+    differs-nothing g l k h =
+        ap (any (unlike (recordAt s) w)) (sym (given-nothing (recordAt s) n d c i q e l (sym k ∙ h))) ∙ inv
+
+    pub differs-end : e ≤ q → false ≡ x
+    differs-end l = ap (any (unlike (recordAt s) w)) (sym (joined-end (given (recordAt s) n d c i) q e l)) ∙ inv
+
+  -- 15: no connection; a connection
+  pub fails15-other : (p : ℕ) (r : Record) → r ≡ recordAt s p → OneOf (0 ∷ 2 ∷ 3 ∷ 4 ∷ []) (tagOf the-type r)
+      → false ≡ fails15 (recordAt s) n p
+  fails15-other p r e k = rw (← e, ne-eqb (formOf r) 2 (formOf-no-connection r k))
+
+  module _ (p o a b : ℕ) (f t : ChildNo) (r : Record) (e : r ≡ recordAt s p) (k : r ≡ Connection o f a t b) where
+    source-is : (m c : ℕ) (x : Pin) → m ≡ deepest → c ≡ child (recordAt s) n o (f .0) → x ≡ source (recordAt s) n m c a
+        → x ≡ sourceOf (recordAt s) n p
+    unfolding sourceOf
+    source-is m c x em ec ex =
+        ex ∙ ap (λ (j : ℕ). source (recordAt s) n j c a) em ∙ ap (λ (j : ℕ). source (recordAt s) n deepest j a) ec
+        ∙ ap (λ (y : Record). source (recordAt s) n deepest (child (recordAt s) n (ownerOf y) (fromOf y)) (outputOf y)) (sym k ∙ e)
+
+    targets-are : (m c : ℕ) → m ≡ deepest → c ≡ child (recordAt s) n o (t .0)
+        → targets (recordAt s) n m c b ≡ targetsOf (recordAt s) n p
+    unfolding targetsOf
+    targets-are m c em ec =
+        ap (λ (j : ℕ). targets (recordAt s) n j c b) em ∙ ap (λ (j : ℕ). targets (recordAt s) n deepest j b) ec
+        ∙ ap (λ (y : Record). targets (recordAt s) n deepest (child (recordAt s) n (ownerOf y) (toOf y)) (inputOf y)) (sym k ∙ e)
+
+    form-is : formOf (recordAt s p) ≡ 2
+    form-is = ap formOf (sym e ∙ k)
+
+    differing : Wire → Bool
+    differing w = not (eqb (outputWidth (fieldsOf (recordAt s (w .src .comp)))) (inputWidth (fieldsOf (recordAt s (w .dst .comp)))))
+
+    fails15-is : any (unlike (recordAt s) (outputWidth (fieldsOf (recordAt s (sourceOf (recordAt s) n p .comp))))) (targetsOf (recordAt s) n p)
+        ≡ fails15 (recordAt s) n p
+    unfolding differing
+    fails15-is =
+        sym (any-map differing (λ (x : Pin). record { src = sourceOf (recordAt s) n p; dst = x }) (targetsOf (recordAt s) n p))
+        ∙ ap (λ (y : Bool). y && any differing (wiresAt (recordAt s) n p)) (sym (eq-eqb (formOf (recordAt s p)) 2 form-is))
+
+    pub fails15-connection : (m c l g w : ℕ) (x : Pin) (v : Record) (y : Bool)
+        → c ≡ child (recordAt s) n o (f .0) → m ≡ deepest → x ≡ source (recordAt s) n m c a
+        → v ≡ recordAt s (x .comp) → w ≡ outputWidth (fieldsOf v)
+        → g ≡ child (recordAt s) n o (t .0) → l ≡ deepest → y ≡ any (unlike (recordAt s) w) (targets (recordAt s) n l g b)
+        → y ≡ fails15 (recordAt s) n p
+    fails15-connection m c l g w x v y ec em ex ev ew eg el ey =
+        let z : w ≡ outputWidth (fieldsOf (recordAt s (sourceOf (recordAt s) n p .comp))) =
+        ew ∙ ap (λ (u : Record). outputWidth (fieldsOf u)) ev
+        ∙ ap (λ (u : Pin). outputWidth (fieldsOf (recordAt s (u .comp)))) (source-is m c x em ec ex) in
+        ey ∙ ap (λ (u : ℕ). any (unlike (recordAt s) u) (targets (recordAt s) n l g b)) z
+        ∙ ap (any (unlike (recordAt s) (outputWidth (fieldsOf (recordAt s (sourceOf (recordAt s) n p .comp)))))) (targets-are l g el eg)
+        ∙ fails15-is

@@ -1,0 +1,175 @@
+-- Laws of specs/Verdict.antt, one for each way out of a function of src/judgement.rt: the search for the first record that fails a
+-- check; the loop over the checks, by the place that a number has in their list; the file's size.
+-- Assumes nothing.
+use mathlib.Core.Path.{_≡_, refl, sym, ap, _∙_}
+use mathlib.Core.Bool.{Bool, true, false, cond, not, _&&_}
+use mathlib.Core.List.{List, [], _∷_, map}
+use mathlib.Core.Option.{Option, none, some}
+use Prim.Native.Nat.{ℕ, zero, suc, _+_, _-_, _/_, _%_, _≤_, _<_}
+use native.Mathlib.Nat.{sub-zero}
+use native.Mathlib.Omega.{arith}
+use borrow.Author.Tests.{not-true, not-false, ltb-true, leb-true}
+use lib.Dec.{eqb, ltb, leb}
+use lib.ListN.{length, getD, drop}
+use lib.Seq.{drop-cons}
+use Rattle.lists.specs.Lists.{from, every, first}
+use Rattle.lists.proofs.ListsLaws.{and-left, and-right, first-here, first-next, first-none}
+use Rattle.primitive.specs.declared.answers.Refusal.{Refusal}
+use Rattle.component.specs.declared.Record.{Record}
+use Rattle.component.specs.declared.Verdict.{Verdict}
+use Rattle.component.specs.declared.Verdict.the-variants.{Accepted, Refused}
+use Rattle.component.specs.Record.{recordAt}
+use Rattle.flatten.specs.declared.judgement.Found.{Found}
+use Rattle.flatten.specs.declared.judgement.Found.the-variants.{At, Nowhere}
+use Rattle.flatten.specs.Verdict.{Check, checks, refused, said, judged, sized, verdict}
+use Rattle.flatten.specs.Steps.{noCheck, failsBy, found}
+
+-- A search's answer.
+
+found-at : (x : Option ℕ) (g : Found) (p : ℕ) → g ≡ found x → g ≡ At p → x ≡ some p
+found-at (some q) g p e h = let z : q ≡ p = cc in ap some z
+found-at none g p e h = let z : _≡_ {A = ℕ} 0 1 = cc in absurd (omega arith)
+
+found-nowhere : (x : Option ℕ) (g : Found) → g ≡ found x → g ≡ Nowhere → x ≡ none
+found-nowhere (some q) g e h = let z : _≡_ {A = ℕ} 0 1 = cc in absurd (omega arith)
+found-nowhere none g e h = refl
+
+-- What is found is one of the positions looked at.
+first-below : (f : ℕ → Bool) (q k p : ℕ) → first f (from q k) ≡ some p → p < q + k
+first-below f q zero p e = let z : _≡_ {A = ℕ} 0 1 = cc in absurd (omega arith)
+first-below f q (suc k) p e = by-test (f q) e (first-below f (suc q) k p)
+  where
+    by-test : (b : Bool) → cond b (some q) (first f (from (suc q) k)) ≡ some p → (first f (from (suc q) k) ≡ some p → p < suc q + k)
+        → p < q + suc k
+    by-test true e later = let z : q ≡ p = cc in omega arith
+    by-test false e later = omega (arith, later e)
+
+module _ (s : List ℕ) (n k : ℕ) where
+  -- the search for the first record that fails check k: its start; this record; the next; none
+  pub search-start : first (failsBy (recordAt s) n k) (from 0 (n - 0)) ≡ first (failsBy (recordAt s) n k) (from 0 n)
+  search-start = ap (λ (m : ℕ). first (failsBy (recordAt s) n k) (from 0 m)) (sub-zero n)
+
+  module _ (q : ℕ) (x : Option ℕ) (inv : first (failsBy (recordAt s) n k) (from q (n - q)) ≡ x) where
+    pub search-here : (b : Bool) → q < n → b ≡ failsBy (recordAt s) n k q → b ≡ true → At q ≡ found x
+    search-here b l e t = ap found (first-here (failsBy (recordAt s) n k) q n x inv l (sym e ∙ t))
+
+    pub search-next : (b : Bool) → q < n → b ≡ failsBy (recordAt s) n k q → b ≡ false
+        → first (failsBy (recordAt s) n k) (from (q + 1) (n - (q + 1))) ≡ x
+    search-next b l e t = first-next (failsBy (recordAt s) n k) q n x inv l (sym e ∙ t)
+
+    pub search-none : n ≤ q → Nowhere ≡ found x
+    search-none l = ap found (first-none (failsBy (recordAt s) n k) q n x inv l)
+
+  -- what it finds is a position of the file
+  pub found-below : (g : Found) (p : ℕ) → g ≡ found (first (failsBy (recordAt s) n k) (from 0 n)) → g ≡ At p → p < n
+  found-below g p e h =
+      omega (arith, first-below (failsBy (recordAt s) n k) 0 n p (found-at (first (failsBy (recordAt s) n k) (from 0 n)) g p e h))
+
+-- Checks numbered from m on: the one at place j has number m + j.
+number-at : (cs : List Check) (m j : ℕ) → map (λ (c : Check). c .number) cs ≡ from m (length cs) → j < length cs
+    → getD cs j noCheck .number ≡ m + j
+number-at [] m j e h = absurd (omega arith)
+number-at (c ∷ cs) m zero e h = let z : c .number ≡ m = cc in omega arith
+number-at (c ∷ cs) m (suc j) e h =
+    let z : map (λ (x : Check). x .number) cs ≡ from (suc m) (length cs) = cc in
+    omega (arith, number-at cs (suc m) j z (omega arith))
+
+-- The loop over the checks, of which those from place k - 3 on are still to be made.
+module _ (s : List ℕ) (n k : ℕ) where
+  judged-step : 3 ≤ k → k < 16
+      → judged n (drop (k - 3) (checks (recordAt s) n))
+      ≡ said k (first (failsBy (recordAt s) n k) (from 0 n)) (judged n (drop (k + 1 - 3) (checks (recordAt s) n)))
+  unfolding failsBy
+  judged-step h l =
+      let j = k - 3 in
+      let y : suc (k - 3) ≡ k + 1 - 3 = omega arith in
+      let z : getD (checks (recordAt s) n) (k - 3) noCheck .number ≡ k =
+      let e = number-at (checks (recordAt s) n) 3 (k - 3) refl (omega arith) in omega arith in
+      ap (judged n) (drop-cons (checks (recordAt s) n) (k - 3) noCheck (omega arith))
+      ∙ ap (λ (m : ℕ). said m (first (failsBy (recordAt s) n k) (from 0 n)) (judged n (drop (suc (k - 3)) (checks (recordAt s) n)))) z
+      ∙ ap (λ (m : ℕ). said k (first (failsBy (recordAt s) n k) (from 0 n)) (judged n (drop m (checks (recordAt s) n)))) y
+
+  -- a record fails check k; none does; all checks are made
+  module _ (g : Found) (v : Verdict) (inv : judged n (drop (k - 3) (checks (recordAt s) n)) ≡ v) where
+    pub judged-here : (p : ℕ) → 3 ≤ k → k < 16 → g ≡ found (first (failsBy (recordAt s) n k) (from 0 n)) → g ≡ At p → refused k p ≡ v
+    judged-here p h l e d =
+        ap (λ (x : Option ℕ). said k x (judged n (drop (k + 1 - 3) (checks (recordAt s) n))))
+        (sym (found-at (first (failsBy (recordAt s) n k) (from 0 n)) g p e d))
+        ∙ sym (judged-step h l) ∙ inv
+
+    pub judged-next : 3 ≤ k → k < 16 → g ≡ found (first (failsBy (recordAt s) n k) (from 0 n)) → g ≡ Nowhere
+        → judged n (drop (k + 1 - 3) (checks (recordAt s) n)) ≡ v
+    judged-next h l e d =
+        ap (λ (x : Option ℕ). said k x (judged n (drop (k + 1 - 3) (checks (recordAt s) n))))
+        (sym (found-nowhere (first (failsBy (recordAt s) n k) (from 0 n)) g e d))
+        ∙ sym (judged-step h l) ∙ inv
+
+  pub judged-all : (v : Verdict) → judged n (drop (k - 3) (checks (recordAt s) n)) ≡ v → k ≤ 16 → 16 ≤ k → Accepted ≡ v
+  judged-all v inv h l =
+      let z : 13 ≡ k - 3 = omega arith in
+      ap (λ (m : ℕ). judged n (drop m (checks (recordAt s) n))) z ∙ inv
+
+-- A number from 3 to 15 that is none of 3 to 14.
+past : (m k : ℕ) → m ≤ k → (k ≡ m → ⊥) → m + 1 ≤ k
+past m k h e = omega arith
+
+last : (k : ℕ) → 15 ≤ k → k < 16 → k ≡ 15
+last k h l = omega arith
+
+pub number-last : (k : ℕ) → 3 ≤ k → k < 16
+    → (k ≡ 3 → ⊥) → (k ≡ 4 → ⊥) → (k ≡ 5 → ⊥) → (k ≡ 6 → ⊥) → (k ≡ 7 → ⊥) → (k ≡ 8 → ⊥) → (k ≡ 9 → ⊥)
+    → (k ≡ 10 → ⊥) → (k ≡ 11 → ⊥) → (k ≡ 12 → ⊥) → (k ≡ 13 → ⊥) → (k ≡ 14 → ⊥) → k ≡ 15
+number-last k h l e3 e4 e5 e6 e7 e8 e9 e10 e11 e12 e13 e14 =
+    let k6 : 6 ≤ k = past 5 k (past 4 k (past 3 k h e3) e4) e5 in
+    let k9 : 9 ≤ k = past 8 k (past 7 k (past 6 k k6 e6) e7) e8 in
+    let k12 : 12 ≤ k = past 11 k (past 10 k (past 9 k k9 e9) e10) e11 in
+    last k (past 14 k (past 13 k (past 12 k k12 e12) e13) e14) l
+
+-- Check 1.
+module _ (s : List ℕ) (b : Bool) (e : b ≡ sized s) where
+  pub sized-most : not b ≡ false → length s / 24 ≤ 1024
+  sized-most h =
+      leb-true (length s / 24) 1024
+      (and-right (not (eqb (length s) 0) && eqb (length s % 24) 0) (leb (length s / 24) 1024) (sym e ∙ not-false b h))
+
+  pub verdict-sized : not b ≡ true → refused 1 0 ≡ verdict s
+  unfolding verdict
+  verdict-sized h = rw (← e, not-true b h)
+
+  pub verdict-judged : (v : Verdict) → not b ≡ false → v ≡ judged (length s / 24) (checks (recordAt s) (length s / 24)) → v ≡ verdict s
+  unfolding verdict
+  verdict-judged v h d = d ∙ rw (← e, not-false b h)
+
+-- A refusal's number is at most 15, and its position is below 1,024.
+judged-bound : (n : ℕ) (cs : List Check) (r : Refusal) → every (λ (c : Check). ltb (c .number) 16) cs ≡ true → judged n cs ≡ Refused r
+    → (r .number < 16) × (r .position < n)
+judged-bound n [] r h e = let z : _≡_ {A = ℕ} 0 1 = cc in absurd (omega arith)
+judged-bound n (c ∷ cs) r h e =
+    by-find (first (c .fails) (from 0 n)) refl e
+    (judged-bound n cs r (and-right (ltb (c .number) 16) (every (λ (x : Check). ltb (x .number) 16) cs) h))
+  where
+    by-find : (x : Option ℕ) → first (c .fails) (from 0 n) ≡ x → said (c .number) x (judged n cs) ≡ Refused r
+        → (judged n cs ≡ Refused r → (r .number < 16) × (r .position < n)) → (r .number < 16) × (r .position < n)
+    by-find (some p) u d later =
+        let z : record { number = c .number; position = p } ≡ r = cc in
+        let y : c .number ≡ r .number = ap (λ (x : Refusal). x .number) z in
+        let w : p ≡ r .position = ap (λ (x : Refusal). x .position) z in
+        let l : c .number < 16 = ltb-true (c .number) 16 (and-left (ltb (c .number) 16) (every (λ (x : Check). ltb (x .number) 16) cs) h) in
+        (omega arith, omega (arith, first-below (c .fails) 0 n p u))
+    by-find none u d later = later d
+
+pub verdict-bound : (s : List ℕ) (r : Refusal) → verdict s ≡ Refused r → (r .number < 16) × (r .position < 1024)
+unfolding verdict
+verdict-bound s r e = by-size (sized s) refl e
+  where
+    by-size : (b : Bool) → b ≡ sized s
+        → cond b (judged (length s / 24) (checks (recordAt s) (length s / 24))) (refused 1 0) ≡ Refused r
+        → (r .number < 16) × (r .position < 1024)
+    by-size true h d =
+        let z = judged-bound (length s / 24) (checks (recordAt s) (length s / 24)) r refl d in
+        (z .0, omega (arith, z .1, sized-most s true h refl))
+    by-size false h d =
+        let z : record { number = 1; position = 0 } ≡ r = cc in
+        let y : 1 ≡ r .number = ap (λ (x : Refusal). x .number) z in
+        let w : 0 ≡ r .position = ap (λ (x : Refusal). x .position) z in
+        (omega arith, omega arith)

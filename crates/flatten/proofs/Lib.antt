@@ -1,0 +1,2 @@
+pub mod DescentLaws
+pub mod JudgementLaws

@@ -1,0 +1,122 @@
+-- `differs`: the depth left falls at every call. The invariant: whether one of the targets of the maps to come has another width
+-- is the answer.
+-- Assumes nothing.
+use mathlib.Core.Path.{_≡_}
+use mathlib.Core.Logic.{⊎-elim}
+use Prim.Native.Nat.{_+_, _-_}
+use native.Mathlib.Omega.{arith}
+use Rattle.lists.specs.Lists.{from, any, joined}
+use Rattle.component.specs.Record.{recordAt}
+use Rattle.flatten.specs.Descent.{targets}
+use Rattle.flatten.specs.Steps.{unlike}
+use Rattle.flatten.proofs.DescentLaws.{given, differs-bottom, differs-here, differs-start}
+use Rattle.flatten.proofs.DescentLaws.{differs-found, differs-next, differs-nothing, differs-end}
+use borrow.Author.Needs.{needs}
+use Prim.Native.Nat.{ℕ, _<_}
+use borrow.Fn.Kinds.{In}
+use borrow.Fn.PlainCycle.{Measures, is, falls, and}
+use Rattle.flatten.proofs.descent.differs.Reads as differs
+use Rattle.flatten.proofs.descent.differs.Kinds as differs-kinds
+use Rattle.flatten.proofs.descent.+differs.Lts-differs as differs-lts
+use Rattle.component.proofs.is_primitive.Reads as is-primitive-reads
+use Rattle.component.proofs.record_at.Reads as record-at-reads
+use Rattle.flatten.proofs.descent.enter.Reads as enter-reads
+use Rattle.flatten.proofs.descent.input_width_of.Reads as input-width-of-reads
+use Rattle.flatten.proofs.descent.stretch_of.Reads as stretch-of-reads
+use Rattle.flatten.proofs.descent.+differs.{statement}
+use Rattle.flatten.proofs.descent.+differs.Tie.{close}
+
+abbrev μ-differs : Measures 4 differs-kinds.ps ℕ
+μ-differs κs a = a .1 .1 .1 .1 .1 .0
+
+abbrev differs-at : ℕ → In 4 differs-kinds.ps
+differs-at t = and 4 differs-kinds.ps (is 4 differs-kinds.ps μ-differs t) differs.Pre
+
+abbrev differs-below : ℕ → In 4 differs-kinds.ps
+differs-below t = and 4 differs-kinds.ps (falls 4 differs-kinds.ps _<_ μ-differs t) differs.Pre
+
+abbrev differs-claims : ℕ → differs-lts.Claims
+differs-claims t = (record-at-reads.Asked, record-at-reads.Learnt, is-primitive-reads.Asked, is-primitive-reads.Learnt, input-width-of-reads.Asked, input-width-of-reads.Learnt, stretch-of-reads.Asked, stretch-of-reads.Learnt, enter-reads.Asked, enter-reads.Learnt, differs-below t, differs.Post)
+
+abbrev differs-Inv-loop : differs-lts.InvT-loop
+differs-Inv-loop file n children lo hi depth c i width end q₀ q =
+    any (unlike (recordAt file) width) (joined (given (recordAt file) n (depth - 1) c i) (from q (end - q)))
+    ≡ any (unlike (recordAt file) width) (targets (recordAt file) n depth c i)
+
+abbrev differs-μ-loop : differs-lts.MeasureT-loop
+differs-μ-loop file n children lo hi depth c i width end q₀ q = end - q
+
+differs-returns : (t : ℕ) → differs-lts.Need-returns (differs-claims t) (differs-at t) differs.Post differs-Inv-loop differs-μ-loop
+differs-returns t c = search (differs-bottom)
+
+differs-record-at-requires : (t : ℕ) → differs-lts.Need-record-at-requires (differs-claims t) (differs-at t) differs.Post differs-Inv-loop differs-μ-loop
+differs-record-at-requires t c κs = search needs
+
+differs-is-primitive-requires : (t : ℕ) → differs-lts.Need-is-primitive-requires (differs-claims t) (differs-at t) differs.Post differs-Inv-loop differs-μ-loop
+differs-is-primitive-requires t c κs = search needs
+
+differs-input-width-of-requires : (t : ℕ) → differs-lts.Need-input-width-of-requires (differs-claims t) (differs-at t) differs.Post differs-Inv-loop differs-μ-loop
+differs-input-width-of-requires t c κs = search needs
+
+differs-returns-2 : (t : ℕ) → differs-lts.Need-returns-2 (differs-claims t) (differs-at t) differs.Post differs-Inv-loop differs-μ-loop
+differs-returns-2 t c = search (differs-here)
+
+differs-stretch-of-requires : (t : ℕ) → differs-lts.Need-stretch-of-requires (differs-claims t) (differs-at t) differs.Post differs-Inv-loop differs-μ-loop
+differs-stretch-of-requires t c κs = search needs
+
+differs-loop-holds : (t : ℕ) → differs-lts.Need-loop-holds (differs-claims t) (differs-at t) differs.Post differs-Inv-loop differs-μ-loop
+differs-loop-holds t c = search (differs-start)
+
+differs-enter-requires : (t : ℕ) → differs-lts.Need-enter-requires (differs-claims t) (differs-at t) differs.Post differs-Inv-loop differs-μ-loop
+differs-enter-requires t c κs = search needs
+
+differs-enum-known-to : (t : ℕ) → differs-lts.Need-enum-known-to (differs-claims t) (differs-at t) differs.Post differs-Inv-loop differs-μ-loop
+differs-enum-known-to t c = search needs
+
+differs-sub-differs : (t : ℕ) → differs-lts.Need-sub-differs (differs-claims t) (differs-at t) differs.Post differs-Inv-loop differs-μ-loop
+differs-sub-differs t c = search needs
+
+differs-differs-requires : (t : ℕ) → differs-lts.Need-differs-requires (differs-claims t) (differs-at t) differs.Post differs-Inv-loop differs-μ-loop
+differs-differs-requires t c κs = (omega (arith, c .before .before .before .before .before .before .before .before .before .before .before .before .before .before .before .pre .0, c .before .before .before .before .before .before .before .before .before .before .if1 .left), c .before .before .before .before .before .before .before .before .before .before .before .before .before .before .before .pre .1)
+
+differs-returns-3 : (t : ℕ) → differs-lts.Need-returns-3 (differs-claims t) (differs-at t) differs.Post differs-Inv-loop differs-μ-loop
+differs-returns-3 t c = search (differs-found)
+
+differs-enum-told : (t : ℕ) → differs-lts.Need-enum-told (differs-claims t) (differs-at t) differs.Post differs-Inv-loop differs-μ-loop
+differs-enum-told t c = search needs
+
+differs-add-q : (t : ℕ) → differs-lts.Need-add-q (differs-claims t) (differs-at t) differs.Post differs-Inv-loop differs-μ-loop
+differs-add-q t c = search needs
+
+differs-loop-less : (t : ℕ) → differs-lts.Need-loop-less (differs-claims t) (differs-at t) differs.Post differs-Inv-loop differs-μ-loop
+differs-loop-less t c = search needs
+
+differs-loop-again : (t : ℕ) → differs-lts.Need-loop-again (differs-claims t) (differs-at t) differs.Post differs-Inv-loop differs-μ-loop
+differs-loop-again t c = ⊎-elim (λ w. search (differs-next)) (λ w. search (differs-nothing)) (c .match .came)
+
+differs-returns-4 : (t : ℕ) → differs-lts.Need-returns-4 (differs-claims t) (differs-at t) differs.Post differs-Inv-loop differs-μ-loop
+differs-returns-4 t c = search (differs-end)
+
+pub +differs-spec : {M : Type 1} → statement M
++differs-spec = close μ-differs λ t. differs-lts.spec (differs-claims t)
+    (differs-at t)
+    differs.Post
+    differs-Inv-loop
+    differs-μ-loop
+    (differs-returns t)
+    (differs-record-at-requires t)
+    (differs-is-primitive-requires t)
+    (differs-input-width-of-requires t)
+    (differs-returns-2 t)
+    (differs-stretch-of-requires t)
+    (differs-loop-holds t)
+    (differs-enter-requires t)
+    (differs-enum-known-to t)
+    (differs-sub-differs t)
+    (differs-differs-requires t)
+    (differs-returns-3 t)
+    (differs-enum-told t)
+    (differs-add-q t)
+    (differs-loop-less t)
+    (differs-loop-again t)
+    (differs-returns-4 t)

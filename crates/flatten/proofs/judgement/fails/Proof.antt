@@ -1,0 +1,136 @@
+-- `fails`: the check of each number stands at its place in the list.
+-- Assumes nothing.
+use mathlib.Core.Path.{_≡_}
+use Rattle.flatten.specs.Steps.{failsBy}
+use Rattle.flatten.proofs.JudgementLaws.{number-last}
+use borrow.Author.Needs.{needs}
+use Rattle.flatten.proofs.judgement.fails.Statement.{statement}
+use Rattle.flatten.proofs.judgement.fails.Tie as tie
+
+check3-requires : tie.Need-check3-requires
+check3-requires c κs = search needs
+
+check4-requires : tie.Need-check4-requires
+check4-requires c κs = search needs
+
+check5-requires : tie.Need-check5-requires
+check5-requires c κs = search needs
+
+check6-requires : tie.Need-check6-requires
+check6-requires c κs = search needs
+
+check7-requires : tie.Need-check7-requires
+check7-requires c κs = search needs
+
+check8-requires : tie.Need-check8-requires
+check8-requires c κs = search needs
+
+check9-requires : tie.Need-check9-requires
+check9-requires c κs = search needs
+
+check10-requires : tie.Need-check10-requires
+check10-requires c κs = search needs
+
+check11-requires : tie.Need-check11-requires
+check11-requires c κs = search needs
+
+check12-requires : tie.Need-check12-requires
+check12-requires c κs = search needs
+
+check13-requires : tie.Need-check13-requires
+check13-requires c κs = search needs
+
+check14-requires : tie.Need-check14-requires
+check14-requires c κs = search needs
+
+check15-requires : tie.Need-check15-requires
+check15-requires c κs = search needs
+
+returns : tie.Need-returns
+unfolding failsBy
+returns c = rw (c .before .match .keys1) (c .check3 .ensures)
+
+returns-2 : tie.Need-returns-2
+unfolding failsBy
+returns-2 c = rw (c .before .match .keys2) (c .check4 .ensures)
+
+returns-3 : tie.Need-returns-3
+unfolding failsBy
+returns-3 c = rw (c .before .match .keys3) (c .check5 .ensures)
+
+returns-4 : tie.Need-returns-4
+unfolding failsBy
+returns-4 c = rw (c .before .match .keys4) (c .check6 .ensures)
+
+returns-5 : tie.Need-returns-5
+unfolding failsBy
+returns-5 c = rw (c .before .match .keys5) (c .check7 .ensures)
+
+returns-6 : tie.Need-returns-6
+unfolding failsBy
+returns-6 c = rw (c .before .match .keys6) (c .check8 .ensures)
+
+returns-7 : tie.Need-returns-7
+unfolding failsBy
+returns-7 c = rw (c .before .match .keys7) (c .check9 .ensures)
+
+returns-8 : tie.Need-returns-8
+unfolding failsBy
+returns-8 c = rw (c .before .match .keys8) (c .check10 .ensures)
+
+returns-9 : tie.Need-returns-9
+unfolding failsBy
+returns-9 c = rw (c .before .match .keys9) (c .check11 .ensures)
+
+returns-10 : tie.Need-returns-10
+unfolding failsBy
+returns-10 c = rw (c .before .match .keys10) (c .check12 .ensures)
+
+returns-11 : tie.Need-returns-11
+unfolding failsBy
+returns-11 c = rw (c .before .match .keys11) (c .check13 .ensures)
+
+returns-12 : tie.Need-returns-12
+unfolding failsBy
+returns-12 c = rw (c .before .match .keys12) (c .check14 .ensures)
+
+returns-13 : tie.Need-returns-13
+unfolding failsBy
+returns-13 c =
+    let r = c .before .match .rest in
+    let s = c .before .before .before .before .before .before .before in
+    let e : s .args .k ≡ 15 =
+    number-last (s .args .k) (s .pre .1 .1 .1 .0) (s .pre .1 .1 .1 .1)
+    (r .0 .0 .0 .0 .0 .0 .0 .0 .0 .0 .0 .1) (r .0 .0 .0 .0 .0 .0 .0 .0 .0 .0 .1) (r .0 .0 .0 .0 .0 .0 .0 .0 .0 .1) (r .0 .0 .0 .0 .0 .0 .0 .0 .1) (r .0 .0 .0 .0 .0 .0 .0 .1) (r .0 .0 .0 .0 .0 .0 .1) (r .0 .0 .0 .0 .0 .1) (r .0 .0 .0 .0 .1) (r .0 .0 .0 .1) (r .0 .0 .1) (r .0 .1) (r .1) in
+    rw e (c .check15 .ensures)
+
+pub fails-spec : {M : Type 1} → statement M
+fails-spec =
+    tie.close
+    (tie.spec
+    check3-requires
+    check4-requires
+    check5-requires
+    check6-requires
+    check7-requires
+    check8-requires
+    check9-requires
+    check10-requires
+    check11-requires
+    check12-requires
+    check13-requires
+    check14-requires
+    check15-requires
+    returns
+    returns-2
+    returns-3
+    returns-4
+    returns-5
+    returns-6
+    returns-7
+    returns-8
+    returns-9
+    returns-10
+    returns-11
+    returns-12
+    returns-13)

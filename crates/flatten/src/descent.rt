@@ -1,0 +1,194 @@
+// From a connection's ends down to primitives, and check 15. Rules: docs/SPECIFICATION.md, "Flattening" and "Numbers given back".
+// Source: flatten.rs, `reindex_connections`.
+ghost use mathlib.Core.Path.{_≡_};
+ghost use Rattle.lists.specs.Lists.{any};
+ghost use Rattle.primitive.specs.Kinds.{inputWidth, outputWidth};
+ghost use Rattle.component.specs.Record.{recordAt, fieldsOf};
+ghost use Rattle.component.specs.Drawing.{deepest, child, outMap};
+ghost use Rattle.component.specs.Index.{IsTable, IsRange};
+ghost use Rattle.flatten.specs.Descent.{source, targets, fails15};
+ghost use Rattle.flatten.specs.Steps.{entered, unlike, IsStretch};
+use crate::Pin;
+use component::Record;
+use component::child_of;
+use component::from_of;
+use component::is_primitive;
+use component::out_map_of;
+use component::output_of;
+use component::record_at;
+
+// Where an input map leads from an input of its composite: to an input of a child, or nowhere, as it is another input's map or none.
+pub enum Entered {
+    To(usize, u16),
+    Nothing,
+}
+
+// The positions from `first` to before `end`.
+pub struct Stretch {
+    pub first: usize,
+    pub end: usize,
+}
+
+// The greatest depth, the root's being 1.
+pub fn deepest() -> u8
+    ensures { λ r. ⌜ r ≡ deepest ⌝ }
+{
+    16
+}
+
+// The bits of each input of a component; 1 where the record is none.
+pub fn input_width_of(r: Record) -> u64
+    ensures { λ x. ⌜ x ≡ inputWidth (fieldsOf r) ⌝ }
+{
+    match r {
+        Record::Component { fields, .. } => primitive::input_width(fields),
+        Record::Connection { .. } => 1,
+        Record::InputMap { .. } => 1,
+        Record::OutputMap { .. } => 1,
+        Record::Refused => 1,
+    }
+}
+
+// The bits of each output of a component; 1 where the record is none.
+pub fn output_width_of(r: Record) -> u64
+    ensures { λ x. ⌜ x ≡ outputWidth (fieldsOf r) ⌝ }
+{
+    match r {
+        Record::Component { fields, .. } => primitive::output_width(fields),
+        Record::Connection { .. } => 1,
+        Record::InputMap { .. } => 1,
+        Record::OutputMap { .. } => 1,
+        Record::Refused => 1,
+    }
+}
+
+// Output i of component c, down through output maps to a primitive's output, with the depth left.
+pub fn source_of(
+    file: &[u8],
+    n: usize,
+    children: &[u16],
+    outs: &[u16],
+    depth: u8,
+    c: usize,
+    i: u16,
+) -> Pin
+    requires { ⌜ IsTable 256 (child (recordAt (now file)) n) (now children) ⌝ }
+    requires { ⌜ IsTable 64 (outMap (recordAt (now file)) n) (now outs) ⌝ }
+    ensures { λ r. ⌜ r ≡ source (recordAt (now (file .entry))) n depth c i ⌝ }
+{
+    if depth == 0 {
+        return Pin { comp: n, port: 0 };
+    }
+    if is_primitive(record_at(file, c)) {
+        return Pin { comp: c, port: i };
+    }
+    let map = record_at(file, out_map_of(file, n, outs, c, i));
+    let from = child_of(file, n, children, c, from_of(map));
+    source_of(file, n, children, outs, depth - 1, from, output_of(map))
+}
+
+// Where the record at q leads, if it maps input i of composite c.
+pub fn enter(file: &[u8], n: usize, children: &[u16], c: usize, i: u16, q: usize) -> Entered
+    requires { ⌜ IsTable 256 (child (recordAt (now file)) n) (now children) ⌝ }
+    ensures { λ r. ⌜ r ≡ entered (recordAt (now (file .entry))) n c i q ⌝ }
+{
+    let Record::InputMap {
+        owner,
+        port,
+        to,
+        input,
+    } = record_at(file, q)
+    else {
+        return Entered::Nothing;
+    };
+    if owner as usize != c {
+        return Entered::Nothing;
+    }
+    if port != i {
+        return Entered::Nothing;
+    }
+    Entered::To(child_of(file, n, children, c, to), input)
+}
+
+// The positions at which the input maps of composite c stand: those of the index, and all where the index has no word of c.
+pub fn stretch_of(file: &[u8], n: usize, lo: &[u16], hi: &[u16], c: usize) -> Stretch
+    requires { ⌜ IsRange (now file) n (now lo) (now hi) ⌝ }
+    ensures { λ r. ⌜ IsStretch (recordAt (now (file .entry))) n c (r .first) (r .end) ⌝ }
+{
+    if c < 256 {
+        return Stretch {
+            first: lo[c] as usize,
+            end: hi[c] as usize,
+        };
+    }
+    Stretch { first: 0, end: n }
+}
+
+// Whether input i of component c leads, through input maps and with the depth left, to an input of another width.
+pub fn differs(
+    file: &[u8],
+    n: usize,
+    children: &[u16],
+    lo: &[u16],
+    hi: &[u16],
+    depth: u8,
+    c: usize,
+    i: u16,
+    width: u64,
+) -> bool
+    requires { ⌜ IsTable 256 (child (recordAt (now file)) n) (now children) ⌝ }
+    requires { ⌜ IsRange (now file) n (now lo) (now hi) ⌝ }
+    ensures { λ r. ⌜ r ≡ any (unlike (recordAt (now (file .entry))) width) (targets (recordAt (now (file .entry))) n depth c i) ⌝ }
+{
+    if depth == 0 {
+        return false;
+    }
+    let here = record_at(file, c);
+    if is_primitive(here) {
+        return width != input_width_of(here);
+    }
+    let maps = stretch_of(file, n, lo, hi, c);
+    let end = maps.end;
+    let mut q = maps.first;
+    while q < end {
+        if let Entered::To(to, input) = enter(file, n, children, c, i, q) {
+            if differs(file, n, children, lo, hi, depth - 1, to, input, width) {
+                return true;
+            }
+        }
+        q += 1;
+    }
+    false
+}
+
+// 15: a connection yields a wire whose ends differ in width.
+pub fn check15(
+    file: &[u8],
+    n: usize,
+    children: &[u16],
+    outs: &[u16],
+    lo: &[u16],
+    hi: &[u16],
+    p: usize,
+) -> bool
+    requires { ⌜ IsTable 256 (child (recordAt (now file)) n) (now children) ⌝ }
+    requires { ⌜ IsTable 64 (outMap (recordAt (now file)) n) (now outs) ⌝ }
+    requires { ⌜ IsRange (now file) n (now lo) (now hi) ⌝ }
+    ensures { λ r. ⌜ r ≡ fails15 (recordAt (now (file .entry))) n p ⌝ }
+{
+    let Record::Connection {
+        owner,
+        from,
+        output,
+        to,
+        input,
+    } = record_at(file, p)
+    else {
+        return false;
+    };
+    let start = child_of(file, n, children, owner as usize, from);
+    let source = source_of(file, n, children, outs, deepest(), start, output);
+    let width = output_width_of(record_at(file, source.comp));
+    let goal = child_of(file, n, children, owner as usize, to);
+    differs(file, n, children, lo, hi, deepest(), goal, input, width)
+}

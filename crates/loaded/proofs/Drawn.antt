@@ -1,0 +1,211 @@
+-- Tables whose components and wires are those of a drawing, as a load leaves them and as every call keeps them that
+-- writes neither. docs/SPECIFICATION.md, "Flattening".
+--   IsDrawn at n U         the components and wires of U are those of the drawing
+--   PrimitiveAt at n U i   the one primitive of the drawing that is component i of U
+-- First that a load leaves such tables and that `SameNet` keeps them; then what is known of any such tables.
+-- Assumes nothing.
+use mathlib.Core.Path.{_≡_, refl, sym, ap, _∙_}
+use mathlib.Core.Bool.{Bool, true, _&&_}
+use mathlib.Core.List.{List}
+use Prim.Native.Nat.{ℕ, _+_, _<_}
+use native.Mathlib.Omega.{arith}
+use borrow.Author.Tests.{lt-ltb}
+use lib.ListN.{getD}
+use lib.Dec.{ltb}
+use Rattle.lists.specs.Lists.{every, total}
+use Rattle.lists.proofs.MembersLaws.{In, every-complete, from0-sound}
+use Rattle.primitive.specs.declared.table.Fields.{Fields}
+use Rattle.component.specs.declared.Record.{Record}
+use Rattle.component.specs.Record.{fieldsOf, idOf, inputsOf, outputsOf, isPrimitive}
+use Rattle.component.specs.Drawing.{primitivesBefore, inputsBefore, outputsBefore}
+use Rattle.flatten.specs.declared.Pin.{Pin}
+use Rattle.flatten.specs.declared.Wire.{Wire}
+use Rattle.flatten.specs.Descent.{pin, flat, flatPin, flatWires}
+use Rattle.flatten.specs.Leads.{Leads}
+use Rattle.leads.proofs.Accepted.{Passed}
+use Rattle.leads.proofs.Wires.{wire, wires-lead, leads-wires}
+use Rattle.leads.proofs.Ends.{IsOutput, IsInput, wires-leave, wires-enter}
+use Rattle.leads.proofs.Primitives.{primitive-below, flat-below, flat-inj, flat-onto, portsBefore-within}
+use Rattle.leads.proofs.FlatWires.{flatWires-sound, leads-flatWires, flatWires-lead}
+use Rattle.tables.specs.Tables.{Tables, fieldsAt, idAt, firstInput, firstOutput, inputPlace, outputPlace, numbers, inputsAt, outputsAt, indexes, wiresIn}
+use Rattle.load.specs.Load.{primitives, loaded}
+use Rattle.net.specs.Net.{isOutput, isInput}
+use Rattle.loaded.proofs.Entries.{loaded-wires, loaded-fields, loaded-id, loaded-firstInput, loaded-firstOutput}
+use Rattle.loaded.proofs.SameNet.{SameNet, sameNet-word, sameNet-fields, sameNet-wires}
+
+-- The components and wires of U are those of the drawing: each primitive stands at its flat index.
+pub record IsDrawn (at : ℕ → Record) (n : ℕ) (U : Tables) : Type 0 where
+  pub component-count : U .counts .components ≡ flat at n n
+  pub input-count : U .counts .inputs ≡ inputsBefore at n n
+  pub output-count : U .counts .outputs ≡ outputsBefore at n n
+  pub fields : (c : ℕ) → isPrimitive (at c) ≡ true → fieldsAt U (flat at n c) ≡ fieldsOf (at c)
+  pub id : (c : ℕ) → isPrimitive (at c) ≡ true → idAt U (flat at n c) ≡ idOf (at c)
+  pub first-input : (c : ℕ) → isPrimitive (at c) ≡ true → firstInput U (flat at n c) ≡ inputsBefore at n c
+  pub first-output : (c : ℕ) → isPrimitive (at c) ≡ true → firstOutput U (flat at n c) ≡ outputsBefore at n c
+  pub wires : wiresIn U ≡ flatWires at n
+
+-- A load of a drawing that passes every check leaves such tables.
+pub loaded-drawn : (at : ℕ → Record) (n : ℕ) → Passed at n → (T : Tables) → IsDrawn at n (loaded at n T)
+unfolding loaded
+loaded-drawn at n d T =
+    record {
+      component-count = refl;
+      input-count = refl;
+      output-count = refl;
+      fields = loaded-fields at n d T;
+      id = loaded-id at n d T;
+      first-input = loaded-firstInput at n d T;
+      first-output = loaded-firstOutput at n d T;
+      wires = loaded-wires at n T;
+    }
+
+-- Tables with the net of a drawing's tables are the drawing's too.
+pub drawn-kept : (at : ℕ → Record) (n : ℕ) (L U : Tables) → SameNet L U → IsDrawn at n L → IsDrawn at n U
+drawn-kept at n L U s d =
+    record {
+      component-count = s .component-count ∙ d .component-count;
+      input-count = s .input-count ∙ d .input-count;
+      output-count = s .output-count ∙ d .output-count;
+      fields = λ c e. sameNet-fields L U s (flat at n c) ∙ d .fields c e;
+      id = λ c e. sameNet-word L U s (flat at n c) 1 ∙ d .id c e;
+      first-input = λ c e. sameNet-word L U s (flat at n c) 6 ∙ d .first-input c e;
+      first-output = λ c e. sameNet-word L U s (flat at n c) 7 ∙ d .first-output c e;
+      wires = sameNet-wires L U s ∙ d .wires;
+    }
+
+-- Ports of primitives, f being `inputsOf` or `outputsOf`: two that have one place among all are one.
+pub place-inj : (at : ℕ → Record) (n : ℕ) (f : Record → ℕ) (s t : Pin)
+    → isPrimitive (at (s .comp)) ≡ true → isPrimitive (at (t .comp)) ≡ true
+    → s .port < f (at (s .comp)) → t .port < f (at (t .comp))
+    → total (λ q. f (at q)) (primitivesBefore at n (s .comp)) + s .port
+    ≡ total (λ q. f (at q)) (primitivesBefore at n (t .comp)) + t .port
+    → s ≡ t
+place-inj at n f s t i j h l e =
+    let below : s .comp < t .comp → ⊥ = λ u. omega (arith, portsBefore-within at n f (s .comp) (t .comp) i u) in
+    let above : t .comp < s .comp → ⊥ = λ u. omega (arith, portsBefore-within at n f (t .comp) (s .comp) j u) in
+    let c : s .comp ≡ t .comp = omega arith in
+    let p : s .port ≡ t .port =
+    omega (arith, ap (λ (x : ℕ). total (λ q. f (at q)) (primitivesBefore at n x)) c) in
+    λ k. pin (c k) (p k)
+
+-- The primitive of the drawing that is component i of U: there is one and no other.
+pub record PrimitiveAt (at : ℕ → Record) (n : ℕ) (U : Tables) (i : ℕ) : Type 0 where
+  pub number : ℕ
+  pub in-file : number < n
+  pub of-primitive : isPrimitive (at number) ≡ true
+  pub flat-is : flat at n number ≡ i
+  pub fields-are : fieldsAt U i ≡ fieldsOf (at number)
+  pub id-is : idAt U i ≡ idOf (at number)
+  pub only : (c : ℕ) → isPrimitive (at c) ≡ true → flat at n c ≡ i → c ≡ number
+
+-- What the drawing leads along starts at an output of a primitive and ends at an input of one.
+module _ (at : ℕ → Record) (n : ℕ) (p : Passed at n) where
+  pub leads-leave : (s t : Pin) → Leads at n s t → IsOutput at s
+  leads-leave s t r = wires-leave at n p (wire s t) (leads-wires at n p s t r)
+
+  pub leads-enter : (s t : Pin) → Leads at n s t → IsInput at t
+  leads-enter s t r = wires-enter at n p (wire s t) (leads-wires at n p s t r)
+
+module _ (at : ℕ → Record) (n : ℕ) (U : Tables) (d : IsDrawn at n U) where
+  -- Each component of the tables is one primitive of the drawing, with its fields.
+  pub drawn-primitive : (i : ℕ) → i < U .counts .components → PrimitiveAt at n U i
+  drawn-primitive i h =
+      let c = getD (primitives at n) i n in
+      let r = flat-onto at n i n n (omega (arith, d .component-count)) in
+      record {
+        number = c;
+        in-file = r .1;
+        of-primitive = r .0;
+        flat-is = r .2;
+        fields-are = ap (fieldsAt U) (sym (r .2)) ∙ d .fields c (r .0);
+        id-is = ap (idAt U) (sym (r .2)) ∙ d .id c (r .0);
+        only = λ b e s. flat-inj at n b c e (r .0) (s ∙ sym (r .2));
+      }
+
+  -- A test that passes at the flat index of each primitive passes at each index of the tables.
+  pub drawn-every : (test : ℕ → Bool) → ((c : ℕ) → isPrimitive (at c) ≡ true → test (flat at n c) ≡ true)
+      → every test (indexes U) ≡ true
+  drawn-every test h =
+      every-complete test (indexes U)
+      (λ i u. let x = drawn-primitive i (from0-sound (U .counts .components) i u) in
+      ap test (sym (x .flat-is)) ∙ h (x .number) (x .of-primitive))
+
+  -- Ports of a primitive stand behind those of the primitives before it,
+  pub drawn-inputPlace : (t : Pin) → isPrimitive (at (t .comp)) ≡ true
+      → inputPlace U (flatPin at n t) ≡ inputsBefore at n (t .comp) + t .port
+  drawn-inputPlace t e = ap (λ (q : ℕ). q + t .port) (d .first-input (t .comp) e)
+
+  pub drawn-outputPlace : (s : Pin) → isPrimitive (at (s .comp)) ≡ true
+      → outputPlace U (flatPin at n s) ≡ outputsBefore at n (s .comp) + s .port
+  drawn-outputPlace s e = ap (λ (q : ℕ). q + s .port) (d .first-output (s .comp) e)
+
+  -- so no two inputs share a place, and no two outputs.
+  pub drawn-inputPlace-inj : (s t : Pin) → IsInput at s → IsInput at t
+      → inputPlace U (flatPin at n s) ≡ inputPlace U (flatPin at n t) → s ≡ t
+  drawn-inputPlace-inj s t i j e =
+      place-inj at n inputsOf s t (i .of-primitive) (j .of-primitive) (i .there) (j .there)
+      (sym (drawn-inputPlace s (i .of-primitive)) ∙ e ∙ drawn-inputPlace t (j .of-primitive))
+
+  pub drawn-outputPlace-inj : (s t : Pin) → IsOutput at s → IsOutput at t
+      → outputPlace U (flatPin at n s) ≡ outputPlace U (flatPin at n t) → s ≡ t
+  drawn-outputPlace-inj s t i j e =
+      place-inj at n outputsOf s t (i .of-primitive) (j .of-primitive) (i .there) (j .there)
+      (sym (drawn-outputPlace s (i .of-primitive)) ∙ e ∙ drawn-outputPlace t (j .of-primitive))
+
+  -- The ports of component `flat c`, in any table of ports, are as many as the record of c has.
+  pub drawn-inputsAt : (ports : List ℕ) (c : ℕ) → isPrimitive (at c) ≡ true
+      → inputsAt U ports (flat at n c) ≡ numbers ports (firstInput U (flat at n c)) (inputsOf (at c))
+  drawn-inputsAt ports c e =
+      ap (λ (f : Fields). numbers ports (firstInput U (flat at n c)) (f .inputs)) (d .fields c e)
+
+  pub drawn-outputsAt : (ports : List ℕ) (c : ℕ) → isPrimitive (at c) ≡ true
+      → outputsAt U ports (flat at n c) ≡ numbers ports (firstOutput U (flat at n c)) (outputsOf (at c))
+  drawn-outputsAt ports c e =
+      ap (λ (f : Fields). numbers ports (firstOutput U (flat at n c)) (f .outputs)) (d .fields c e)
+
+module _ (at : ℕ → Record) (n : ℕ) (p : Passed at n) (U : Tables) (d : IsDrawn at n U) where
+  -- Each primitive of the drawing is a component of the tables.
+  pub drawn-below : (c : ℕ) → isPrimitive (at c) ≡ true → flat at n c < U .counts .components
+  drawn-below c e = omega (arith, flat-below at n p c e, d .component-count)
+
+  -- Where the drawing leads from an output to an input, the tables have a wire;
+  pub leads-wired : (s t : Pin) → Leads at n s t → In (wire (flatPin at n s) (flatPin at n t)) (wiresIn U)
+  leads-wired s t r = rw (d .wires) (leads-flatWires at n p s t r)
+
+  -- where they have a wire between ports of primitives, the drawing leads from one to the other;
+  pub wired-leads : (s t : Pin) → isPrimitive (at (s .comp)) ≡ true → isPrimitive (at (t .comp)) ≡ true
+      → In (wire (flatPin at n s) (flatPin at n t)) (wiresIn U) → Leads at n s t
+  wired-leads s t e f h = flatWires-lead at n p s t e f (rw (d .wires) at h)
+
+  -- and each of their wires is one that the drawing leads along.
+  pub wire-drawn : (v : Wire) → In v (wiresIn U)
+      → (s : Pin) × (t : Pin) × Leads at n s t × (v ≡ wire (flatPin at n s) (flatPin at n t))
+  wire-drawn v h =
+      let r = flatWires-sound at n v (rw (d .wires) at h) in
+      (r .0 .src, r .0 .dst, wires-lead at n p (r .0) (r .1), r .2)
+
+  -- The outputs and inputs of primitives are ports of the tables,
+  pub drawn-isOutput : (s : Pin) → IsOutput at s → isOutput U (flatPin at n s) ≡ true
+  drawn-isOutput s o =
+      let own = d .fields (s .comp) (o .of-primitive) in
+      let there = lt-ltb (flat at n (s .comp)) (U .counts .components) (drawn-below (s .comp) (o .of-primitive)) in
+      (λ j. there j && ltb (s .port) (own j .outputs)) ∙ lt-ltb (s .port) (outputsOf (at (s .comp))) (o .there)
+
+  pub drawn-isInput : (t : Pin) → IsInput at t → isInput U (flatPin at n t) ≡ true
+  drawn-isInput t i =
+      let own = d .fields (t .comp) (i .of-primitive) in
+      let there = lt-ltb (flat at n (t .comp)) (U .counts .components) (drawn-below (t .comp) (i .of-primitive)) in
+      (λ j. there j && ltb (t .port) (own j .inputs)) ∙ lt-ltb (t .port) (inputsOf (at (t .comp))) (i .there)
+
+  -- and stand within the counts.
+  pub drawn-outputPlace-below : (s : Pin) → IsOutput at s → outputPlace U (flatPin at n s) < U .counts .outputs
+  drawn-outputPlace-below s o =
+      let room = portsBefore-within at n outputsOf (s .comp) n (o .of-primitive)
+      (primitive-below at n p (s .comp) (o .of-primitive)) in
+      omega (arith, drawn-outputPlace at n U d s (o .of-primitive), o .there, d .output-count)
+
+  pub drawn-inputPlace-below : (t : Pin) → IsInput at t → inputPlace U (flatPin at n t) < U .counts .inputs
+  drawn-inputPlace-below t i =
+      let room = portsBefore-within at n inputsOf (t .comp) n (i .of-primitive)
+      (primitive-below at n p (t .comp) (i .of-primitive)) in
+      omega (arith, drawn-inputPlace at n U d t (i .of-primitive), i .there, d .input-count)

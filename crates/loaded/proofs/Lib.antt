@@ -1,0 +1,11 @@
+pub mod Entries
+pub mod Starting
+pub mod Ports
+pub mod Sizes
+pub mod SameNet
+pub mod Drawn
+pub mod DrawnNet
+pub mod LoadedNet
+pub mod Bytes
+pub mod Net
+pub mod Theorems

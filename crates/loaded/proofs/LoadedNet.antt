@@ -1,0 +1,140 @@
+-- The clauses of a net that speak of counts, values and lists hold after a load. docs/SPECIFICATION.md,
+-- "Numbers given back", after the table.
+-- Assumes nothing.
+use mathlib.Core.Path.{_≡_, refl, sym, ap, _∙_, subst}
+use mathlib.Core.Bool.{Bool, true, false, not, _&&_, _||_}
+use mathlib.Core.List.{List}
+use Prim.Native.Nat.{ℕ, _+_, _<_}
+use native.Mathlib.Omega.{arith}
+use borrow.Author.Tests.{lt-ltb, le-leb, eq-eqb}
+use lib.ListN.{length, getD}
+use lib.Dec.{eqb, ltb}
+use Rattle.lists.specs.Lists.{from, keep, every}
+use Rattle.lists.proofs.MembersLaws.{In, Distinct, every-complete, map-sound, keep-sound, from0-sound, distinct-from, distinct-keep, distinct-map, distinct-complete}
+use Rattle.lists.proofs.OverlayLaws.{slice-at}
+use Rattle.primitive.specs.declared.kinds.Kind.the-variants.{Clock, Const}
+use Rattle.primitive.specs.declared.table.Fields.{Fields}
+use Rattle.primitive.specs.Kinds.{is, inputWidth, outputWidth}
+use Rattle.primitive.proofs.FitLaws.{allBelow}
+use Rattle.component.specs.declared.Record.{Record}
+use Rattle.component.specs.Record.{fieldsOf, inputsOf, isPrimitive}
+use Rattle.flatten.specs.Descent.{flat}
+use Rattle.leads.proofs.Accepted.{Passed}
+use Rattle.leads.proofs.Primitives.{flat-below, flat-inj, primitivesBefore-sound, primitivesBefore-distinct, primitives-bound, inputs-bound, outputs-bound}
+use Rattle.leads.proofs.FlatWires.{flatWires-bound}
+use Rattle.tables.specs.Tables.{Tables, fieldsAt, firstOutput, inputsAt, outputsAt, currentList, followingList, standingList}
+use Rattle.load.specs.Load.{primitives, standingAtLoad, loaded}
+use Rattle.net.specs.Net.{countsWithin, valuesFit, constsHeld, names}
+use Rattle.loaded.proofs.Starting.{zeros-fit, starting-length, starting-fits, starting-const}
+use Rattle.loaded.proofs.Entries.{loaded-fields}
+use Rattle.loaded.proofs.Ports.{primitive-obeyed, loaded-inputs, loaded-outputs}
+use Rattle.loaded.proofs.Sizes.{standing-bound, loaded-current, loaded-following, loaded-standing}
+use Rattle.loaded.proofs.Drawn.{loaded-drawn, drawn-every}
+
+-- A list that names only components below the count, none twice, is one that a net may have.
+pub names-complete : (U : Tables) (xs : List ℕ) → ((i : ℕ) → In i xs → i < U .counts .components) → Distinct xs
+    → names U xs ≡ true
+unfolding names
+names-complete U xs there apart =
+    let each : every (λ i. ltb i (U .counts .components)) xs ≡ true =
+    every-complete (λ i. ltb i (U .counts .components)) xs (λ i u. lt-ltb i (U .counts .components) (there i u)) in
+    rw (each, distinct-complete xs apart)
+
+module _ (at : ℕ → Record) (n : ℕ) (d : Passed at n) (T : Tables) where
+  abbrev L : Tables
+  L = loaded at n T
+
+  -- Counts are within the limits.
+  pub loaded-countsWithin : countsWithin (loaded at n T .counts) ≡ true
+  unfolding countsWithin loaded
+  loaded-countsWithin =
+      rw (
+        le-leb _ _ (primitives-bound at n d),
+        le-leb _ _ (inputs-bound at n d),
+        le-leb _ _ (outputs-bound at n d),
+        le-leb _ _ (flatWires-bound at n d),
+        le-leb _ _ (standing-bound at n d),
+      )
+
+  -- Values fit.
+  pub loaded-valuesFit : valuesFit (loaded at n T) ≡ true
+  unfolding valuesFit
+  loaded-valuesFit =
+      drawn-every at n L (loaded-drawn at n d T)
+      (λ i. allBelow (inputWidth (fieldsAt L i)) (inputsAt L (L .inputs) i)
+      && allBelow (outputWidth (fieldsAt L i)) (outputsAt L (L .outputs) i))
+      (λ c e.
+      let own = loaded-fields at n d T c e in
+      let ins = loaded-inputs at n d T c e in
+      let outs = loaded-outputs at n d T c e in
+      (λ j. allBelow (inputWidth (own j)) (ins j) && allBelow (outputWidth (own j)) (outs j))
+      ∙ rw (
+        zeros-fit (inputWidth (fieldsOf (at c))) (inputsOf (at c)),
+        starting-fits (fieldsOf (at c)) (primitive-obeyed at n d c e),
+      ))
+
+  -- The first output of a Const holds its value.
+  const-held : (c : ℕ) → isPrimitive (at c) ≡ true → is Const (fieldsOf (at c)) ≡ true
+      → getD (L .outputs) (firstOutput L (flat at n c)) 0 ≡ fieldsOf (at c) .parameter
+  const-held c e k =
+      let first = firstOutput L (flat at n c) in
+      let many = fieldsAt L (flat at n c) .outputs in
+      let starts = starting-const (fieldsOf (at c)) (primitive-obeyed at n d c e) k in
+      let one : many ≡ 1 =
+      ap (λ (f : Fields). f .outputs) (loaded-fields at n d T c e)
+      ∙ sym (starting-length (fieldsOf (at c)) (primitive-obeyed at n d c e)) ∙ ap length starts in
+      let z : first ≡ first + 0 = omega arith in
+      ap (λ (p : ℕ). getD (L .outputs) p 0) z
+      ∙ sym (slice-at first many 0 (L .outputs) 0 (omega arith))
+      ∙ ap (λ (l : List ℕ). getD l 0 0) (loaded-outputs at n d T c e ∙ starts)
+
+  -- Each Const's output is its value.
+  pub loaded-constsHeld : constsHeld (loaded at n T) ≡ true
+  unfolding constsHeld
+  loaded-constsHeld =
+      drawn-every at n L (loaded-drawn at n d T)
+      (λ i. not (is Const (fieldsAt L i)) || eqb (getD (L .outputs) (firstOutput L i) 0) (fieldsAt L i .parameter))
+      (λ c e.
+      let own = loaded-fields at n d T c e in
+      let first = firstOutput L (flat at n c) in
+      (λ j. not (is Const (own j)) || eqb (getD (L .outputs) first 0) (own j .parameter))
+      ∙ by-kind c e (is Const (fieldsOf (at c))) refl)
+    where
+      by-kind : (c : ℕ) → isPrimitive (at c) ≡ true → (b : Bool) → is Const (fieldsOf (at c)) ≡ b
+          → (not b || eqb (getD (L .outputs) (firstOutput L (flat at n c)) 0) (fieldsOf (at c) .parameter)) ≡ true
+      by-kind c e true k = eq-eqb _ _ (const-held c e k)
+      by-kind c e false k = refl
+
+  -- Each list names existing components without repeats: the current list,
+  pub loaded-names-current : names (loaded at n T) (currentList (loaded at n T)) ≡ true
+  unfolding loaded
+  loaded-names-current =
+      ap (names L) (loaded-current at n T)
+      ∙ names-complete L (from 0 (flat at n n)) (from0-sound (flat at n n)) (distinct-from 0 (flat at n n))
+
+  standing-names : names L (standingAtLoad at n) ≡ true
+  unfolding loaded
+  standing-names =
+      names-complete L (standingAtLoad at n)
+      (λ i u. let r = map-sound (flat at n) i chosen u in
+      subst (λ (x : ℕ). x < flat at n n) (sym (r .2)) (flat-below at n d (r .0) (of-primitive (r .0) (r .1))))
+      (distinct-map (flat at n) chosen
+      (λ b c u v. flat-inj at n b c (of-primitive b u) (of-primitive c v))
+      (distinct-keep test (primitives at n) (primitivesBefore-distinct at n n)))
+    where
+      test : ℕ → Bool
+      test x = is Const (fieldsOf (at x)) || is Clock (fieldsOf (at x))
+
+      chosen : List ℕ
+      chosen = keep test (primitives at n)
+
+      of-primitive : (c : ℕ) → In c chosen → isPrimitive (at c) ≡ true
+      of-primitive c h = primitivesBefore-sound at n c n (keep-sound test c (primitives at n) h .1) .0
+
+  -- the following list,
+  pub loaded-names-following : names (loaded at n T) (followingList (loaded at n T)) ≡ true
+  loaded-names-following = ap (names L) (loaded-following at n T) ∙ standing-names
+
+  -- and the standing list.
+  pub loaded-names-standing : names (loaded at n T) (standingList (loaded at n T)) ≡ true
+  loaded-names-standing = ap (names L) (loaded-standing at n T) ∙ standing-names

@@ -1,0 +1,85 @@
+-- What the tables of ports hold after a load: all inputs 0, the outputs of each primitive its starting values.
+-- docs/SPECIFICATION.md, "Rounds".
+-- Assumes nothing.
+use mathlib.Core.Path.{_≡_, sym, _∙_}
+use mathlib.Core.Bool.{true, _&&_}
+use mathlib.Core.List.{List, _++_}
+use Prim.Native.Nat.{ℕ, suc, _-_, _≤_, _<_}
+use native.Mathlib.Omega.{arith}
+use lib.ListN.{length, getD, drop, replicate, length-append, length-replicate, getD-replicate}
+use Rattle.lists.specs.Lists.{from, keep, joined, overlay}
+use Rattle.lists.proofs.MembersLaws.{joined-length}
+use Rattle.lists.proofs.OverlayLaws.{overlay-at, slice-replicate, joined-part, total-members}
+use Rattle.primitive.specs.Kinds.{primitive, obeys}
+use Rattle.primitive.specs.Evaluate.{starting}
+use Rattle.component.specs.declared.Record.{Record}
+use Rattle.component.specs.Record.{fieldsOf, inputsOf, outputsOf, isPrimitive}
+use Rattle.component.specs.Drawing.{primitivesBefore, inputsBefore, outputsBefore}
+use Rattle.flatten.specs.Descent.{flat}
+use Rattle.leads.proofs.Accepted.{Passed}
+use Rattle.leads.proofs.Primitives.{primitive-below, primitive-obeys, primitivesBefore-sound, primitivesBefore-split, portsBefore-within}
+use Rattle.tables.specs.Tables.{Tables, numbers, inputsAt, outputsAt}
+use Rattle.load.specs.Load.{primitives, loaded}
+use Rattle.loaded.proofs.Starting.{starting-length}
+use Rattle.loaded.proofs.Entries.{loaded-fields, loaded-firstInput, loaded-firstOutput}
+
+-- A primitive of the drawing obeys the table of kinds, as an evaluation asks it.
+pub primitive-obeyed : (at : ℕ → Record) (n : ℕ) → Passed at n → (c : ℕ) → isPrimitive (at c) ≡ true
+    → (primitive (fieldsOf (at c)) && obeys (fieldsOf (at c))) ≡ true
+primitive-obeyed at n d c e = rw e (primitive-obeys at n d c e)
+
+-- Every input that there is is 0.
+pub loaded-input : (at : ℕ → Record) (n : ℕ) (T : Tables) (i : ℕ) → i < inputsBefore at n n
+    → getD (loaded at n T .inputs) i 0 ≡ 0
+unfolding loaded
+loaded-input at n T i h =
+    overlay-at (replicate (inputsBefore at n n) 0) (T .inputs) i 0
+    (omega (arith, length-replicate {A = ℕ} (inputsBefore at n n) 0))
+    ∙ getD-replicate (inputsBefore at n n) i 0 0 h
+
+inputs-room : (at : ℕ → Record) (n : ℕ) (T : Tables) → inputsBefore at n n ≤ length (loaded at n T .inputs)
+unfolding loaded overlay
+inputs-room at n T =
+    let all : List ℕ = replicate (inputsBefore at n n) 0 in
+    omega (arith, length-append all (drop (length all) (T .inputs)), length-replicate {A = ℕ} (inputsBefore at n n) 0)
+
+-- The starting values of component c.
+abbrev pub startingOf : (ℕ → Record) → ℕ → List ℕ
+startingOf at c = starting (fieldsOf (at c))
+
+-- Those of the primitives before c are as many as the outputs of these.
+pub startingOf-before : (at : ℕ → Record) (n : ℕ) → Passed at n → (c : ℕ)
+    → outputsBefore at n c ≡ length (joined (startingOf at) (primitivesBefore at n c))
+startingOf-before at n d c =
+    total-members (λ q. outputsOf (at q)) (λ q. length (startingOf at q)) (primitivesBefore at n c)
+    (λ q u. sym (starting-length (fieldsOf (at q)) (primitive-obeyed at n d q (primitivesBefore-sound at n q c u .0))))
+    ∙ sym (joined-length (startingOf at) (primitivesBefore at n c))
+
+module _ (at : ℕ → Record) (n : ℕ) (d : Passed at n) (T : Tables) where
+  -- The inputs of each primitive are 0.
+  pub loaded-inputs : (c : ℕ) → isPrimitive (at c) ≡ true
+      → inputsAt (loaded at n T) (loaded at n T .inputs) (flat at n c) ≡ replicate (inputsOf (at c)) 0
+  loaded-inputs c e =
+      let first = loaded-firstInput at n d T c e in
+      let own = loaded-fields at n d T c e in
+      let room = portsBefore-within at n inputsOf c n e (primitive-below at n d c e) in
+      let ins = loaded at n T .inputs in
+      (λ j. numbers ins (first j) (own j .inputs))
+      ∙ slice-replicate 0 (inputsBefore at n c) (inputsOf (at c)) ins (omega (arith, inputs-room at n T))
+      (λ i l u. loaded-input at n T i (omega arith))
+
+  -- The outputs of each primitive are its starting values: 0, a Const's output its value.
+  pub loaded-outputs : (c : ℕ) → isPrimitive (at c) ≡ true
+      → outputsAt (loaded at n T) (loaded at n T .outputs) (flat at n c) ≡ starting (fieldsOf (at c))
+  unfolding loaded overlay
+  loaded-outputs c e =
+      let before = primitivesBefore at n c in
+      let behind = keep (λ q. isPrimitive (at q)) (from (suc c) (n - suc c)) in
+      let split = primitivesBefore-split at n c n e (primitive-below at n d c e) in
+      let rest = drop (length (joined (startingOf at) (primitives at n))) (T .outputs) in
+      let first = loaded-firstOutput at n d T c e ∙ startingOf-before at n d c in
+      let own = loaded-fields at n d T c e in
+      let many = sym (starting-length (fieldsOf (at c)) (primitive-obeyed at n d c e)) in
+      (λ j. numbers (loaded at n T .outputs) (first j) (own j .outputs))
+      ∙ (λ j. numbers (joined (startingOf at) (split j) ++ rest) (length (joined (startingOf at) before)) (many j))
+      ∙ joined-part (startingOf at) before behind c rest

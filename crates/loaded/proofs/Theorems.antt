@@ -1,0 +1,121 @@
+-- What an accepted load leaves: the theorems of this crate, of a file's bytes and the tables lent.
+-- docs/SPECIFICATION.md, "Numbers given back", "Flattening" and "Rounds" (the state at load).
+-- With the load of `file` into T accepted, `at` is the file's records by position, `n` is how many it has, L are the
+-- tables afterwards, and U any tables with the components and wires of L: rounds and edits leave such tables.
+-- Assumes nothing.
+use mathlib.Core.Path.{_≡_, sym, _∙_, subst}
+use mathlib.Core.Bool.{true}
+use mathlib.Core.List.{List}
+use Prim.Native.Nat.{ℕ, _<_}
+use lib.ListN.{getD}
+use Rattle.lists.specs.Lists.{from}
+use Rattle.lists.proofs.MembersLaws.{In}
+use Rattle.primitive.specs.Evaluate.{starting}
+use Rattle.component.specs.declared.Record.{Record}
+use Rattle.component.specs.declared.Verdict.the-variants.{Accepted}
+use Rattle.component.specs.Record.{recordAt, recordCount, fieldsOf, isPrimitive}
+use Rattle.flatten.specs.declared.Pin.{Pin}
+use Rattle.flatten.specs.declared.Wire.{Wire}
+use Rattle.flatten.specs.Descent.{flat, flatPin}
+use Rattle.flatten.specs.Leads.{Leads}
+use Rattle.leads.proofs.Accepted.{Passed}
+use Rattle.leads.proofs.Wires.{wire}
+use Rattle.tables.specs.Tables.{Tables, fullSize, outputsAt, wiresIn, currentList, followingList, standingList}
+use Rattle.load.specs.Load.{standingAtLoad, loaded, loadVerdict, loadTables}
+use Rattle.net.specs.Net.{isNet}
+use Rattle.loaded.proofs.Ports.{loaded-input, loaded-outputs}
+use Rattle.loaded.proofs.Sizes.{SameLengths, loaded-current, loaded-following, loaded-standing, loaded-lengths}
+use Rattle.component.specs.Record.{IsBytes}
+use Rattle.loaded.proofs.Net.{load-passed, load-checked, load-loaded, load-fullSize, load-net}
+use Rattle.loaded.proofs.SameNet.{SameNet}
+use Rattle.loaded.proofs.Drawn.{IsDrawn, loaded-drawn, drawn-kept, PrimitiveAt, drawn-primitive, drawn-below, leads-wired, wired-leads, wire-drawn}
+
+module _ (file : List ℕ) where
+  abbrev at : ℕ → Record
+  at = recordAt file
+
+  abbrev n : ℕ
+  n = recordCount file
+
+  module _ (T : Tables) where
+    abbrev L : Tables
+    L = loadTables file T
+
+    module _ (accepted : loadVerdict file T ≡ Accepted) where
+      passed : Passed at n
+      passed = load-checked file T accepted
+
+      -- What holds of the tables that `loaded` gives holds of L.
+      after : (P : Tables → Type 0) → P (loaded at n T) → P L
+      after P h = subst P (sym (load-loaded file T accepted)) h
+
+      -- L is a net, the file being bytes: check 16 passes on it.
+      pub accepted-net : IsBytes file → isNet L ≡ true
+      accepted-net = load-net file T accepted
+
+      -- L is of full size: check 2 passes on it.
+      pub accepted-fullSize : fullSize L ≡ true
+      accepted-fullSize = load-fullSize file T accepted
+
+      -- Each table is as long as it was lent.
+      pub accepted-lengths : SameLengths T L
+      accepted-lengths = after (SameLengths T) (loaded-lengths at n passed T (load-passed file T accepted .full))
+
+      -- Every input is 0.
+      pub accepted-input : (i : ℕ) → i < L .counts .inputs → getD (L .inputs) i 0 ≡ 0
+      unfolding loaded
+      accepted-input =
+          after (λ (U : Tables). (i : ℕ) → i < U .counts .inputs → getD (U .inputs) i 0 ≡ 0)
+          (λ i h. loaded-input at n T i h)
+
+      -- The outputs of each primitive are 0, a Const's output its value.
+      pub accepted-outputs : (c : ℕ) → isPrimitive (at c) ≡ true
+          → outputsAt L (L .outputs) (flat at n c) ≡ starting (fieldsOf (at c))
+      accepted-outputs c e =
+          after (λ (U : Tables). outputsAt U (U .outputs) (flat at n c) ≡ starting (fieldsOf (at c)))
+          (loaded-outputs at n passed T c e)
+
+      -- The current list names all components,
+      pub accepted-current : currentList L ≡ from 0 (L .counts .components)
+      unfolding loaded
+      accepted-current =
+          after (λ (U : Tables). currentList U ≡ from 0 (U .counts .components)) (loaded-current at n T)
+
+      -- the standing list every Const and Clock, ascending,
+      pub accepted-standing : standingList L ≡ standingAtLoad at n
+      accepted-standing = after (λ (U : Tables). standingList U ≡ standingAtLoad at n) (loaded-standing at n T)
+
+      -- and the following list is a copy of it.
+      pub accepted-following : followingList L ≡ standingList L
+      accepted-following =
+          after (λ (U : Tables). followingList U ≡ standingList U)
+          (loaded-following at n T ∙ sym (loaded-standing at n T))
+
+      module _ (U : Tables) (same : SameNet L U) where
+        -- The components and wires of U are those of the drawing: at the flat index of each primitive stand its
+        -- fields, its id and where its ports start; the wires are those of the drawing, in order.
+        pub accepted-drawn : IsDrawn at n U
+        accepted-drawn = drawn-kept at n L U same (after (IsDrawn at n) (loaded-drawn at n passed T))
+
+        -- Each component of U is exactly one primitive of the drawing, with that record's fields and id,
+        pub accepted-primitive : (i : ℕ) → i < U .counts .components → PrimitiveAt at n U i
+        accepted-primitive = drawn-primitive at n U accepted-drawn
+
+        -- and each primitive is a component of U.
+        pub accepted-below : (c : ℕ) → isPrimitive (at c) ≡ true → flat at n c < U .counts .components
+        accepted-below = drawn-below at n passed U accepted-drawn
+
+        -- Wherever the drawing leads from an output to an input, U has a wire;
+        pub accepted-leads-wired : (s t : Pin) → Leads at n s t
+            → In (wire (flatPin at n s) (flatPin at n t)) (wiresIn U)
+        accepted-leads-wired = leads-wired at n passed U accepted-drawn
+
+        -- wherever U has a wire between ports of primitives, the drawing leads from one to the other;
+        pub accepted-wired-leads : (s t : Pin) → isPrimitive (at (s .comp)) ≡ true → isPrimitive (at (t .comp)) ≡ true
+            → In (wire (flatPin at n s) (flatPin at n t)) (wiresIn U) → Leads at n s t
+        accepted-wired-leads = wired-leads at n passed U accepted-drawn
+
+        -- and each wire of U is one that the drawing leads along.
+        pub accepted-wire-drawn : (v : Wire) → In v (wiresIn U)
+            → (s : Pin) × (t : Pin) × Leads at n s t × (v ≡ wire (flatPin at n s) (flatPin at n t))
+        accepted-wire-drawn = wire-drawn at n passed U accepted-drawn
