@@ -228,14 +228,16 @@ module _ (T : Tables) (i : ℕ) (list : List ℕ) where
         × (u ≡ overlay (met (T .wires) (T .counts .wires) 2 0 i (T .counts .components)) list)
         → (Count n ≡ sourcesAnswer T i list) × (u ≡ sourcesList T i list)
     unfolding sourcesAnswer sourcesList
-    sources-listed e =
-        (done-answer (listNumber T i list) (sources T i) list n z (e .0 ∙ ap length (sym (sources-met T i))),
-        done-list (listNumber T i list) (sources T i) list u z (e .1 ∙ ap (λ (l : List ℕ). overlay l list) (sym (sources-met T i))))
+    sources-listed e = (
+      done-answer (listNumber T i list) (sources T i) list n z (e .0 ∙ ap length (sym (sources-met T i))),
+      done-list (listNumber T i list) (sources T i) list u z (e .1 ∙ ap (λ (l : List ℕ). overlay l list) (sym (sources-met T i))),
+    )
 
     pub targets-listed : (n ≡ length (met (T .wires) (T .counts .wires) 0 2 i (T .counts .components)))
         × (u ≡ overlay (met (T .wires) (T .counts .wires) 0 2 i (T .counts .components)) list)
         → (Count n ≡ targetsAnswer T i list) × (u ≡ targetsList T i list)
     unfolding targetsAnswer targetsList
-    targets-listed e =
-        (done-answer (listNumber T i list) (targetsIn T i) list n z (e .0 ∙ ap length (sym (targets-met T i))),
-        done-list (listNumber T i list) (targetsIn T i) list u z (e .1 ∙ ap (λ (l : List ℕ). overlay l list) (sym (targets-met T i))))
+    targets-listed e = (
+      done-answer (listNumber T i list) (targetsIn T i) list n z (e .0 ∙ ap length (sym (targets-met T i))),
+      done-list (listNumber T i list) (targetsIn T i) list u z (e .1 ∙ ap (λ (l : List ℕ). overlay l list) (sym (targets-met T i))),
+    )

@@ -15,13 +15,13 @@ ghost use Rattle.net.specs.Net.{lent};
 ghost use Rattle.simulator.specs.declared.Port.the-variants.{Is as PortIs, Refused as NoPort};
 ghost use Rattle.simulator.specs.Questions.{found, calmAnswer, indexAnswer, valueAnswer, listNumber, sourcesAnswer, sourcesList, targetsAnswer, targetsList};
 ghost use Rattle.simulator.specs.Asked.{endOf, meets, met, marked, RowRight, valueOnNet};
-use component::FlatIdx;
-use component::Id;
 use crate::Calm;
 use crate::Index;
 use crate::Listed;
 use crate::Port;
 use crate::Side;
+use component::FlatIdx;
+use component::Id;
 use primitive::Kind;
 use primitive::Refusal;
 use tables::Counts;
@@ -127,7 +127,14 @@ fn list_marked(marks: &[u8], count: usize, list: &mut [u16]) -> usize
 
 // Lists the components that wires join to component i, ascending and each once: those at the far ends of the wires that have it
 // at their near end. One pass over the wires, and one over the components.
-fn list_ends(wires: &[u16], counts: Counts, near: usize, far: usize, i: usize, list: &mut [u16]) -> usize
+fn list_ends(
+    wires: &[u16],
+    counts: Counts,
+    near: usize,
+    far: usize,
+    i: usize,
+    list: &mut [u16],
+) -> usize
     requires { ⌜ (counts .components ≤ 256) × (counts .wires ≤ 1024) × (near < 4) × (far < 4) × (256 ≤ length (now list)) × ((k : ℕ) → k < counts .wires → endOf (now wires) k far < 256) ⌝ }
     ensures { λ r. ⌜ (r ≡ length (met (now (wires .entry)) (counts .wires) near far i (counts .components))) × (now (list .exit) ≡ overlay (met (now (wires .entry)) (counts .wires) near far i (counts .components)) (now (list .entry))) ⌝ }
 {
@@ -159,11 +166,23 @@ fn value_in(
     match side {
         Side::Inputs => {
             let first = tables::word_of(components, i, 6) as usize;
-            port_value(inputs, first, f.inputs as usize, primitive::input_width(f), port)
+            port_value(
+                inputs,
+                first,
+                f.inputs as usize,
+                primitive::input_width(f),
+                port,
+            )
         }
         Side::Outputs => {
             let first = tables::word_of(components, i, 7) as usize;
-            port_value(outputs, first, f.outputs as usize, primitive::output_width(f), port)
+            port_value(
+                outputs,
+                first,
+                f.outputs as usize,
+                primitive::output_width(f),
+                port,
+            )
         }
     }
 }

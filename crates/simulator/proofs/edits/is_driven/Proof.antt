@@ -58,7 +58,7 @@ loop-again c =
     let l = c .before .before .before .loop in (
       omega arith,
       any-next (enters (a .wires .now) (a .i)) (l .k) (a .count) _ (l .inv .1) (omega arith)
-      (ne-eqb (endOf (a .wires .now) (l .k) 2) (a .i) (λ e. c .if1 .left (c .before .entry .ensures ∙ e))),
+          (ne-eqb (endOf (a .wires .now) (l .k) 2) (a .i) (λ e. c .if1 .left (c .before .entry .ensures ∙ e))),
     )
 
 returns-2 : tie.Need-returns-2 Inv-loop μ-loop

@@ -63,8 +63,8 @@ loop-again c =
       omega arith,
       simp length-set (l .inv .1),
       mark-here (a .wires .now) (a .marks .now) (l .marks) (a .near) (a .far) (a .i) (l .k) (l .inv .2) (w .1 .result)
-      (sym n ∙ w .0 .taken) (w .1 .ensures)
-      (omega (arith, w .1 .ensures, l .inv .1, c .before .before .before .before .before .before .pre .3 (l .k) (c .before .before .loop-test .taken))),
+          (sym n ∙ w .0 .taken) (w .1 .ensures)
+          (omega (arith, w .1 .ensures, l .inv .1, c .before .before .before .before .before .before .pre .3 (l .k) (c .before .before .loop-test .taken))),
     ))
     (λ w. rw (w .1) (
       omega arith,

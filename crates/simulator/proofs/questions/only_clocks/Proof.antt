@@ -58,7 +58,7 @@ loop-again c =
     let l = c .before .before .before .before .loop in (
       omega arith,
       everySlice-next (clock (a .components .now)) (a .list .now) (l .k) (a .count) _ (c .before .before .before .before .before .before .before .pre) (l .inv .1) (omega arith)
-      (ap (clock (a .components .now)) (sym (c .before .before .entry .ensures)) ∙ sym (c .before .is-kind .ensures) ∙ not-false _ (c .if1 .left)),
+          (ap (clock (a .components .now)) (sym (c .before .before .entry .ensures)) ∙ sym (c .before .is-kind .ensures) ∙ not-false _ (c .if1 .left)),
     )
 
 returns-2 : tie.Need-returns-2 Inv-loop μ-loop

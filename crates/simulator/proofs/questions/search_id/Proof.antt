@@ -58,7 +58,7 @@ loop-again c =
     let l = c .before .before .before .loop in (
       omega arith,
       first-next (hasId (a .components .now) (a .id .0)) (l .i) (a .count) _ (l .inv .1) (omega arith)
-      (ne-eqb (wordIn (a .components .now) (l .i) 1) (a .id .0) (λ e. c .if1 .left (c .before .word-of .ensures ∙ e))),
+          (ne-eqb (wordIn (a .components .now) (l .i) 1) (a .id .0) (λ e. c .if1 .left (c .before .word-of .ensures ∙ e))),
     )
 
 returns-2 : tie.Need-returns-2 Inv-loop μ-loop
