@@ -61,6 +61,15 @@ module _ (T : Tables) (others : List (ℕ × Bool)) where
       by-test true false q = absurd (omega arith)
       by-test false b q = absurd (omega arith)
 
+  pub number-passed : all ≡ 0 → netNumber T ≡ 0
+  unfolding netNumber
+  number-passed z = by-test (fullSize T) (isNet T) z
+    where
+      by-test : (a b : Bool) → refusal ((2 if not a) ∷ (16 if not b) ∷ others) ≡ 0 → refusal ((2 if not a) ∷ (16 if not b) ∷ []) ≡ 0
+      by-test true true q = refl
+      by-test true false q = absurd (omega arith)
+      by-test false b q = absurd (omega arith)
+
 -- What a net gives.
 module _ (T : Tables) (z : netNumber T ≡ 0) where
   pub net-within : Within (T .counts)
@@ -190,13 +199,7 @@ module _ (T : Tables) (i : ℕ) (list : List ℕ) where
         (λ q. omega arith) z))
 
     pub list-net : netNumber T ≡ 0
-    unfolding netNumber
-    list-net = by-test (fullSize T) (isNet T) (leb (T .counts .components) i) (sym (long list-full) ∙ z)
-      where
-        by-test : (a b d : Bool) → refusal ((2 if not a) ∷ (16 if not b) ∷ (17 if d) ∷ []) ≡ 0 → refusal ((2 if not a) ∷ (16 if not b) ∷ []) ≡ 0
-        by-test true true d q = refl
-        by-test true false d q = absurd (omega arith)
-        by-test false b d q = absurd (omega arith)
+    list-net = number-passed T ((17 if leb (T .counts .components) i) ∷ []) (sym (long list-full) ∙ z)
 
 -- The answer and the lent list.
 module _ (k : ℕ) (xs list : List ℕ) where

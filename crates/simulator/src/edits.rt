@@ -7,7 +7,7 @@ ghost use lib.ListN.{length, set};
 ghost use Rattle.primitive.specs.declared.kinds.Kind.the-variants.{Switch};
 ghost use Rattle.primitive.specs.Kinds.{is};
 ghost use Rattle.tables.specs.Tables.{tablesOf, wordIn, fieldsIn, fieldsFit};
-ghost use Rattle.simulator.specs.Calls.{editAnswer, editTables};
+ghost use Rattle.simulator.specs.Calls.{editNumber, editAnswer, editTables};
 ghost use Rattle.simulator.specs.Asked.{ends, editRefusal};
 use crate::questions::is_kind;
 use component::FlatIdx;
@@ -69,4 +69,75 @@ fn set_port(components: &[u64], inputs: &mut [u64], outputs: &mut [u64], i: usiz
         let at = tables::word_of(components, i, 6) as usize;
         inputs[at] = number;
     }
+}
+
+// What an edit checks, on any tables: 2 and 16, then the rest.
+fn edit_checks(
+    components: &[u64],
+    inputs: &[u64],
+    outputs: &[u64],
+    wires: &[u16],
+    current: &[u16],
+    following: &[u16],
+    standing: &[u16],
+    counts: Counts,
+    i: usize,
+    number: u64,
+) -> u32
+    ensures { λ r. ⌜ r ≡ editNumber (tablesOf (now (components .entry)) (now (inputs .entry)) (now (outputs .entry)) (now (wires .entry)) (now (current .entry)) (now (following .entry)) (now (standing .entry)) counts) i number ⌝ }
+{
+    let refused = net::net_number(
+        components,
+        inputs,
+        outputs,
+        wires,
+        current,
+        following,
+        standing,
+        counts,
+    );
+    if refused != 0 {
+        return refused;
+    }
+    edit_number(components, wires, counts, i, number)
+}
+
+// Sets a component's port to a number and appends the component to the standing list unless there. A refusal changes no table.
+pub fn edit(
+    components: &[u64],
+    inputs: &mut [u64],
+    outputs: &mut [u64],
+    wires: &[u16],
+    current: &[u16],
+    following: &[u16],
+    standing: &mut [u16],
+    counts: Counts,
+    index: FlatIdx,
+    number: u64,
+) -> Answer
+    ensures { λ r. ⌜ (r ≡ editAnswer (tablesOf (now (components .entry)) (now (inputs .entry)) (now (outputs .entry)) (now (wires .entry)) (now (current .entry)) (now (following .entry)) (now (standing .entry)) counts) (index .0) number) × (tablesOf (now (components .entry)) (now (inputs .exit)) (now (outputs .exit)) (now (wires .entry)) (now (current .entry)) (now (following .entry)) (now (standing .exit)) (editTables (tablesOf (now (components .entry)) (now (inputs .entry)) (now (outputs .entry)) (now (wires .entry)) (now (current .entry)) (now (following .entry)) (now (standing .entry)) counts) (index .0) number .counts) ≡ editTables (tablesOf (now (components .entry)) (now (inputs .entry)) (now (outputs .entry)) (now (wires .entry)) (now (current .entry)) (now (following .entry)) (now (standing .entry)) counts) (index .0) number) ⌝ }
+{
+    let i = index.0;
+    let refused = edit_checks(
+        components,
+        inputs,
+        outputs,
+        wires,
+        current,
+        following,
+        standing,
+        counts,
+        i,
+        number,
+    );
+    if refused != 0 {
+        return Answer::Refused(Refusal {
+            number: refused,
+            position: 0,
+        });
+    }
+    set_port(components, inputs, outputs, i, number);
+    let mut left = counts;
+    left.standing = tables::append_new(standing, counts.standing, i as u16);
+    Answer::Done(left)
 }

@@ -1,6 +1,6 @@
 -- `edit_number`: the numbers in their order.
 -- Assumes nothing.
-use mathlib.Core.Path.{_≡_, refl, sym, ap, _∙_}
+use mathlib.Core.Path.{_≡_, _∙_}
 use mathlib.Core.Bool.{cond}
 use mathlib.Core.Logic.{⊎-elim}
 use native.Mathlib.Omega.{arith}
@@ -9,14 +9,6 @@ use Rattle.simulator.proofs.EditsLaws.{edit-17, edit-18, edit-19, edit-
 use borrow.Author.Needs.{needs}
 use Rattle.simulator.proofs.edits.edit_number.Statement.{statement}
 use Rattle.simulator.proofs.edits.edit_number.Tie as tie
-use Rattle.simulator.proofs.edits.edit_number.Reads as reads
-use Rattle.simulator.proofs.edits.edit_number.Lts as lts
-use Rattle.primitive.proofs.input_width.Reads as input-width-reads
-use Rattle.primitive.proofs.output_width.Reads as output-width-reads
-use Rattle.simulator.proofs.edits.is_driven.Reads as is-driven-reads
-use Rattle.simulator.proofs.questions.is_kind.Reads as is-kind-reads
-use Rattle.tables.proofs.fields_at.Reads as fields-at-reads
-use Rattle.value.proofs.lies_below.Reads as lies-below-reads
 
 wide : (c : tie.Joined3) → c .if3 .width ≡ cond (c .before .before .before .before .before .is-kind .result) (outputWidth (c .before .fields-at .result)) (inputWidth (c .before .fields-at .result))
 wide c = ⊎-elim (λ w. rw (w .0 .taken) (w .2 ∙ w .1 .ensures)) (λ w. rw (w .0 .left) (w .2 ∙ w .1 .ensures)) (c .if3 .came)

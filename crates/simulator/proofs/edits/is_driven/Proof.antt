@@ -1,7 +1,7 @@
 -- `is_driven`: one of the wires still to come enters the component exactly if one of all does.
 -- Assumes nothing.
 use borrow.Author.Tests.{eq-eqb, ne-eqb}
-use mathlib.Core.Path.{_≡_, refl, sym, ap, _∙_}
+use mathlib.Core.Path.{_≡_, sym, ap, _∙_}
 use mathlib.Core.Bool.{Bool}
 use mathlib.Core.List.{List}
 use Prim.Native.Nat.{ℕ, _-_, _≤_}
@@ -14,9 +14,6 @@ use Rattle.simulator.specs.Asked.{endOf}
 use borrow.Author.Needs.{needs}
 use Rattle.simulator.proofs.edits.is_driven.Statement.{statement}
 use Rattle.simulator.proofs.edits.is_driven.Tie as tie
-use Rattle.simulator.proofs.edits.is_driven.Reads as reads
-use Rattle.simulator.proofs.edits.is_driven.Lts as lts
-use Rattle.tables.proofs.entry.Reads as entry-reads
 
 abbrev enters : List ℕ → ℕ → ℕ → Bool
 enters ws i k = eqb (endOf ws k 2) i

@@ -1,6 +1,6 @@
 -- `set_port`: the kind decides which port is set.
 -- Assumes nothing.
-use mathlib.Core.Path.{_≡_, refl, sym, ap, _∙_}
+use mathlib.Core.Path.{_≡_, refl, sym, _∙_}
 use mathlib.Core.Bool.{true, false, true≢false}
 use native.Mathlib.Omega.{arith}
 use Rattle.primitive.specs.declared.kinds.Kind.the-variants.{Switch}
@@ -9,10 +9,6 @@ use Rattle.tables.specs.Tables.{fieldsIn}
 use borrow.Author.Needs.{needs}
 use Rattle.simulator.proofs.edits.set_port.Statement.{statement}
 use Rattle.simulator.proofs.edits.set_port.Tie as tie
-use Rattle.simulator.proofs.edits.set_port.Reads as reads
-use Rattle.simulator.proofs.edits.set_port.Lts as lts
-use Rattle.simulator.proofs.questions.is_kind.Reads as is-kind-reads
-use Rattle.tables.proofs.word_of.Reads as word-of-reads
 
 is-kind-requires : tie.Need-is-kind-requires
 is-kind-requires c κs = search needs

@@ -7,13 +7,12 @@ use Rattle.simulator.proofs.QuestionsLaws.{net-within, index-refused, i
 use borrow.Author.Needs.{needs}
 use Rattle.simulator.proofs.questions.index_of.Statement.{statement}
 use Rattle.simulator.proofs.questions.index_of.Tie as tie
-use Rattle.simulator.proofs.questions.index_of.Reads as reads
-use Rattle.simulator.proofs.questions.index_of.Lts as lts
-use Rattle.net.proofs.net_number.Reads as net-number-reads
-use Rattle.simulator.proofs.questions.search_id.Reads as search-id-reads
 
 abbrev came : tie.Start → Tables
-came s = tablesOf (s .args .components .now) (s .args .inputs .now) (s .args .outputs .now) (s .args .wires .now) (s .args .current .now) (s .args .following .now) (s .args .standing .now) (s .args .counts)
+came s =
+    let a = s .args in
+    tablesOf (a .components .now) (a .inputs .now) (a .outputs .now) (a .wires .now) (a .current .now) (a .following .now)
+    (a .standing .now) (a .counts)
 
 is-net : (c : tie.Else1) → netNumber (came (c .before .before .before .before .before .before .before .before .before)) ≡ 0
 is-net c = sym (c .before .net-number .ensures) ∙ c .if1 .left

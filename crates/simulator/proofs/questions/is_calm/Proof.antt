@@ -7,13 +7,12 @@ use Rattle.simulator.proofs.QuestionsLaws.{net-current, calm-refused, c
 use borrow.Author.Needs.{needs}
 use Rattle.simulator.proofs.questions.is_calm.Statement.{statement}
 use Rattle.simulator.proofs.questions.is_calm.Tie as tie
-use Rattle.simulator.proofs.questions.is_calm.Reads as reads
-use Rattle.simulator.proofs.questions.is_calm.Lts as lts
-use Rattle.net.proofs.net_number.Reads as net-number-reads
-use Rattle.simulator.proofs.questions.only_clocks.Reads as only-clocks-reads
 
 abbrev came : tie.Start → Tables
-came s = tablesOf (s .args .components .now) (s .args .inputs .now) (s .args .outputs .now) (s .args .wires .now) (s .args .current .now) (s .args .following .now) (s .args .standing .now) (s .args .counts)
+came s =
+    let a = s .args in
+    tablesOf (a .components .now) (a .inputs .now) (a .outputs .now) (a .wires .now) (a .current .now) (a .following .now)
+    (a .standing .now) (a .counts)
 
 is-net : (c : tie.Else1) → netNumber (came (c .before .before .before .before .before .before .before .before .before)) ≡ 0
 is-net c = sym (c .before .net-number .ensures) ∙ c .if1 .left

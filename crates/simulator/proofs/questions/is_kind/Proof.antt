@@ -1,13 +1,8 @@
 -- `is_kind`: the kind's word is compared with the kind's number.
 -- Assumes nothing.
-use mathlib.Core.Path.{_≡_, refl, sym, ap, _∙_}
 use borrow.Author.Needs.{needs}
 use Rattle.simulator.proofs.questions.is_kind.Statement.{statement}
 use Rattle.simulator.proofs.questions.is_kind.Tie as tie
-use Rattle.simulator.proofs.questions.is_kind.Reads as reads
-use Rattle.simulator.proofs.questions.is_kind.Lts as lts
-use Rattle.primitive.proofs.number_of.Reads as number-of-reads
-use Rattle.tables.proofs.word_of.Reads as word-of-reads
 
 word-of-requires : tie.Need-word-of-requires
 word-of-requires c κs = search needs

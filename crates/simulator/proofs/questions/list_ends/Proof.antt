@@ -1,6 +1,6 @@
 -- `list_ends`: what is marked are the components that wires join to component i, and they are listed.
 -- Assumes nothing.
-use mathlib.Core.Path.{_≡_, ap, _∙_}
+use mathlib.Core.Path.{ap, _∙_}
 use mathlib.Core.List.{List}
 use Prim.Native.Nat.{ℕ}
 use lib.ListN.{length}
@@ -9,10 +9,6 @@ use Rattle.simulator.proofs.EndsLaws.{marked-met}
 use borrow.Author.Needs.{needs}
 use Rattle.simulator.proofs.questions.list_ends.Statement.{statement}
 use Rattle.simulator.proofs.questions.list_ends.Tie as tie
-use Rattle.simulator.proofs.questions.list_ends.Reads as reads
-use Rattle.simulator.proofs.questions.list_ends.Lts as lts
-use Rattle.simulator.proofs.questions.list_marked.Reads as list-marked-reads
-use Rattle.simulator.proofs.questions.mark_ends.Reads as mark-ends-reads
 
 slice-aggregate-mark-ends : tie.Need-slice-aggregate-mark-ends
 slice-aggregate-mark-ends c = search needs

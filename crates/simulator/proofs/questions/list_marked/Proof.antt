@@ -1,8 +1,8 @@
 -- `list_marked`: the list holds the marked ones of the components passed.
 -- Assumes nothing.
-use mathlib.Core.Path.{_≡_, refl, sym, ap, _∙_}
+use mathlib.Core.Path.{_≡_, refl}
 use mathlib.Core.Logic.{⊎-elim}
-use Prim.Native.Nat.{ℕ, _-_, _≤_}
+use Prim.Native.Nat.{_-_, _≤_}
 use native.Mathlib.Omega.{arith}
 use lib.ListN.{length, length-set}
 use Rattle.lists.specs.Lists.{overlay}
@@ -12,8 +12,6 @@ use Rattle.simulator.proofs.EndsLaws.{list-here, list-none}
 use borrow.Author.Needs.{needs}
 use Rattle.simulator.proofs.questions.list_marked.Statement.{statement}
 use Rattle.simulator.proofs.questions.list_marked.Tie as tie
-use Rattle.simulator.proofs.questions.list_marked.Reads as reads
-use Rattle.simulator.proofs.questions.list_marked.Lts as lts
 
 abbrev Inv-loop : tie.InvT-loop
 Inv-loop marks count list₀ listed₀ j₀ list listed j =

@@ -1,18 +1,17 @@
 -- `list_number`: the numbers in their order.
 -- Assumes nothing.
-use mathlib.Core.Path.{_≡_, sym, _∙_}
-use native.Mathlib.Omega.{arith}
+use mathlib.Core.Path.{sym, _∙_}
 use Rattle.tables.specs.Tables.{Tables, tablesOf}
 use Rattle.simulator.proofs.QuestionsLaws.{list-short, list-refused, list-none, list-passed}
 use borrow.Author.Needs.{needs}
 use Rattle.simulator.proofs.questions.list_number.Statement.{statement}
 use Rattle.simulator.proofs.questions.list_number.Tie as tie
-use Rattle.simulator.proofs.questions.list_number.Reads as reads
-use Rattle.simulator.proofs.questions.list_number.Lts as lts
-use Rattle.net.proofs.net_number.Reads as net-number-reads
 
 abbrev came : tie.Start → Tables
-came s = tablesOf (s .args .components .now) (s .args .inputs .now) (s .args .outputs .now) (s .args .wires .now) (s .args .current .now) (s .args .following .now) (s .args .standing .now) (s .args .counts)
+came s =
+    let a = s .args in
+    tablesOf (a .components .now) (a .inputs .now) (a .outputs .now) (a .wires .now) (a .current .now) (a .following .now)
+    (a .standing .now) (a .counts)
 
 returns : tie.Need-returns
 returns c = list-short (came (c .before .before .before .before .before .before .before .before .before)) (c .before .before .before .before .before .before .before .before .before .args .i) (c .before .before .before .before .before .before .before .before .before .args .list .now) (c .if1 .taken)

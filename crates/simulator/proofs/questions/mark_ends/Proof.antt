@@ -11,9 +11,6 @@ use Rattle.simulator.proofs.EndsLaws.{mark-here, mark-none}
 use borrow.Author.Needs.{needs}
 use Rattle.simulator.proofs.questions.mark_ends.Statement.{statement}
 use Rattle.simulator.proofs.questions.mark_ends.Tie as tie
-use Rattle.simulator.proofs.questions.mark_ends.Reads as reads
-use Rattle.simulator.proofs.questions.mark_ends.Lts as lts
-use Rattle.tables.proofs.entry.Reads as entry-reads
 
 abbrev Inv-loop : tie.InvT-loop
 Inv-loop wires count near far i marks₀ k₀ marks k =

@@ -16,10 +16,6 @@ use Rattle.net.proofs.StepsLaws.{everySlice-fails, everySlice-next, everySlice-
 use borrow.Author.Needs.{needs}
 use Rattle.simulator.proofs.questions.only_clocks.Statement.{statement}
 use Rattle.simulator.proofs.questions.only_clocks.Tie as tie
-use Rattle.simulator.proofs.questions.only_clocks.Reads as reads
-use Rattle.simulator.proofs.questions.only_clocks.Lts as lts
-use Rattle.simulator.proofs.questions.is_kind.Reads as is-kind-reads
-use Rattle.tables.proofs.entry.Reads as entry-reads
 
 abbrev clock : List ℕ → ℕ → Bool
 clock cs i = is Clock (fieldsIn cs i)

@@ -4,8 +4,6 @@ use borrow.Author.Tests.{le-leb, lt-leb}
 use borrow.Author.Needs.{needs}
 use Rattle.simulator.proofs.questions.port_value.Statement.{statement}
 use Rattle.simulator.proofs.questions.port_value.Tie as tie
-use Rattle.simulator.proofs.questions.port_value.Reads as reads
-use Rattle.simulator.proofs.questions.port_value.Lts as lts
 
 returns : tie.Need-returns
 returns c = simp (le-leb _ _ (c .if1 .taken))

@@ -1,7 +1,7 @@
 -- `search_id`: what is found among the components still to come is what is found among all.
 -- Assumes nothing.
 use borrow.Author.Tests.{eq-eqb, ne-eqb}
-use mathlib.Core.Path.{_≡_, refl, sym, ap, _∙_}
+use mathlib.Core.Path.{_≡_, sym, ap, _∙_}
 use mathlib.Core.Bool.{Bool}
 use mathlib.Core.List.{List}
 use Prim.Native.Nat.{ℕ, _-_, _≤_}
@@ -15,9 +15,6 @@ use Rattle.simulator.specs.Questions.{found}
 use borrow.Author.Needs.{needs}
 use Rattle.simulator.proofs.questions.search_id.Statement.{statement}
 use Rattle.simulator.proofs.questions.search_id.Tie as tie
-use Rattle.simulator.proofs.questions.search_id.Reads as reads
-use Rattle.simulator.proofs.questions.search_id.Lts as lts
-use Rattle.tables.proofs.word_of.Reads as word-of-reads
 
 abbrev hasId : List ℕ → ℕ → ℕ → Bool
 hasId cs id i = eqb (wordIn cs i 1) id

@@ -9,13 +9,12 @@ use Rattle.simulator.proofs.QuestionsLaws.{net-within, net-source, list
 use borrow.Author.Needs.{needs}
 use Rattle.simulator.proofs.questions.sources_of.Statement.{statement}
 use Rattle.simulator.proofs.questions.sources_of.Tie as tie
-use Rattle.simulator.proofs.questions.sources_of.Reads as reads
-use Rattle.simulator.proofs.questions.sources_of.Lts as lts
-use Rattle.simulator.proofs.questions.list_ends.Reads as list-ends-reads
-use Rattle.simulator.proofs.questions.list_number.Reads as list-number-reads
 
 abbrev came : tie.Start → Tables
-came s = tablesOf (s .args .components .now) (s .args .inputs .now) (s .args .outputs .now) (s .args .wires .now) (s .args .current .now) (s .args .following .now) (s .args .standing .now) (s .args .counts)
+came s =
+    let a = s .args in
+    tablesOf (a .components .now) (a .inputs .now) (a .outputs .now) (a .wires .now) (a .current .now) (a .following .now)
+    (a .standing .now) (a .counts)
 
 passed : (c : tie.Else1) → listNumber (came (c .before .before .before .before .before .before .before .before .before .before .before)) (c .before .before .before .before .before .before .before .before .before .before .before .args .index .0) (c .before .before .before .before .before .before .before .before .before .before .before .args .list .now) ≡ 0
 passed c = sym (c .before .list-number .ensures) ∙ c .if1 .left

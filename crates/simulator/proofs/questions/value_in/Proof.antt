@@ -1,6 +1,6 @@
 -- `value_in`: no component i, or the port of it on the side.
 -- Assumes nothing.
-use mathlib.Core.Path.{_≡_, refl, sym, ap, _∙_}
+use mathlib.Core.Path.{ap}
 use mathlib.Core.List.{[]}
 use native.Mathlib.Omega.{arith}
 use Rattle.primitive.specs.declared.table.Fields.{Fields}
@@ -11,13 +11,6 @@ use Rattle.simulator.proofs.QuestionsLaws.{value-none, value-input, val
 use borrow.Author.Needs.{needs}
 use Rattle.simulator.proofs.questions.value_in.Statement.{statement}
 use Rattle.simulator.proofs.questions.value_in.Tie as tie
-use Rattle.simulator.proofs.questions.value_in.Reads as reads
-use Rattle.simulator.proofs.questions.value_in.Lts as lts
-use Rattle.primitive.proofs.input_width.Reads as input-width-reads
-use Rattle.primitive.proofs.output_width.Reads as output-width-reads
-use Rattle.simulator.proofs.questions.port_value.Reads as port-value-reads
-use Rattle.tables.proofs.fields_at.Reads as fields-at-reads
-use Rattle.tables.proofs.word_of.Reads as word-of-reads
 
 abbrev came : tie.Start → Tables
 came s = lent (s .args .components .now) (s .args .inputs .now) (s .args .outputs .now) [] (s .args .counts)
