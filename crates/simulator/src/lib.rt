@@ -1,6 +1,15 @@
 // Rounds, edits and questions over lent tables. Rules: docs/SPECIFICATION.md, "Rounds" and "Numbers given back". Source: simulator.rs.
+mod edits;
+mod questions;
+
 use component::FlatIdx;
+pub use edits::edit;
 use primitive::Refusal;
+pub use questions::index_of;
+pub use questions::is_calm;
+pub use questions::sources_of;
+pub use questions::targets_of;
+pub use questions::value_of;
 use tables::Counts;
 use value::Value;
 

@@ -1,0 +1,87 @@
+-- `edit`: refused by the number, or the port set and the component in the standing list.
+-- Assumes nothing.
+use mathlib.Core.Path.{_≡_, sym, _∙_}
+use native.Mathlib.Omega.{arith}
+use Rattle.tables.specs.Tables.{Tables, tablesOf}
+use Rattle.simulator.specs.Calls.{editNumber}
+use Rattle.simulator.proofs.EditsLaws.{edit-index, edit-output, edit-input, edit-standing, edit-room, edit-kept, edit-made}
+use borrow.Author.Needs.{needs}
+use Rattle.simulator.proofs.edits.edit.Statement.{statement}
+use Rattle.simulator.proofs.edits.edit.Tie as tie
+
+abbrev came : tie.Start → Tables
+came s =
+    let a = s .args in
+    tablesOf (a .components .now) (a .inputs .now) (a .outputs .now) (a .wires .now) (a .current .now) (a .following .now)
+    (a .standing .now) (a .counts)
+
+passed : (c : tie.Else1) → editNumber (came (c .before .before .before .before .before .before .before .before .before .before .before .before)) (c .before .before .before .before .before .before .before .before .before .before .before .before .args .index .0) (c .before .before .before .before .before .before .before .before .before .before .before .before .args .number) ≡ 0
+passed c = sym (c .before .edit-checks .ensures) ∙ c .if1 .left
+
+edit-checks-requires : tie.Need-edit-checks-requires
+edit-checks-requires c κs = search needs
+
+same-length : tie.Need-same-length
+same-length c = search needs
+
+same-length-2 : tie.Need-same-length-2
+same-length-2 c = search needs
+
+same-length-3 : tie.Need-same-length-3
+same-length-3 c = search needs
+
+returns : tie.Need-returns
+returns c =
+    let a = c .before .before .before .before .before .before .before .before .before .before .before .before .args in
+    edit-kept (a .components .now) (a .inputs .now) (a .outputs .now) (a .wires .now) (a .current .now) (a .following .now) (a .standing .now)
+    (a .counts) (a .index .0) (a .number) _ (c .before .edit-checks .ensures) (c .if1 .taken)
+
+set-port-requires : tie.Need-set-port-requires
+set-port-requires c κs =
+    let a = c .before .before .before .before .before .before .before .before .before .before .before .before .before .before .args in
+    let T = came (c .before .before .before .before .before .before .before .before .before .before .before .before .before .before) in
+    let z = passed (c .before .before) in
+    (edit-index T (a .index .0) (a .number) z, edit-output T (a .index .0) (a .number) z, edit-input T (a .index .0) (a .number) z)
+
+cast-append-new : tie.Need-cast-append-new
+cast-append-new c = omega (arith, edit-index (came (c .before .before .before .before .before .before .before .before .before .before .before .before .before .before .before .before .before .before .before .before)) (c .before .before .before .before .before .before .before .before .before .before .before .before .before .before .before .before .before .before .before .before .args .index .0) (c .before .before .before .before .before .before .before .before .before .before .before .before .before .before .before .before .before .before .before .before .args .number) (passed (c .before .before .before .before .before .before .before .before)))
+
+append-new-requires : tie.Need-append-new-requires
+append-new-requires c κs =
+    let a = c .before .before .before .before .before .before .before .before .before .before .before .before .before .before .before .before .before .before .before .before .args in
+    let T = came (c .before .before .before .before .before .before .before .before .before .before .before .before .before .before .before .before .before .before .before .before) in
+    (edit-standing T (a .index .0) (a .number) (passed (c .before .before .before .before .before .before .before .before)), edit-room T (a .index .0) (a .number) (passed (c .before .before .before .before .before .before .before .before)))
+
+same-length-4 : tie.Need-same-length-4
+same-length-4 c = search needs
+
+same-length-5 : tie.Need-same-length-5
+same-length-5 c = search needs
+
+same-length-6 : tie.Need-same-length-6
+same-length-6 c = search needs
+
+returns-2 : tie.Need-returns-2
+returns-2 c =
+    let a = c .before .before .before .before .before .before .before .before .before .before .before .before .before .before .before .before .before .before .before .before .before .before .before .args in
+    let p = c .before .before .before .before .before .before .before .before .set-port .ensures in
+    let e = c .before .before .append-new .ensures in
+    edit-made (a .components .now) (a .inputs .now) (a .outputs .now) (a .wires .now) (a .current .now) (a .following .now) (a .standing .now)
+    (a .counts) (a .index .0) (a .number) (passed (c .before .before .before .before .before .before .before .before .before .before .before)) _ _ _ _ (p .0) (p .1) (e .0) (e .1)
+
+pub edit-spec : {M : Type 1} → statement M
+edit-spec =
+    tie.close
+    (tie.spec
+    edit-checks-requires
+    same-length
+    same-length-2
+    same-length-3
+    returns
+    set-port-requires
+    cast-append-new
+    append-new-requires
+    same-length-4
+    same-length-5
+    same-length-6
+    returns-2)

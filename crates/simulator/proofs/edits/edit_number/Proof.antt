@@ -1,0 +1,76 @@
+-- `edit_number`: the numbers in their order.
+-- Assumes nothing.
+use mathlib.Core.Path.{_≡_, _∙_}
+use mathlib.Core.Bool.{cond}
+use mathlib.Core.Logic.{⊎-elim}
+use native.Mathlib.Omega.{arith}
+use Rattle.primitive.specs.Kinds.{inputWidth, outputWidth}
+use Rattle.simulator.proofs.EditsLaws.{edit-17, edit-18, edit-19, edit-0}
+use borrow.Author.Needs.{needs}
+use Rattle.simulator.proofs.edits.edit_number.Statement.{statement}
+use Rattle.simulator.proofs.edits.edit_number.Tie as tie
+
+wide : (c : tie.Joined3) → c .if3 .width ≡ cond (c .before .before .before .before .before .is-kind .result) (outputWidth (c .before .fields-at .result)) (inputWidth (c .before .fields-at .result))
+wide c = ⊎-elim (λ w. rw (w .0 .taken) (w .2 ∙ w .1 .ensures)) (λ w. rw (w .0 .left) (w .2 ∙ w .1 .ensures)) (c .if3 .came)
+
+returns : tie.Need-returns
+returns c = let a = c .before .before .before .before .args in edit-17 (a .components .now) (a .wires .now) (a .counts) (a .i) (a .number) (c .if1 .taken)
+
+is-kind-requires : tie.Need-is-kind-requires
+is-kind-requires c κs = search needs
+
+is-kind-requires-2 : tie.Need-is-kind-requires-2
+is-kind-requires-2 c κs = search needs
+
+is-driven-requires : tie.Need-is-driven-requires
+is-driven-requires c κs = search needs
+
+returns-2 : tie.Need-returns-2
+returns-2 c =
+    let a = c .before .before .before .before .before .before .before .before .args in
+    edit-18 (a .components .now) (a .wires .now) (a .counts) (a .i) (a .number) (c .before .before .before .before .if1 .left) _ _ _ (c .before .before .before .is-kind .ensures)
+    (c .before .before .is-kind2 .ensures) (c .before .is-driven .ensures) (c .if2 .taken)
+
+fields-at-requires : tie.Need-fields-at-requires
+fields-at-requires c κs = (omega arith, c .before .before .before .before .before .before .before .before .pre .2 (c .before .before .before .before .if1 .left))
+
+-- The width of the port that is set.
+
+output-width-requires : tie.Need-output-width-requires
+output-width-requires c κs = search needs
+
+input-width-requires : tie.Need-input-width-requires
+input-width-requires c κs = search needs
+
+lies-below-requires : tie.Need-lies-below-requires
+lies-below-requires c κs = search needs
+
+returns-3 : tie.Need-returns-3
+returns-3 c =
+    let a = c .before .before .before .before .before .before .before .before .before .before .before .before .args in
+    edit-19 (a .components .now) (a .wires .now) (a .counts) (a .i) (a .number) (c .before .before .before .before .before .before .before .before .if1 .left) _ _ _ (c .before .before .before .before .before .before .before .is-kind .ensures)
+    (c .before .before .before .before .before .before .is-kind2 .ensures) (c .before .before .before .before .before .is-driven .ensures) (c .before .before .before .before .if2 .left) _ _ _ (c .before .before .before .fields-at .ensures) (wide (c .before .before))
+    (c .before .lies-below .ensures) (c .if4 .taken)
+
+returns-4 : tie.Need-returns-4
+returns-4 c =
+    let a = c .before .before .before .before .before .before .before .before .before .before .before .before .args in
+    edit-0 (a .components .now) (a .wires .now) (a .counts) (a .i) (a .number) (c .before .before .before .before .before .before .before .before .if1 .left) _ _ _ (c .before .before .before .before .before .before .before .is-kind .ensures)
+    (c .before .before .before .before .before .before .is-kind2 .ensures) (c .before .before .before .before .before .is-driven .ensures) (c .before .before .before .before .if2 .left) _ _ _ (c .before .before .before .fields-at .ensures) (wide (c .before .before))
+    (c .before .lies-below .ensures) (c .if4 .left)
+
+pub edit-number-spec : {M : Type 1} → statement M
+edit-number-spec =
+    tie.close
+    (tie.spec
+    returns
+    is-kind-requires
+    is-kind-requires-2
+    is-driven-requires
+    returns-2
+    fields-at-requires
+    output-width-requires
+    input-width-requires
+    lies-below-requires
+    returns-3
+    returns-4)

@@ -1,0 +1,81 @@
+-- `is_driven`: one of the wires still to come enters the component exactly if one of all does.
+-- Assumes nothing.
+use borrow.Author.Tests.{eq-eqb, ne-eqb}
+use mathlib.Core.Path.{_≡_, sym, ap, _∙_}
+use mathlib.Core.Bool.{Bool}
+use mathlib.Core.List.{List}
+use Prim.Native.Nat.{ℕ, _-_, _≤_}
+use native.Mathlib.Omega.{arith}
+use lib.Dec.{eqb}
+use Rattle.lists.specs.Lists.{from, any}
+use Rattle.lists.proofs.ListsLaws.{any-here, any-next, any-none}
+use Rattle.net.proofs.StepsLaws.{from-start}
+use Rattle.simulator.specs.Asked.{endOf}
+use borrow.Author.Needs.{needs}
+use Rattle.simulator.proofs.edits.is_driven.Statement.{statement}
+use Rattle.simulator.proofs.edits.is_driven.Tie as tie
+
+abbrev enters : List ℕ → ℕ → ℕ → Bool
+enters ws i k = eqb (endOf ws k 2) i
+
+abbrev Inv-loop : tie.InvT-loop
+Inv-loop wires count i k₀ k = (k ≤ count) × (any (enters wires i) (from k (count - k)) ≡ any (enters wires i) (from 0 count))
+
+abbrev μ-loop : tie.MeasureT-loop
+μ-loop wires count i k₀ k = count - k
+
+loop-holds : tie.Need-loop-holds Inv-loop μ-loop
+loop-holds c = let a = c .before .args in (omega arith, ap (any (enters (a .wires .now) (a .i))) (from-start (a .count)))
+
+mul-entry : tie.Need-mul-entry Inv-loop μ-loop
+mul-entry c = search needs
+
+add-entry : tie.Need-add-entry Inv-loop μ-loop
+add-entry c = search needs
+
+entry-requires : tie.Need-entry-requires Inv-loop μ-loop
+entry-requires c κs = search needs
+
+returns : tie.Need-returns Inv-loop μ-loop
+returns c =
+    let a = c .before .before .before .before .before .args in
+    let l = c .before .before .before .loop in
+    any-here (enters (a .wires .now) (a .i)) (l .k) (a .count) _ (l .inv .1) (omega arith)
+    (eq-eqb (endOf (a .wires .now) (l .k) 2) (a .i) (sym (c .before .entry .ensures) ∙ c .if1 .taken))
+
+add-k : tie.Need-add-k Inv-loop μ-loop
+add-k c = search needs
+
+loop-less : tie.Need-loop-less Inv-loop μ-loop
+loop-less c = search needs
+
+loop-again : tie.Need-loop-again Inv-loop μ-loop
+loop-again c =
+    let a = c .before .before .before .before .before .args in
+    let l = c .before .before .before .loop in (
+      omega arith,
+      any-next (enters (a .wires .now) (a .i)) (l .k) (a .count) _ (l .inv .1) (omega arith)
+          (ne-eqb (endOf (a .wires .now) (l .k) 2) (a .i) (λ e. c .if1 .left (c .before .entry .ensures ∙ e))),
+    )
+
+returns-2 : tie.Need-returns-2 Inv-loop μ-loop
+returns-2 c =
+    let a = c .before .before .before .args in
+    let l = c .before .loop in
+    any-none (enters (a .wires .now) (a .i)) (l .k) (a .count) _ (l .inv .1) (omega arith)
+
+pub is-driven-spec : {M : Type 1} → statement M
+is-driven-spec =
+    tie.close
+    (tie.spec
+    Inv-loop
+    μ-loop
+    loop-holds
+    mul-entry
+    add-entry
+    entry-requires
+    returns
+    add-k
+    loop-less
+    loop-again
+    returns-2)

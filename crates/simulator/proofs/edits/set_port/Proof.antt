@@ -1,0 +1,67 @@
+-- `set_port`: the kind decides which port is set.
+-- Assumes nothing.
+use mathlib.Core.Path.{_≡_, refl, sym, _∙_}
+use mathlib.Core.Bool.{true, false, true≢false}
+use native.Mathlib.Omega.{arith}
+use Rattle.primitive.specs.declared.kinds.Kind.the-variants.{Switch}
+use Rattle.primitive.specs.Kinds.{is}
+use Rattle.tables.specs.Tables.{fieldsIn}
+use borrow.Author.Needs.{needs}
+use Rattle.simulator.proofs.edits.set_port.Statement.{statement}
+use Rattle.simulator.proofs.edits.set_port.Tie as tie
+
+is-kind-requires : tie.Need-is-kind-requires
+is-kind-requires c κs = search needs
+
+word-of-requires : tie.Need-word-of-requires
+word-of-requires c κs = search needs
+
+slice-write-outputs : tie.Need-slice-write-outputs
+slice-write-outputs c = omega (arith, c .word-of .ensures, c .before .before .before .before .before .before .pre .1 (sym (c .before .before .is-kind .ensures) ∙ c .before .if1 .taken))
+
+mul-outputs : tie.Need-mul-outputs
+mul-outputs c = omega (arith, slice-write-outputs c)
+
+word-of-requires-2 : tie.Need-word-of-requires-2
+word-of-requires-2 c κs = search needs
+
+slice-write-inputs : tie.Need-slice-write-inputs
+slice-write-inputs c =
+    omega (arith, c .word-of2 .ensures, c .before .before .before .before .before .before .pre .2 (λ e. true≢false (sym e ∙ sym (c .before .before .is-kind .ensures) ∙ c .before .if1 .left)))
+
+mul-inputs : tie.Need-mul-inputs
+mul-inputs c = omega (arith, slice-write-inputs c)
+
+same-length : tie.Need-same-length
+same-length c = search needs
+
+returns : tie.Need-returns
+returns c =
+    let a = c .before .before .before .before .before .before .args in
+    let k : is Switch (fieldsIn (a .components .now) (a .i)) ≡ true = sym (c .before .before .is-kind .ensures) ∙ c .before .if1 .taken in
+    rw (k, c .word-of .ensures) (refl, refl)
+
+same-length-2 : tie.Need-same-length-2
+same-length-2 c = search needs
+
+returns-2 : tie.Need-returns-2
+returns-2 c =
+    let a = c .before .before .before .before .before .before .args in
+    let k : is Switch (fieldsIn (a .components .now) (a .i)) ≡ false = sym (c .before .before .is-kind .ensures) ∙ c .before .if1 .left in
+    rw (k, c .word-of2 .ensures) (refl, refl)
+
+pub set-port-spec : {M : Type 1} → statement M
+set-port-spec =
+    tie.close
+    (tie.spec
+    is-kind-requires
+    word-of-requires
+    mul-outputs
+    slice-write-outputs
+    word-of-requires-2
+    mul-inputs
+    slice-write-inputs
+    same-length
+    returns
+    same-length-2
+    returns-2)

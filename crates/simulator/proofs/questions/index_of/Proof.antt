@@ -1,0 +1,33 @@
+-- `index_of`: refused by the number, or what the search finds.
+-- Assumes nothing.
+use mathlib.Core.Path.{_≡_, sym, _∙_}
+use Rattle.tables.specs.Tables.{Tables, tablesOf}
+use Rattle.net.specs.Net.{netNumber}
+use Rattle.simulator.proofs.QuestionsLaws.{net-within, index-refused, index-found}
+use borrow.Author.Needs.{needs}
+use Rattle.simulator.proofs.questions.index_of.Statement.{statement}
+use Rattle.simulator.proofs.questions.index_of.Tie as tie
+
+abbrev came : tie.Start → Tables
+came s =
+    let a = s .args in
+    tablesOf (a .components .now) (a .inputs .now) (a .outputs .now) (a .wires .now) (a .current .now) (a .following .now)
+    (a .standing .now) (a .counts)
+
+is-net : (c : tie.Else1) → netNumber (came (c .before .before .before .before .before .before .before .before .before)) ≡ 0
+is-net c = sym (c .before .net-number .ensures) ∙ c .if1 .left
+
+net-number-requires : tie.Need-net-number-requires
+net-number-requires c κs = search needs
+
+returns : tie.Need-returns
+returns c = index-refused (came (c .before .before .before .before .before .before .before .before .before)) (c .before .before .before .before .before .before .before .before .before .args .id .0) _ (c .before .net-number .ensures) (c .if1 .taken)
+
+search-id-requires : tie.Need-search-id-requires
+search-id-requires c κs = net-within (came (c .before .before .before .before .before .before .before .before .before)) (is-net c) .components
+
+returns-2 : tie.Need-returns-2
+returns-2 c = index-found (came (c .before .before .before .before .before .before .before .before .before .before)) (c .before .before .before .before .before .before .before .before .before .before .args .id .0) _ (is-net (c .before)) (c .search-id .ensures)
+
+pub index-of-spec : {M : Type 1} → statement M
+index-of-spec = tie.close (tie.spec net-number-requires returns search-id-requires returns-2)

@@ -1,0 +1,100 @@
+-- `mark_ends`: after the wires passed, a component is marked exactly if one of them joins it to component i, or if it was.
+-- Assumes nothing.
+use mathlib.Core.Path.{_≡_, refl, sym, _∙_}
+use mathlib.Core.Bool.{cond}
+use mathlib.Core.Logic.{⊎-elim}
+use Prim.Native.Nat.{ℕ, _-_, _≤_}
+use native.Mathlib.Omega.{arith}
+use lib.ListN.{length, getD, length-set}
+use Rattle.simulator.specs.Asked.{meets}
+use Rattle.simulator.proofs.EndsLaws.{mark-here, mark-none}
+use borrow.Author.Needs.{needs}
+use Rattle.simulator.proofs.questions.mark_ends.Statement.{statement}
+use Rattle.simulator.proofs.questions.mark_ends.Tie as tie
+
+abbrev Inv-loop : tie.InvT-loop
+Inv-loop wires count near far i marks₀ k₀ marks k =
+    (k ≤ count) × (length marks ≡ length marks₀)
+    × ((j : ℕ) → getD marks j 0 ≡ cond (meets wires k near far i j) 1 (getD marks₀ j 0))
+
+abbrev μ-loop : tie.MeasureT-loop
+μ-loop wires count near far i marks₀ k₀ marks k = count - k
+
+loop-holds : tie.Need-loop-holds Inv-loop μ-loop
+loop-holds c = (omega arith, refl, λ j. refl)
+
+mul-entry : tie.Need-mul-entry Inv-loop μ-loop
+mul-entry c = search needs
+
+add-entry : tie.Need-add-entry Inv-loop μ-loop
+add-entry c = search needs
+
+entry-requires : tie.Need-entry-requires Inv-loop μ-loop
+entry-requires c κs = search needs
+
+mul-entry-2 : tie.Need-mul-entry-2 Inv-loop μ-loop
+mul-entry-2 c = search needs
+
+add-entry-2 : tie.Need-add-entry-2 Inv-loop μ-loop
+add-entry-2 c = search needs
+
+entry-requires-2 : tie.Need-entry-requires-2 Inv-loop μ-loop
+entry-requires-2 c κs = search needs
+
+slice-write-marks : tie.Need-slice-write-marks Inv-loop μ-loop
+slice-write-marks c = omega (arith, c .entry2 .ensures, c .before .before .before .before .before .before .before .pre .3 (c .before .before .before .before .loop .k) (c .before .before .before .loop-test .taken))
+
+add-k : tie.Need-add-k Inv-loop μ-loop
+add-k c = search needs
+
+loop-less : tie.Need-loop-less Inv-loop μ-loop
+loop-less c = omega arith
+
+loop-again : tie.Need-loop-again Inv-loop μ-loop
+loop-again c =
+    let a = c .before .before .before .before .before .before .args in
+    let l = c .before .before .before .loop in
+    let n = c .before .entry .ensures in
+    ⊎-elim
+    (λ w. rw (w .2) (
+      omega arith,
+      simp length-set (l .inv .1),
+      mark-here (a .wires .now) (a .marks .now) (l .marks) (a .near) (a .far) (a .i) (l .k) (l .inv .2) (w .1 .result)
+          (sym n ∙ w .0 .taken) (w .1 .ensures)
+          (omega (arith, w .1 .ensures, l .inv .1, c .before .before .before .before .before .before .pre .3 (l .k) (c .before .before .loop-test .taken))),
+    ))
+    (λ w. rw (w .1) (
+      omega arith,
+      l .inv .1,
+      mark-none (a .wires .now) (a .marks .now) (l .marks) (a .near) (a .far) (a .i) (l .k) (l .inv .2) (λ e. w .0 .left (n ∙ e)),
+    ))
+    (c .if1 .came)
+
+same-length : tie.Need-same-length Inv-loop μ-loop
+same-length c = omega arith
+
+returns : tie.Need-returns Inv-loop μ-loop
+returns c =
+    let l = c .before .loop in
+    let e : l .k ≡ c .before .before .before .before .args .count = omega arith in
+    rw e at (l .inv .2)
+
+pub mark-ends-spec : {M : Type 1} → statement M
+mark-ends-spec =
+    tie.close
+    (tie.spec
+    Inv-loop
+    μ-loop
+    loop-holds
+    mul-entry
+    add-entry
+    entry-requires
+    mul-entry-2
+    add-entry-2
+    entry-requires-2
+    slice-write-marks
+    add-k
+    loop-less
+    loop-again
+    same-length
+    returns)

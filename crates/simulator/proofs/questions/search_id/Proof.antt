@@ -1,0 +1,80 @@
+-- `search_id`: what is found among the components still to come is what is found among all.
+-- Assumes nothing.
+use borrow.Author.Tests.{eq-eqb, ne-eqb}
+use mathlib.Core.Path.{_≡_, sym, ap, _∙_}
+use mathlib.Core.Bool.{Bool}
+use mathlib.Core.List.{List}
+use Prim.Native.Nat.{ℕ, _-_, _≤_}
+use native.Mathlib.Omega.{arith}
+use lib.Dec.{eqb}
+use Rattle.lists.specs.Lists.{from, first}
+use Rattle.lists.proofs.ListsLaws.{first-here, first-next, first-none}
+use Rattle.tables.specs.Tables.{wordIn}
+use Rattle.net.proofs.StepsLaws.{from-start}
+use Rattle.simulator.specs.Questions.{found}
+use borrow.Author.Needs.{needs}
+use Rattle.simulator.proofs.questions.search_id.Statement.{statement}
+use Rattle.simulator.proofs.questions.search_id.Tie as tie
+
+abbrev hasId : List ℕ → ℕ → ℕ → Bool
+hasId cs id i = eqb (wordIn cs i 1) id
+
+abbrev Inv-loop : tie.InvT-loop
+Inv-loop components count sought i₀ i =
+    (i ≤ count) × (first (hasId components sought) (from i (count - i)) ≡ first (hasId components sought) (from 0 count))
+
+abbrev μ-loop : tie.MeasureT-loop
+μ-loop components count sought i₀ i = count - i
+
+cast-sought : tie.Need-cast-sought Inv-loop μ-loop
+cast-sought c = search needs
+
+loop-holds : tie.Need-loop-holds Inv-loop μ-loop
+loop-holds c = let a = c .before .before .args in (omega arith, ap (first (hasId (a .components .now) (a .id .0))) (from-start (a .count)))
+
+word-of-requires : tie.Need-word-of-requires Inv-loop μ-loop
+word-of-requires c κs = search needs
+
+returns : tie.Need-returns Inv-loop μ-loop
+returns c =
+    let a = c .before .before .before .before .before .before .args in
+    let l = c .before .before .before .loop in
+    ap found
+    (first-here (hasId (a .components .now) (a .id .0)) (l .i) (a .count) _ (l .inv .1) (omega arith)
+    (eq-eqb (wordIn (a .components .now) (l .i) 1) (a .id .0) (sym (c .before .word-of .ensures) ∙ c .if1 .taken)))
+
+add-i : tie.Need-add-i Inv-loop μ-loop
+add-i c = search needs
+
+loop-less : tie.Need-loop-less Inv-loop μ-loop
+loop-less c = search needs
+
+loop-again : tie.Need-loop-again Inv-loop μ-loop
+loop-again c =
+    let a = c .before .before .before .before .before .before .args in
+    let l = c .before .before .before .loop in (
+      omega arith,
+      first-next (hasId (a .components .now) (a .id .0)) (l .i) (a .count) _ (l .inv .1) (omega arith)
+          (ne-eqb (wordIn (a .components .now) (l .i) 1) (a .id .0) (λ e. c .if1 .left (c .before .word-of .ensures ∙ e))),
+    )
+
+returns-2 : tie.Need-returns-2 Inv-loop μ-loop
+returns-2 c =
+    let a = c .before .before .before .before .args in
+    let l = c .before .loop in
+    ap found (first-none (hasId (a .components .now) (a .id .0)) (l .i) (a .count) _ (l .inv .1) (omega arith))
+
+pub search-id-spec : {M : Type 1} → statement M
+search-id-spec =
+    tie.close
+    (tie.spec
+    Inv-loop
+    μ-loop
+    cast-sought
+    loop-holds
+    word-of-requires
+    returns
+    add-i
+    loop-less
+    loop-again
+    returns-2)

@@ -1,0 +1,37 @@
+-- `value_of`: refused by the number, or the value on the net.
+-- Assumes nothing.
+use mathlib.Core.Path.{_≡_, sym, _∙_}
+use Rattle.tables.specs.Tables.{Tables, tablesOf}
+use Rattle.net.specs.Net.{netNumber}
+use Rattle.simulator.proofs.QuestionsLaws.{net-within, net-row, value-refused, value-there}
+use borrow.Author.Needs.{needs}
+use Rattle.simulator.proofs.questions.value_of.Statement.{statement}
+use Rattle.simulator.proofs.questions.value_of.Tie as tie
+
+abbrev came : tie.Start → Tables
+came s =
+    let a = s .args in
+    tablesOf (a .components .now) (a .inputs .now) (a .outputs .now) (a .wires .now) (a .current .now) (a .following .now)
+    (a .standing .now) (a .counts)
+
+is-net : (c : tie.Else1) → netNumber (came (c .before .before .before .before .before .before .before .before .before)) ≡ 0
+is-net c = sym (c .before .net-number .ensures) ∙ c .if1 .left
+
+net-number-requires : tie.Need-net-number-requires
+net-number-requires c κs = search needs
+
+returns : tie.Need-returns
+returns c =
+    let a = c .before .before .before .before .before .before .before .before .before .args in
+    value-refused (came (c .before .before .before .before .before .before .before .before .before)) (a .side) (a .index .0) (a .port) _ (c .before .net-number .ensures) (c .if1 .taken)
+
+value-in-requires : tie.Need-value-in-requires
+value-in-requires c κs = (net-within (came (c .before .before .before .before .before .before .before .before .before)) (is-net c) .components, net-row (came (c .before .before .before .before .before .before .before .before .before)) (is-net c) (c .before .before .before .before .before .before .before .before .before .args .index .0))
+
+returns-2 : tie.Need-returns-2
+returns-2 c =
+    let a = c .before .before .before .before .before .before .before .before .before .before .args in
+    value-there (came (c .before .before .before .before .before .before .before .before .before .before)) (a .side) (a .index .0) (a .port) _ (is-net (c .before)) (c .value-in .ensures)
+
+pub value-of-spec : {M : Type 1} → statement M
+value-of-spec = tie.close (tie.spec net-number-requires returns value-in-requires returns-2)

@@ -1,0 +1,69 @@
+-- What questions and edits ask, on the lists of words that a function inside this crate is handed. `sources`, `targetsIn`, `driven`,
+-- `valueAnswer` and `editNumber` are these on a net, by AskedLaws; only contracts of such functions cite them.
+--   endOf ws k e             the component at end e of wire k: 0 is where it comes from, 2 where it goes to
+--   meets ws m near far i j  one of m wires has component i at its end `near` and component j at its end `far`
+--   met ws m near far i n    the components below n that wires join to component i so
+--   ends ws m e i            one of m wires has component i at its end e
+--   marked marks n           the numbers below n that are marked
+--   RowRight cs is os i      component i's words fit its fields, and its ports stand in their tables
+--   valueOnNet T side i p    the answer to the question for a value, on a net
+--   editRefusal cs ws m i v  the number of an edit, on a net
+-- Assumes nothing.
+use Prim.Native.Nat.{ℕ, _+_, _*_}
+use mathlib.Core.Path.{_≡_}
+use mathlib.Core.Bool.{Bool, true, cond, not, _&&_, _||_}
+use mathlib.Core.List.{List, [], _∷_}
+use lib.ListN.{getD}
+use lib.Dec.{eqb, leb}
+use Rattle.lists.specs.Lists.{from, keep, any, refusal, _if_}
+use Rattle.value.specs.Value.{below}
+use Rattle.primitive.specs.declared.kinds.Kind.the-variants.{Switch, Input}
+use Rattle.primitive.specs.Kinds.{is, inputWidth, outputWidth}
+use Rattle.primitive.specs.Evaluate.{refusedBy}
+use Rattle.tables.specs.declared.Counts.{Counts}
+use Rattle.tables.specs.Tables.{Tables, fieldsIn, fieldsFit}
+use Rattle.net.specs.Parts.{InputsInside, OutputsInside}
+use Rattle.simulator.specs.declared.Side.{Side}
+use Rattle.simulator.specs.declared.Port.{Port}
+use Rattle.simulator.specs.declared.Port.the-variants.{Is as PortIs, Refused as NoPort}
+use Rattle.simulator.specs.Questions.{portCount, valueAt}
+
+-- The component at end e of wire k.
+abbrev pub endOf : List ℕ → ℕ → ℕ → ℕ
+endOf ws k e = getD ws (4 * k + e) 0
+
+-- One of m wires has component i at its end `near` and component j at its end `far`.
+abbrev pub meets : List ℕ → ℕ → ℕ → ℕ → ℕ → ℕ → Bool
+meets ws m near far i j = any (λ k. eqb (endOf ws k near) i && eqb (endOf ws k far) j) (from 0 m)
+
+-- The components below n that wires join to component i so, ascending.
+unfoldable pub met : List ℕ → ℕ → ℕ → ℕ → ℕ → ℕ → List ℕ
+met ws m near far i n = keep (meets ws m near far i) (from 0 n)
+
+-- One of m wires has component i at its end e.
+abbrev pub ends : List ℕ → ℕ → ℕ → ℕ → Bool
+ends ws m e i = any (λ k. eqb (endOf ws k e) i) (from 0 m)
+
+-- The numbers below n that are marked, ascending.
+abbrev pub marked : List ℕ → ℕ → List ℕ
+marked marks n = keep (λ j. eqb (getD marks j 0) 1) (from 0 n)
+
+-- Component i's words fit its fields, and its ports stand in their tables.
+pub record RowRight (cs is os : List ℕ) (i : ℕ) : Type 0 where
+  pub fit : fieldsFit (fieldsIn cs i) ≡ true
+  pub inputs-in : InputsInside cs is i
+  pub outputs-in : OutputsInside cs os i
+
+-- The value of port p of component i on a side, or 17.
+unfoldable pub valueOnNet : Tables → Side → ℕ → ℕ → Port
+valueOnNet T side i p =
+    cond (leb (T .counts .components) i || leb (portCount T side i) p) (NoPort (refusedBy 17)) (PortIs (valueAt T side i p))
+
+-- An edit of component i to the number v: 17, 18, 19.
+unfoldable pub editRefusal : List ℕ → List ℕ → Counts → ℕ → ℕ → ℕ
+editRefusal cs ws m i v =
+    refusal
+    ((17 if leb (m .components) i)
+    ∷ (18 if not (is Switch (fieldsIn cs i) || (is Input (fieldsIn cs i) && not (ends ws (m .wires) 2 i))))
+    ∷ (19 if not (below v (cond (is Switch (fieldsIn cs i)) (outputWidth (fieldsIn cs i)) (inputWidth (fieldsIn cs i)))))
+    ∷ [])

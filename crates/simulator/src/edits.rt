@@ -1,0 +1,143 @@
+// Edits: a Switch's output, or the input of an Input that no wire enters, set to a plain number. Rule: docs/SPECIFICATION.md, "Rounds"
+// and "Numbers given back". The Rust has none.
+ghost use mathlib.Core.Path.{_≡_};
+ghost use mathlib.Core.Bool.{true, cond};
+ghost use Prim.Native.Nat.{_<_, _≤_};
+ghost use lib.ListN.{length, set};
+ghost use Rattle.primitive.specs.declared.kinds.Kind.the-variants.{Switch};
+ghost use Rattle.primitive.specs.Kinds.{is};
+ghost use Rattle.tables.specs.Tables.{tablesOf, wordIn, fieldsIn, fieldsFit};
+ghost use Rattle.simulator.specs.Calls.{editNumber, editAnswer, editTables};
+ghost use Rattle.simulator.specs.Asked.{ends, editRefusal};
+use crate::questions::is_kind;
+use component::FlatIdx;
+use primitive::Kind;
+use primitive::Refusal;
+use tables::Answer;
+use tables::Counts;
+
+// Whether one of the first `count` wires enters component i.
+fn is_driven(wires: &[u16], count: usize, i: usize) -> bool
+    requires { ⌜ count ≤ 1024 ⌝ }
+    ensures { λ r. ⌜ r ≡ ends (now (wires .entry)) count 2 i ⌝ }
+{
+    let mut k: usize = 0;
+    while k < count {
+        if tables::entry(wires, 4 * k + 2) == i {
+            return true;
+        }
+        k += 1;
+    }
+    false
+}
+
+// What an edit of a net checks: 17 where there is no component i; 18 where it is neither a Switch nor an Input without a wire;
+// 19 where the number does not fit the port that is set.
+fn edit_number(components: &[u64], wires: &[u16], counts: Counts, i: usize, number: u64) -> u32
+    requires { ⌜ (counts .components ≤ 256) × (counts .wires ≤ 1024) × (i < counts .components → fieldsFit (fieldsIn (now components) i) ≡ true) ⌝ }
+    ensures { λ r. ⌜ r ≡ editRefusal (now (components .entry)) (now (wires .entry)) counts i number ⌝ }
+{
+    if counts.components <= i {
+        return 17;
+    }
+    let switch = is_kind(components, i, Kind::Switch);
+    let input = is_kind(components, i, Kind::Input);
+    if !(switch | (input & !is_driven(wires, counts.wires, i))) {
+        return 18;
+    }
+    let f = tables::fields_at(components, i);
+    let width = if switch {
+        primitive::output_width(f)
+    } else {
+        primitive::input_width(f)
+    };
+    if !value::lies_below(number, width) {
+        return 19;
+    }
+    0
+}
+
+// Sets the output of a Switch, and of any other component the first input.
+fn set_port(components: &[u64], inputs: &mut [u64], outputs: &mut [u64], i: usize, number: u64)
+    requires { ⌜ (i < 65536) × (is Switch (fieldsIn (now components) i) ≡ true → wordIn (now components) i 7 < length (now outputs)) × ((is Switch (fieldsIn (now components) i) ≡ true → ⊥) → wordIn (now components) i 6 < length (now inputs)) ⌝ }
+    ensures { λ _. ⌜ (now (inputs .exit) ≡ cond (is Switch (fieldsIn (now (components .entry)) i)) (now (inputs .entry)) (set (now (inputs .entry)) (wordIn (now (components .entry)) i 6) number)) × (now (outputs .exit) ≡ cond (is Switch (fieldsIn (now (components .entry)) i)) (set (now (outputs .entry)) (wordIn (now (components .entry)) i 7) number) (now (outputs .entry))) ⌝ }
+{
+    if is_kind(components, i, Kind::Switch) {
+        let at = tables::word_of(components, i, 7) as usize;
+        outputs[at] = number;
+    } else {
+        let at = tables::word_of(components, i, 6) as usize;
+        inputs[at] = number;
+    }
+}
+
+// What an edit checks, on any tables: 2 and 16, then the rest.
+fn edit_checks(
+    components: &[u64],
+    inputs: &[u64],
+    outputs: &[u64],
+    wires: &[u16],
+    current: &[u16],
+    following: &[u16],
+    standing: &[u16],
+    counts: Counts,
+    i: usize,
+    number: u64,
+) -> u32
+    ensures { λ r. ⌜ r ≡ editNumber (tablesOf (now (components .entry)) (now (inputs .entry)) (now (outputs .entry)) (now (wires .entry)) (now (current .entry)) (now (following .entry)) (now (standing .entry)) counts) i number ⌝ }
+{
+    let refused = net::net_number(
+        components,
+        inputs,
+        outputs,
+        wires,
+        current,
+        following,
+        standing,
+        counts,
+    );
+    if refused != 0 {
+        return refused;
+    }
+    edit_number(components, wires, counts, i, number)
+}
+
+// Sets a component's port to a number and appends the component to the standing list unless there. A refusal changes no table.
+pub fn edit(
+    components: &[u64],
+    inputs: &mut [u64],
+    outputs: &mut [u64],
+    wires: &[u16],
+    current: &[u16],
+    following: &[u16],
+    standing: &mut [u16],
+    counts: Counts,
+    index: FlatIdx,
+    number: u64,
+) -> Answer
+    ensures { λ r. ⌜ (r ≡ editAnswer (tablesOf (now (components .entry)) (now (inputs .entry)) (now (outputs .entry)) (now (wires .entry)) (now (current .entry)) (now (following .entry)) (now (standing .entry)) counts) (index .0) number) × (tablesOf (now (components .entry)) (now (inputs .exit)) (now (outputs .exit)) (now (wires .entry)) (now (current .entry)) (now (following .entry)) (now (standing .exit)) (editTables (tablesOf (now (components .entry)) (now (inputs .entry)) (now (outputs .entry)) (now (wires .entry)) (now (current .entry)) (now (following .entry)) (now (standing .entry)) counts) (index .0) number .counts) ≡ editTables (tablesOf (now (components .entry)) (now (inputs .entry)) (now (outputs .entry)) (now (wires .entry)) (now (current .entry)) (now (following .entry)) (now (standing .entry)) counts) (index .0) number) ⌝ }
+{
+    let i = index.0;
+    let refused = edit_checks(
+        components,
+        inputs,
+        outputs,
+        wires,
+        current,
+        following,
+        standing,
+        counts,
+        i,
+        number,
+    );
+    if refused != 0 {
+        return Answer::Refused(Refusal {
+            number: refused,
+            position: 0,
+        });
+    }
+    set_port(components, inputs, outputs, i, number);
+    let mut left = counts;
+    left.standing = tables::append_new(standing, counts.standing, i as u16);
+    Answer::Done(left)
+}

@@ -1,0 +1,397 @@
+// The questions: calm or not, the index of an id, a port's value, a component's sources and targets. They change no table of a net.
+// Rule: docs/SPECIFICATION.md, "Numbers given back". Source: flatten.rs, `id_to_idx`, `deps`, `inv_deps`; the others are added.
+ghost use mathlib.Core.Path.{_≡_};
+ghost use mathlib.Core.Bool.{cond};
+ghost use mathlib.Core.List.{[]};
+ghost use Prim.Native.Nat.{ℕ, _+_, _<_, _≤_};
+ghost use lib.ListN.{length, getD, take};
+ghost use lib.Dec.{eqb, leb};
+ghost use Rattle.lists.specs.Lists.{from, every, first, overlay};
+ghost use Rattle.primitive.specs.declared.kinds.Kind.the-variants.{Clock};
+ghost use Rattle.primitive.specs.Kinds.{is};
+ghost use Rattle.primitive.specs.Evaluate.{refusedBy};
+ghost use Rattle.tables.specs.Tables.{tablesOf, wordIn, fieldsIn};
+ghost use Rattle.net.specs.Net.{lent};
+ghost use Rattle.simulator.specs.declared.Port.the-variants.{Is as PortIs, Refused as NoPort};
+ghost use Rattle.simulator.specs.Questions.{found, calmAnswer, indexAnswer, valueAnswer, listNumber, sourcesAnswer, sourcesList, targetsAnswer, targetsList};
+ghost use Rattle.simulator.specs.Asked.{endOf, meets, met, marked, RowRight, valueOnNet};
+use crate::Calm;
+use crate::Index;
+use crate::Listed;
+use crate::Port;
+use crate::Side;
+use component::FlatIdx;
+use component::Id;
+use primitive::Kind;
+use primitive::Refusal;
+use tables::Counts;
+use value::Value;
+
+// Full size of a list: the most that can be listed.
+const NAMES: usize = 256;
+
+// The ends of a wire, by the place of their component among its words.
+const SOURCE: usize = 0;
+
+const TARGET: usize = 2;
+
+// Whether component i is of a kind. The kind's word is compared whole.
+pub fn is_kind(components: &[u64], i: usize, kind: Kind) -> bool
+    requires { ⌜ i < 65536 ⌝ }
+    ensures { λ r. ⌜ r ≡ is kind (fieldsIn (now (components .entry)) i) ⌝ }
+{
+    tables::word_of(components, i, 0) == primitive::number_of(kind) as u64
+}
+
+// Whether the first `count` entries of a list name only Clocks.
+fn only_clocks(components: &[u64], list: &[u16], count: usize) -> bool
+    requires { ⌜ count ≤ length (now list) ⌝ }
+    ensures { λ r. ⌜ r ≡ every (λ i. is Clock (fieldsIn (now (components .entry)) i)) (take count (now (list .entry))) ⌝ }
+{
+    let mut k: usize = 0;
+    while k < count {
+        let i = tables::entry(list, k);
+        if !is_kind(components, i, Kind::Clock) {
+            return false;
+        }
+        k += 1;
+    }
+    true
+}
+
+// The search by id, among the first `count` components: the sole way from an id to a flat index.
+fn search_id(components: &[u64], count: usize, id: Id) -> Index
+    requires { ⌜ count ≤ 256 ⌝ }
+    ensures { λ r. ⌜ r ≡ found (first (λ i. eqb (wordIn (now (components .entry)) i 1) (id .0)) (from 0 count)) ⌝ }
+{
+    let sought = id.0 as u64;
+    let mut i: usize = 0;
+    while i < count {
+        if tables::word_of(components, i, 1) == sought {
+            return Index::Is(FlatIdx(i));
+        }
+        i += 1;
+    }
+    Index::Refused(Refusal {
+        number: 17,
+        position: 0,
+    })
+}
+
+// The value of a port out of a component's `count`, which start at `first` of their table and have `width` bits.
+fn port_value(ports: &[u64], first: usize, count: usize, width: u64, port: usize) -> Port
+    requires { ⌜ first + count ≤ length (now ports) ⌝ }
+    ensures { λ r. ⌜ r ≡ cond (leb count port) (NoPort (refusedBy 17)) (PortIs (record { number = getD (now (ports .entry)) (first + port) 0; width = width })) ⌝ }
+{
+    if count <= port {
+        return Port::Refused(Refusal {
+            number: 17,
+            position: 0,
+        });
+    }
+    let number = ports[first + port];
+    Port::Is(Value { number, width })
+}
+
+// Marks the component at the far end of each wire that has component i at its near end.
+fn mark_ends(wires: &[u16], count: usize, near: usize, far: usize, i: usize, marks: &mut [u8])
+    requires { ⌜ (count ≤ 1024) × (near < 4) × (far < 4) × ((k : ℕ) → k < count → endOf (now wires) k far < length (now marks)) ⌝ }
+    ensures { λ _. ⌜ ((j : ℕ) → getD (now (marks .exit)) j 0 ≡ cond (meets (now (wires .entry)) count near far i j) 1 (getD (now (marks .entry)) j 0)) ⌝ }
+{
+    let mut k: usize = 0;
+    while k < count {
+        if tables::entry(wires, 4 * k + near) == i {
+            let at = tables::entry(wires, 4 * k + far);
+            marks[at] = 1;
+        }
+        k += 1;
+    }
+}
+
+// Lists the marked ones of the first `count` components, ascending. The answer is how many there are.
+fn list_marked(marks: &[u8], count: usize, list: &mut [u16]) -> usize
+    requires { ⌜ (count ≤ 256) × (count ≤ length (now marks)) × (count ≤ length (now list)) ⌝ }
+    ensures { λ r. ⌜ (r ≡ length (marked (now (marks .entry)) count)) × (now (list .exit) ≡ overlay (marked (now (marks .entry)) count) (now (list .entry))) ⌝ }
+{
+    let mut listed: usize = 0;
+    let mut j: usize = 0;
+    while j < count {
+        if marks[j] == 1 {
+            list[listed] = j as u16;
+            listed += 1;
+        }
+        j += 1;
+    }
+    listed
+}
+
+// Lists the components that wires join to component i, ascending and each once: those at the far ends of the wires that have it
+// at their near end. One pass over the wires, and one over the components.
+fn list_ends(
+    wires: &[u16],
+    counts: Counts,
+    near: usize,
+    far: usize,
+    i: usize,
+    list: &mut [u16],
+) -> usize
+    requires { ⌜ (counts .components ≤ 256) × (counts .wires ≤ 1024) × (near < 4) × (far < 4) × (256 ≤ length (now list)) × ((k : ℕ) → k < counts .wires → endOf (now wires) k far < 256) ⌝ }
+    ensures { λ r. ⌜ (r ≡ length (met (now (wires .entry)) (counts .wires) near far i (counts .components))) × (now (list .exit) ≡ overlay (met (now (wires .entry)) (counts .wires) near far i (counts .components)) (now (list .entry))) ⌝ }
+{
+    let mut marks = [0u8; 256];
+    mark_ends(wires, counts.wires, near, far, i, &mut marks);
+    list_marked(&marks, counts.components, list)
+}
+
+// The value of a port of component i on a side: 17 where there is none.
+fn value_in(
+    components: &[u64],
+    inputs: &[u64],
+    outputs: &[u64],
+    counts: Counts,
+    side: Side,
+    i: usize,
+    port: usize,
+) -> Port
+    requires { ⌜ (counts .components ≤ 256) × (i < counts .components → RowRight (now components) (now inputs) (now outputs) i) ⌝ }
+    ensures { λ r. ⌜ r ≡ valueOnNet (lent (now (components .entry)) (now (inputs .entry)) (now (outputs .entry)) [] counts) side i port ⌝ }
+{
+    if counts.components <= i {
+        return Port::Refused(Refusal {
+            number: 17,
+            position: 0,
+        });
+    }
+    let f = tables::fields_at(components, i);
+    match side {
+        Side::Inputs => {
+            let first = tables::word_of(components, i, 6) as usize;
+            port_value(
+                inputs,
+                first,
+                f.inputs as usize,
+                primitive::input_width(f),
+                port,
+            )
+        }
+        Side::Outputs => {
+            let first = tables::word_of(components, i, 7) as usize;
+            port_value(
+                outputs,
+                first,
+                f.outputs as usize,
+                primitive::output_width(f),
+                port,
+            )
+        }
+    }
+}
+
+// What the questions for sources and targets check: 2, with the list that is lent for the answer; 16; 17.
+fn list_number(
+    components: &[u64],
+    inputs: &[u64],
+    outputs: &[u64],
+    wires: &[u16],
+    current: &[u16],
+    following: &[u16],
+    standing: &[u16],
+    counts: Counts,
+    i: usize,
+    list: &[u16],
+) -> u32
+    ensures { λ r. ⌜ r ≡ listNumber (tablesOf (now (components .entry)) (now (inputs .entry)) (now (outputs .entry)) (now (wires .entry)) (now (current .entry)) (now (following .entry)) (now (standing .entry)) counts) i (now (list .entry)) ⌝ }
+{
+    if list.len() < NAMES {
+        return 2;
+    }
+    let number = net::net_number(
+        components,
+        inputs,
+        outputs,
+        wires,
+        current,
+        following,
+        standing,
+        counts,
+    );
+    if number != 0 {
+        return number;
+    }
+    if counts.components <= i {
+        return 17;
+    }
+    0
+}
+
+// Calm or not: whether the current list names only Clocks.
+pub fn is_calm(
+    components: &[u64],
+    inputs: &[u64],
+    outputs: &[u64],
+    wires: &[u16],
+    current: &[u16],
+    following: &[u16],
+    standing: &[u16],
+    counts: Counts,
+) -> Calm
+    ensures { λ r. ⌜ r ≡ calmAnswer (tablesOf (now (components .entry)) (now (inputs .entry)) (now (outputs .entry)) (now (wires .entry)) (now (current .entry)) (now (following .entry)) (now (standing .entry)) counts) ⌝ }
+{
+    let number = net::net_number(
+        components,
+        inputs,
+        outputs,
+        wires,
+        current,
+        following,
+        standing,
+        counts,
+    );
+    if number != 0 {
+        return Calm::Refused(Refusal {
+            number,
+            position: 0,
+        });
+    }
+    Calm::Is(only_clocks(components, current, counts.current))
+}
+
+// The index of an id.
+pub fn index_of(
+    components: &[u64],
+    inputs: &[u64],
+    outputs: &[u64],
+    wires: &[u16],
+    current: &[u16],
+    following: &[u16],
+    standing: &[u16],
+    counts: Counts,
+    id: Id,
+) -> Index
+    ensures { λ r. ⌜ r ≡ indexAnswer (tablesOf (now (components .entry)) (now (inputs .entry)) (now (outputs .entry)) (now (wires .entry)) (now (current .entry)) (now (following .entry)) (now (standing .entry)) counts) (id .0) ⌝ }
+{
+    let number = net::net_number(
+        components,
+        inputs,
+        outputs,
+        wires,
+        current,
+        following,
+        standing,
+        counts,
+    );
+    if number != 0 {
+        return Index::Refused(Refusal {
+            number,
+            position: 0,
+        });
+    }
+    search_id(components, counts.components, id)
+}
+
+// The value of a port of a component on a side.
+pub fn value_of(
+    components: &[u64],
+    inputs: &[u64],
+    outputs: &[u64],
+    wires: &[u16],
+    current: &[u16],
+    following: &[u16],
+    standing: &[u16],
+    counts: Counts,
+    side: Side,
+    index: FlatIdx,
+    port: usize,
+) -> Port
+    ensures { λ r. ⌜ r ≡ valueAnswer (tablesOf (now (components .entry)) (now (inputs .entry)) (now (outputs .entry)) (now (wires .entry)) (now (current .entry)) (now (following .entry)) (now (standing .entry)) counts) side (index .0) port ⌝ }
+{
+    let number = net::net_number(
+        components,
+        inputs,
+        outputs,
+        wires,
+        current,
+        following,
+        standing,
+        counts,
+    );
+    if number != 0 {
+        return Port::Refused(Refusal {
+            number,
+            position: 0,
+        });
+    }
+    value_in(components, inputs, outputs, counts, side, index.0, port)
+}
+
+// A component's sources, ascending and without repeats, into a list of full size. The answer is how many they are.
+pub fn sources_of(
+    components: &[u64],
+    inputs: &[u64],
+    outputs: &[u64],
+    wires: &[u16],
+    current: &[u16],
+    following: &[u16],
+    standing: &[u16],
+    counts: Counts,
+    index: FlatIdx,
+    list: &mut [u16],
+) -> Listed
+    ensures { λ r. ⌜ (r ≡ sourcesAnswer (tablesOf (now (components .entry)) (now (inputs .entry)) (now (outputs .entry)) (now (wires .entry)) (now (current .entry)) (now (following .entry)) (now (standing .entry)) counts) (index .0) (now (list .entry))) × (now (list .exit) ≡ sourcesList (tablesOf (now (components .entry)) (now (inputs .entry)) (now (outputs .entry)) (now (wires .entry)) (now (current .entry)) (now (following .entry)) (now (standing .entry)) counts) (index .0) (now (list .entry))) ⌝ }
+{
+    let number = list_number(
+        components,
+        inputs,
+        outputs,
+        wires,
+        current,
+        following,
+        standing,
+        counts,
+        index.0,
+        list,
+    );
+    if number != 0 {
+        return Listed::Refused(Refusal {
+            number,
+            position: 0,
+        });
+    }
+    Listed::Count(list_ends(wires, counts, TARGET, SOURCE, index.0, list))
+}
+
+// A component's targets, likewise.
+pub fn targets_of(
+    components: &[u64],
+    inputs: &[u64],
+    outputs: &[u64],
+    wires: &[u16],
+    current: &[u16],
+    following: &[u16],
+    standing: &[u16],
+    counts: Counts,
+    index: FlatIdx,
+    list: &mut [u16],
+) -> Listed
+    ensures { λ r. ⌜ (r ≡ targetsAnswer (tablesOf (now (components .entry)) (now (inputs .entry)) (now (outputs .entry)) (now (wires .entry)) (now (current .entry)) (now (following .entry)) (now (standing .entry)) counts) (index .0) (now (list .entry))) × (now (list .exit) ≡ targetsList (tablesOf (now (components .entry)) (now (inputs .entry)) (now (outputs .entry)) (now (wires .entry)) (now (current .entry)) (now (following .entry)) (now (standing .entry)) counts) (index .0) (now (list .entry))) ⌝ }
+{
+    let number = list_number(
+        components,
+        inputs,
+        outputs,
+        wires,
+        current,
+        following,
+        standing,
+        counts,
+        index.0,
+        list,
+    );
+    if number != 0 {
+        return Listed::Refused(Refusal {
+            number,
+            position: 0,
+        });
+    }
+    Listed::Count(list_ends(wires, counts, SOURCE, TARGET, index.0, list))
+}
