@@ -13,9 +13,9 @@ use Rattle.leads.proofs.Wires.{wire}
 use Rattle.flatten.specs.Descent.{pin}
 use Rattle.tables.specs.Tables.{fullSize, wiresIn, currentList, followingList, standingList}
 use Rattle.load.specs.Load.{loaded, loadVerdict, loadTables}
-use Rattle.net.specs.Net.{countsWithin, kindsObeyed, idsDistinct, portsFollow, valuesFit, constsHeld, wiresFit, inputsOnce, names, isNet}
+use Rattle.net.specs.Net.{countsWithin, kindsObeyed, idsDistinct, portsFollow, valuesFit, constsHeld, wiresFit, inputsOnce, names, isNet, netNumber}
 use Rattle.simulator.specs.Round.{leave, evaluated, send, visit, round, edited, calm, roundOf}
-use Rattle.simulator.specs.Calls.{netNumber, roundTables, editNumber, editTables, run, runAnswer, runGives}
+use Rattle.simulator.specs.Calls.{roundTables, editNumber, editTables, run, runAnswer, runGives}
 use Rattle.demands.specs.Lamp.{lamp, lampLoaded, lampSet}
 
 -- What the listing prints of it: the verdict, the wires, rounds until calm.

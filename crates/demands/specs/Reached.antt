@@ -8,7 +8,8 @@ use Rattle.component.specs.declared.Verdict.{Verdict}
 use Rattle.component.specs.declared.Verdict.the-variants.{Accepted}
 use Rattle.tables.specs.Tables.{Tables}
 use Rattle.load.specs.Load.{loadVerdict, loadTables}
-use Rattle.simulator.specs.Calls.{netNumber, roundTables, editTables}
+use Rattle.net.specs.Net.{netNumber}
+use Rattle.simulator.specs.Calls.{roundTables, editTables}
 
 -- Tables reached from a load of the file; whether a round has run since, and the time of the last (of no meaning before the first).
 -- A refused round or edit is a step too: its tables are those before it, and a refused round is none that has run.

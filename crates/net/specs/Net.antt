@@ -4,14 +4,14 @@ use mathlib.Core.Bool.{Bool, true, false, not, _&&_, _||_}
 use mathlib.Core.List.{List, [], _∷_, map}
 use lib.ListN.{length, getD}
 use lib.Dec.{eqb, leb, ltb}
-use Rattle.lists.specs.Lists.{from, every, total, distinct}
+use Rattle.lists.specs.Lists.{from, every, total, distinct, refusal, _if_}
 use Rattle.value.specs.Value.{below}
 use Rattle.primitive.specs.declared.kinds.Kind.the-variants.{Const}
 use Rattle.primitive.specs.Kinds.{is, primitive, obeys, inputWidth, outputWidth}
 use Rattle.flatten.specs.declared.Pin.{Pin}
 use Rattle.flatten.specs.declared.Wire.{Wire}
 use Rattle.tables.specs.declared.Counts.{Counts}
-use Rattle.tables.specs.Tables.{Tables, fieldsAt, idAt, firstInput, firstOutput, inputPlace, inputsAt, outputsAt, indexes, wiresIn, currentList, followingList, standingList}
+use Rattle.tables.specs.Tables.{Tables, tablesOf, fullSize, fieldsAt, idAt, firstInput, firstOutput, inputPlace, inputsAt, outputsAt, indexes, wiresIn, currentList, followingList, standingList}
 
 -- Counts are within the limits.
 unfoldable pub countsWithin : Counts → Bool
@@ -75,8 +75,19 @@ module _ (T : Tables) where
   unfoldable pub names : List ℕ → Bool
   names xs = every (λ i. ltb i (T .counts .components)) xs && distinct xs
 
+  -- All that is asked but of the three lists.
+  abbrev pub isCircuit : Bool
+  isCircuit =
+      countsWithin (T .counts) && kindsObeyed && idsDistinct && portsFollow && valuesFit && constsHeld && wiresFit && inputsOnce
+
   -- The tables are a net.
   unfoldable pub isNet : Bool
-  isNet =
-      countsWithin (T .counts) && kindsObeyed && idsDistinct && portsFollow && valuesFit && constsHeld && wiresFit && inputsOnce
-      && names (currentList T) && names (followingList T) && names (standingList T)
+  isNet = isCircuit && names (currentList T) && names (followingList T) && names (standingList T)
+
+-- What every call on tables checks first: 2, 16.
+unfoldable pub netNumber : Tables → ℕ
+netNumber T = refusal ((2 if not (fullSize T)) ∷ (16 if not (isNet T)) ∷ [])
+
+-- The tables that a test of the components, ports and wires is handed: it looks at no other, and at no list.
+abbrev pub lent : List ℕ → List ℕ → List ℕ → List ℕ → Counts → Tables
+lent cs is os ws m = tablesOf cs is os ws [] [] [] m

@@ -1,1 +1,6 @@
-// Whether lent tables are a net. Rule: docs/SPECIFICATION.md, "Numbers given back", check 16.
+// Whether lent tables are a net. Rule: docs/SPECIFICATION.md, "Numbers given back", check 16: a function for each clause.
+// A clause is handed only the tables that it looks at; where a later clause rests on an earlier one, its `requires` names it.
+mod ids;
+mod limits;
+mod rows;
+mod values;

@@ -15,7 +15,7 @@ use Rattle.tables.specs.declared.Answer.the-variants.{Done, Refused}
 use Rattle.tables.specs.Tables.{Tables, fullSize, fieldsAt, wiresIn, currentList}
 use Rattle.simulator.specs.declared.Ran.{Ran}
 use Rattle.simulator.specs.declared.Ran.the-variants.{Done as RanOut, Refused as NotRun}
-use Rattle.net.specs.Net.{isNet}
+use Rattle.net.specs.Net.{isNet, netNumber}
 use Rattle.simulator.specs.Round.{stateOf, leave, edited, calm, roundOf}
 
 -- The tables after a call of number k: a refusal changes no lent table.
@@ -25,10 +25,6 @@ after k new old = cond (eqb k 0) new old
 -- The answer to a call of number k.
 abbrev pub answer : ℕ → Tables → Answer
 answer k new = cond (eqb k 0) (Done (new .counts)) (Refused (refusedBy k))
-
--- What every call on tables checks first: 2, 16.
-unfoldable pub netNumber : Tables → ℕ
-netNumber T = refusal ((2 if not (fullSize T)) ∷ (16 if not (isNet T)) ∷ [])
 
 -- A round at time t: 2, 16.
 unfoldable pub roundTables : Tables → ℕ → Tables

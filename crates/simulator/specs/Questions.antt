@@ -23,9 +23,8 @@ use Rattle.simulator.specs.declared.Port.{Port}
 use Rattle.simulator.specs.declared.Port.the-variants.{Is as PortIs, Refused as NoPort}
 use Rattle.simulator.specs.declared.Listed.{Listed}
 use Rattle.simulator.specs.declared.Listed.the-variants.{Count, Refused as NotListed}
-use Rattle.net.specs.Net.{isNet}
+use Rattle.net.specs.Net.{isNet, netNumber}
 use Rattle.simulator.specs.Round.{calm}
-use Rattle.simulator.specs.Calls.{netNumber}
 
 -- Calm or not: 2, 16.
 unfoldable pub calmAnswer : Tables → Calm

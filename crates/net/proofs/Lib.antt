@@ -1,0 +1,2 @@
+pub mod StepsLaws
+pub mod ClausesLaws

@@ -1,0 +1,66 @@
+-- `id_from`: the id stands among the components still to come exactly if it stands from `start` on.
+-- Assumes nothing.
+use mathlib.Core.Path.{_≡_, refl, sym, _∙_}
+use mathlib.Core.List.{map}
+use Prim.Native.Nat.{_-_, _≤_}
+use native.Mathlib.Omega.{arith}
+use Rattle.lists.specs.Lists.{from, has}
+use Rattle.net.specs.Parts.{idIn}
+use Rattle.net.proofs.StepsLaws.{hasFrom-found, hasFrom-next, hasFrom-end}
+use borrow.Author.Needs.{needs}
+use Rattle.net.proofs.ids.id_from.Statement.{statement}
+use Rattle.net.proofs.ids.id_from.Tie as tie
+use Rattle.net.proofs.ids.id_from.Reads as reads
+use Rattle.net.proofs.ids.id_from.Lts as lts
+use Rattle.tables.proofs.word_of.Reads as word-of-reads
+
+abbrev Inv-loop : tie.InvT-loop
+Inv-loop components id start count i₀ i = (i ≤ count) × (has id (map (idIn components) (from i (count - i))) ≡ has id (map (idIn components) (from start (count - start))))
+
+abbrev μ-loop : tie.MeasureT-loop
+μ-loop components id start count i₀ i = count - i
+
+loop-holds : tie.Need-loop-holds Inv-loop μ-loop
+loop-holds c = (omega arith, refl)
+
+word-of-requires : tie.Need-word-of-requires Inv-loop μ-loop
+word-of-requires c κs = search needs
+
+returns : tie.Need-returns Inv-loop μ-loop
+returns c =
+    let a = c .before .before .before .before .before .args in
+    let l = c .before .before .before .loop in
+    hasFrom-found (idIn (a .components .now)) (a .id) (l .i) (a .count) _ (l .inv .1) (omega arith) (c .if1 .taken ∙ c .before .word-of .ensures)
+
+add-i : tie.Need-add-i Inv-loop μ-loop
+add-i c = search needs
+
+loop-less : tie.Need-loop-less Inv-loop μ-loop
+loop-less c = search needs
+
+loop-again : tie.Need-loop-again Inv-loop μ-loop
+loop-again c =
+    let a = c .before .before .before .before .before .args in
+    let l = c .before .before .before .loop in (
+      omega arith,
+      hasFrom-next (idIn (a .components .now)) (a .id) (l .i) (a .count) _ (l .inv .1) (omega arith) (λ e. c .if1 .left (e ∙ sym (c .before .word-of .ensures))),
+    )
+
+returns-2 : tie.Need-returns-2 Inv-loop μ-loop
+returns-2 c =
+    let a = c .before .before .before .args in
+    hasFrom-end (idIn (a .components .now)) (a .id) (c .before .loop .i) (a .count) _ (c .before .loop .inv .1) (omega arith)
+
+pub id-from-spec : {M : Type 1} → statement M
+id-from-spec =
+    tie.close
+    (tie.spec
+    Inv-loop
+    μ-loop
+    loop-holds
+    word-of-requires
+    returns
+    add-i
+    loop-less
+    loop-again
+    returns-2)

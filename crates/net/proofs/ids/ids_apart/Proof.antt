@@ -1,0 +1,78 @@
+-- `ids_apart`: the ids still to come are distinct exactly if all are.
+-- Assumes nothing.
+use mathlib.Core.Path.{_≡_, sym, ap, _∙_}
+use mathlib.Core.Bool.{true, false}
+use mathlib.Core.List.{List, map}
+use Prim.Native.Nat.{ℕ, _+_, _-_, _≤_}
+use native.Mathlib.Omega.{arith}
+use Rattle.lists.specs.Lists.{from, has, distinct}
+use Rattle.net.specs.Parts.{idIn}
+use Rattle.net.proofs.StepsLaws.{from-start, distinctFrom-again, distinctFrom-next, distinctFrom-end}
+use borrow.Author.Needs.{needs}
+use Rattle.net.proofs.ids.ids_apart.Statement.{statement}
+use Rattle.net.proofs.ids.ids_apart.Tie as tie
+use Rattle.net.proofs.ids.ids_apart.Reads as reads
+use Rattle.net.proofs.ids.ids_apart.Lts as lts
+use Rattle.net.proofs.ids.id_from.Reads as id-from-reads
+use Rattle.tables.proofs.word_of.Reads as word-of-reads
+
+abbrev Inv-loop : tie.InvT-loop
+Inv-loop components count i₀ i = (i ≤ count) × (distinct (map (idIn components) (from i (count - i))) ≡ distinct (map (idIn components) (from 0 count)))
+
+abbrev μ-loop : tie.MeasureT-loop
+μ-loop components count i₀ i = count - i
+
+loop-holds : tie.Need-loop-holds Inv-loop μ-loop
+loop-holds c = let a = c .before .args in (omega arith, ap (λ (l : List ℕ). distinct (map (idIn (a .components .now)) l)) (from-start (a .count)))
+
+word-of-requires : tie.Need-word-of-requires Inv-loop μ-loop
+word-of-requires c κs = search needs
+
+add-id-from : tie.Need-add-id-from Inv-loop μ-loop
+add-id-from c = search needs
+
+id-from-requires : tie.Need-id-from-requires Inv-loop μ-loop
+id-from-requires c κs = search needs
+
+returns : tie.Need-returns Inv-loop μ-loop
+returns c =
+    let a = c .before .before .before .before .before .before .args in
+    let l = c .before .before .before .before .loop in
+    let e : has (idIn (a .components .now) (l .i)) (map (idIn (a .components .now)) (from (l .i + 1) (a .count - (l .i + 1)))) ≡ true =
+    rw (← c .before .before .word-of .ensures) (sym (c .before .id-from .ensures) ∙ c .if1 .taken) in
+    distinctFrom-again (idIn (a .components .now)) (l .i) (a .count) _ (l .inv .1) (omega arith) e
+
+add-i : tie.Need-add-i Inv-loop μ-loop
+add-i c = search needs
+
+loop-less : tie.Need-loop-less Inv-loop μ-loop
+loop-less c = search needs
+
+loop-again : tie.Need-loop-again Inv-loop μ-loop
+loop-again c =
+    let a = c .before .before .before .before .before .before .args in
+    let l = c .before .before .before .before .loop in
+    let e : has (idIn (a .components .now) (l .i)) (map (idIn (a .components .now)) (from (l .i + 1) (a .count - (l .i + 1)))) ≡ false =
+    rw (← c .before .before .word-of .ensures) (sym (c .before .id-from .ensures) ∙ c .if1 .left) in
+    (omega arith, distinctFrom-next (idIn (a .components .now)) (l .i) (a .count) _ (l .inv .1) (omega arith) e)
+
+returns-2 : tie.Need-returns-2 Inv-loop μ-loop
+returns-2 c =
+    let a = c .before .before .before .args in
+    distinctFrom-end (idIn (a .components .now)) (c .before .loop .i) (a .count) _ (c .before .loop .inv .1) (omega arith)
+
+pub ids-apart-spec : {M : Type 1} → statement M
+ids-apart-spec =
+    tie.close
+    (tie.spec
+    Inv-loop
+    μ-loop
+    loop-holds
+    word-of-requires
+    add-id-from
+    id-from-requires
+    returns
+    add-i
+    loop-less
+    loop-again
+    returns-2)

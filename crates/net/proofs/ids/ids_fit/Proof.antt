@@ -1,0 +1,81 @@
+-- `ids_fit`: the ids still to come have 32 bits exactly if all do.
+-- Assumes nothing.
+use borrow.Author.Tests.{not-true, not-false}
+use mathlib.Core.Path.{_≡_, sym, ap, _∙_}
+use mathlib.Core.Bool.{Bool, true, false}
+use mathlib.Core.List.{List}
+use Prim.Native.Nat.{ℕ, _-_, _≤_}
+use native.Mathlib.Omega.{arith}
+use Rattle.lists.specs.Lists.{from, every}
+use Rattle.lists.proofs.ListsLaws.{every-fails, every-next, every-end}
+use Rattle.value.specs.Value.{below}
+use Rattle.net.specs.Parts.{idIn}
+use Rattle.net.proofs.StepsLaws.{from-start}
+use borrow.Author.Needs.{needs}
+use Rattle.net.proofs.ids.ids_fit.Statement.{statement}
+use Rattle.net.proofs.ids.ids_fit.Tie as tie
+use Rattle.net.proofs.ids.ids_fit.Reads as reads
+use Rattle.net.proofs.ids.ids_fit.Lts as lts
+use Rattle.tables.proofs.word_of.Reads as word-of-reads
+use Rattle.value.proofs.lies_below.Reads as lies-below-reads
+
+-- The id of component i has 32 bits.
+abbrev idFits : List ℕ → ℕ → Bool
+idFits cs i = below (idIn cs i) 32
+
+abbrev Inv-loop : tie.InvT-loop
+Inv-loop components count i₀ i = (i ≤ count) × (every (idFits components) (from i (count - i)) ≡ every (idFits components) (from 0 count))
+
+abbrev μ-loop : tie.MeasureT-loop
+μ-loop components count i₀ i = count - i
+
+loop-holds : tie.Need-loop-holds Inv-loop μ-loop
+loop-holds c = let a = c .before .args in (omega arith, ap (every (idFits (a .components .now))) (from-start (a .count)))
+
+word-of-requires : tie.Need-word-of-requires Inv-loop μ-loop
+word-of-requires c κs = search needs
+
+lies-below-requires : tie.Need-lies-below-requires Inv-loop μ-loop
+lies-below-requires c κs = search needs
+
+returns : tie.Need-returns Inv-loop μ-loop
+returns c =
+    let a = c .before .before .before .before .before .before .args in
+    let l = c .before .before .before .before .loop in
+    let e : idFits (a .components .now) (l .i) ≡ false =
+    ap (λ (x : ℕ). below x 32) (sym (c .before .before .word-of .ensures)) ∙ sym (c .before .lies-below .ensures) ∙ not-true _ (c .if1 .taken) in
+    every-fails (idFits (a .components .now)) (l .i) (a .count) _ (omega arith) e (l .inv .1)
+
+add-i : tie.Need-add-i Inv-loop μ-loop
+add-i c = search needs
+
+loop-less : tie.Need-loop-less Inv-loop μ-loop
+loop-less c = search needs
+
+loop-again : tie.Need-loop-again Inv-loop μ-loop
+loop-again c =
+    let a = c .before .before .before .before .before .before .args in
+    let l = c .before .before .before .before .loop in
+    let e : idFits (a .components .now) (l .i) ≡ true =
+    ap (λ (x : ℕ). below x 32) (sym (c .before .before .word-of .ensures)) ∙ sym (c .before .lies-below .ensures) ∙ not-false _ (c .if1 .left) in
+    (omega arith, every-next (idFits (a .components .now)) (l .i) (a .count) _ (omega arith) e (l .inv .1))
+
+returns-2 : tie.Need-returns-2 Inv-loop μ-loop
+returns-2 c =
+    let a = c .before .before .before .args in
+    every-end (idFits (a .components .now)) (c .before .loop .i) (a .count) _ (omega arith) (c .before .loop .inv .1)
+
+pub ids-fit-spec : {M : Type 1} → statement M
+ids-fit-spec =
+    tie.close
+    (tie.spec
+    Inv-loop
+    μ-loop
+    loop-holds
+    word-of-requires
+    lies-below-requires
+    returns
+    add-i
+    loop-less
+    loop-again
+    returns-2)

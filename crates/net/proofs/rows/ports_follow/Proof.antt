@@ -1,0 +1,122 @@
+-- `ports_follow`: the ports of the components still to come follow exactly if all do; the sums are those of the components passed,
+-- and are small, since each component obeys the table of kinds.
+-- Assumes nothing.
+use borrow.Author.Tests.{not-true, not-false}
+use mathlib.Core.Path.{_≡_, refl, sym, ap, _∙_}
+use mathlib.Core.Bool.{_&&_}
+use Prim.Native.Nat.{_*_, _-_, _≤_, _<_}
+use native.Mathlib.Omega.{arith}
+use lib.Dec.{eqb}
+use Rattle.lists.specs.Lists.{from, every}
+use Rattle.lists.proofs.ListsLaws.{every-fails, every-next}
+use Rattle.net.specs.Parts.{inputSum, outputSum, followAt}
+use Rattle.tables.specs.Tables.{wordIn}
+use Rattle.net.proofs.StepsLaws.{from-start, total-step}
+use Rattle.net.proofs.ClausesLaws.{kindsObeyed-inputs, kindsObeyed-outputs, portsFollow-fails, portsFollow-end}
+use borrow.Author.Needs.{needs}
+use Rattle.net.proofs.rows.ports_follow.Statement.{statement}
+use Rattle.net.proofs.rows.ports_follow.Tie as tie
+use Rattle.net.proofs.rows.ports_follow.Reads as reads
+use Rattle.net.proofs.rows.ports_follow.Lts as lts
+use Rattle.tables.proofs.word_of.Reads as word-of-reads
+
+abbrev Inv-loop : tie.InvT-loop
+Inv-loop components counts n inputs₀ outputs₀ i₀ inputs outputs i =
+    (i ≤ n) × (inputs ≡ inputSum components i) × (outputs ≡ outputSum components i) × (inputs ≤ 65536 * i) × (outputs ≤ 65536 * i)
+    × (every (followAt components) (from i (n - i)) ≡ every (followAt components) (from 0 n))
+
+abbrev μ-loop : tie.MeasureT-loop
+μ-loop components counts n inputs₀ outputs₀ i₀ inputs outputs i = n - i
+
+-- What the test of a turn says.
+tested : (c : tie.After-word-of2 Inv-loop μ-loop) →
+    (eqb (c .before .word-of .result) (c .before .before .before .loop .inputs) && eqb (c .word-of2 .result) (c .before .before .before .loop .outputs))
+    ≡ followAt (c .before .before .before .before .before .args .components .now) (c .before .before .before .loop .i)
+tested c =
+    let l = c .before .before .before .loop in
+    rw (c .before .word-of .ensures, c .word-of2 .ensures, l .inv .1, l .inv .2)
+
+loop-holds : tie.Need-loop-holds Inv-loop μ-loop
+loop-holds c =
+    let a = c .before .args in
+    (omega arith, refl, refl, omega arith, omega arith, ap (every (followAt (a .components .now))) (from-start (a .counts .components)))
+
+word-of-requires : tie.Need-word-of-requires Inv-loop μ-loop
+word-of-requires c κs = search needs
+
+word-of-requires-2 : tie.Need-word-of-requires-2 Inv-loop μ-loop
+word-of-requires-2 c κs = search needs
+
+returns : tie.Need-returns Inv-loop μ-loop
+returns c =
+    let a = c .before .before .before .before .before .before .args in
+    let l = c .before .before .before .before .loop in
+    portsFollow-fails (a .components .now) (a .counts)
+    (every-fails (followAt (a .components .now)) (l .i) (a .counts .components) _ (omega arith)
+    (sym (tested (c .before)) ∙ not-true _ (c .if1 .taken)) (l .inv .5))
+
+word-of-requires-3 : tie.Need-word-of-requires-3 Inv-loop μ-loop
+word-of-requires-3 c κs = search needs
+
+add-inputs : tie.Need-add-inputs Inv-loop μ-loop
+add-inputs c =
+    let s = c .before .before .before .before .before .before .before in
+    let l = c .before .before .before .before .before .loop in
+    omega (arith, c .word-of3 .ensures, l .inv .3, l .inv .0, s .pre .0,
+    kindsObeyed-inputs (s .args .components .now) (s .args .counts) (s .pre .1) (l .i) (omega arith))
+
+word-of-requires-4 : tie.Need-word-of-requires-4 Inv-loop μ-loop
+word-of-requires-4 c κs = search needs
+
+add-outputs : tie.Need-add-outputs Inv-loop μ-loop
+add-outputs c =
+    let s = c .before .before .before .before .before .before .before .before in
+    let l = c .before .before .before .before .before .before .loop in
+    omega (arith, c .word-of4 .ensures, l .inv .4, l .inv .0, s .pre .0,
+    kindsObeyed-outputs (s .args .components .now) (s .args .counts) (s .pre .1) (l .i) (omega arith))
+
+add-i : tie.Need-add-i Inv-loop μ-loop
+add-i c = search needs
+
+loop-less : tie.Need-loop-less Inv-loop μ-loop
+loop-less c = search needs
+
+loop-again : tie.Need-loop-again Inv-loop μ-loop
+loop-again c =
+    let s = c .before .before .before .before .before .before .before .before in
+    let l = c .before .before .before .before .before .before .loop in
+    let cs = s .args .components .now in
+    let h : l .i < s .args .counts .components = omega arith in (
+      omega arith,
+      total-step (λ j. wordIn cs j 4) (l .inputs) (c .before .word-of3 .result) (l .i) (l .inv .1) (c .before .word-of3 .ensures),
+      total-step (λ j. wordIn cs j 5) (l .outputs) (c .word-of4 .result) (l .i) (l .inv .2) (c .word-of4 .ensures),
+      omega (arith, l .inv .3, c .before .word-of3 .ensures, kindsObeyed-inputs cs (s .args .counts) (s .pre .1) (l .i) h),
+      omega (arith, l .inv .4, c .word-of4 .ensures, kindsObeyed-outputs cs (s .args .counts) (s .pre .1) (l .i) h),
+      every-next (followAt cs) (l .i) (s .args .counts .components) _ h
+      (sym (tested (c .before .before .before)) ∙ not-false _ (c .before .before .if1 .left)) (l .inv .5),
+    )
+
+returns-2 : tie.Need-returns-2 Inv-loop μ-loop
+returns-2 c =
+    let a = c .before .before .before .args in
+    let l = c .before .loop in
+    portsFollow-end (a .components .now) (a .counts) (l .i) (l .inputs) (l .outputs) (omega arith) (l .inv .1) (l .inv .2) (l .inv .5)
+
+pub ports-follow-spec : {M : Type 1} → statement M
+ports-follow-spec =
+    tie.close
+    (tie.spec
+    Inv-loop
+    μ-loop
+    loop-holds
+    word-of-requires
+    word-of-requires-2
+    returns
+    word-of-requires-3
+    add-inputs
+    word-of-requires-4
+    add-outputs
+    add-i
+    loop-less
+    loop-again
+    returns-2)

@@ -1,0 +1,77 @@
+-- `row_fits`: the numbers of its ports, each side against its width.
+-- Assumes nothing.
+use mathlib.Core.Path.{_≡_, ap, _∙_}
+use Prim.Native.Nat.{ℕ}
+use native.Mathlib.Omega.{arith}
+use Rattle.primitive.specs.declared.table.Fields.{Fields}
+use borrow.Author.Needs.{needs}
+use Rattle.net.proofs.values.row_fits.Statement.{statement}
+use Rattle.net.proofs.values.row_fits.Tie as tie
+use Rattle.net.proofs.values.row_fits.Reads as reads
+use Rattle.net.proofs.values.row_fits.Lts as lts
+use Rattle.net.proofs.values.all_below.Reads as all-below-reads
+use Rattle.primitive.proofs.input_width.Reads as input-width-reads
+use Rattle.primitive.proofs.output_width.Reads as output-width-reads
+use Rattle.tables.proofs.fields_at.Reads as fields-at-reads
+use Rattle.tables.proofs.word_of.Reads as word-of-reads
+
+fields-at-requires : tie.Need-fields-at-requires
+fields-at-requires c κs = search needs
+
+word-of-requires : tie.Need-word-of-requires
+word-of-requires c κs = search needs
+
+word-of-requires-2 : tie.Need-word-of-requires-2
+word-of-requires-2 c κs = search needs
+
+input-width-requires : tie.Need-input-width-requires
+input-width-requires c κs = search needs
+
+output-width-requires : tie.Need-output-width-requires
+output-width-requires c κs = search needs
+
+cast-all-below : tie.Need-cast-all-below
+cast-all-below c = search needs
+
+all-below-requires : tie.Need-all-below-requires
+all-below-requires c κs =
+    let s = c .before .before .before .before .before .before .before .before .before in
+    let f = c .before .before .before .before .before .fields-at in
+    omega (arith, s .pre .2, c .before .before .before .before .word-of .ensures, ap (λ (f : Fields). f .inputs) (f .ensures))
+
+cast-all-below-2 : tie.Need-cast-all-below-2
+cast-all-below-2 c = search needs
+
+all-below-requires-2 : tie.Need-all-below-requires-2
+all-below-requires-2 c κs =
+    let s = c .before .before .before .before .before .before .before .before .before .before .before in
+    let f = c .before .before .before .before .before .before .before .fields-at in
+    omega (arith, s .pre .3, c .before .before .before .before .before .word-of2 .ensures, ap (λ (f : Fields). f .outputs) (f .ensures))
+
+returns : tie.Need-returns
+returns c =
+    let a1 = c .before .before .all-below .ensures in
+    rw (
+      c .all-below2 .ensures,
+      a1,
+      c .before .before .before .before .output-width .ensures,
+      c .before .before .before .before .before .input-width .ensures,
+      c .before .before .before .before .before .before .word-of2 .ensures,
+      c .before .before .before .before .before .before .before .word-of .ensures,
+      c .before .before .before .before .before .before .before .before .fields-at .ensures,
+    )
+
+pub row-fits-spec : {M : Type 1} → statement M
+row-fits-spec =
+    tie.close
+    (tie.spec
+    fields-at-requires
+    word-of-requires
+    word-of-requires-2
+    input-width-requires
+    output-width-requires
+    cast-all-below
+    all-below-requires
+    cast-all-below-2
+    all-below-requires-2
+    returns)

@@ -1,0 +1,29 @@
+-- `row_held`: the test is that of the definition, on the words that the callees read.
+-- Assumes nothing.
+use borrow.Author.Needs.{needs}
+use Rattle.net.proofs.values.row_held.Statement.{statement}
+use Rattle.net.proofs.values.row_held.Tie as tie
+use Rattle.net.proofs.values.row_held.Reads as reads
+use Rattle.net.proofs.values.row_held.Lts as lts
+use Rattle.tables.proofs.word.Reads as word-reads
+use Rattle.tables.proofs.word_of.Reads as word-of-reads
+
+word-of-requires : tie.Need-word-of-requires
+word-of-requires c κs = search needs
+
+word-of-requires-2 : tie.Need-word-of-requires-2
+word-of-requires-2 c κs = search needs
+
+word-of-requires-3 : tie.Need-word-of-requires-3
+word-of-requires-3 c κs = search needs
+
+word-requires : tie.Need-word-requires
+word-requires c κs = search needs
+
+returns : tie.Need-returns
+returns c = rw (c .word .ensures, c .before .word-of3 .ensures, c .before .before .word-of2 .ensures, c .before .before .before .word-of .ensures)
+
+pub row-held-spec : {M : Type 1} → statement M
+row-held-spec =
+    tie.close
+    (tie.spec word-of-requires word-of-requires-2 word-of-requires-3 word-requires returns)

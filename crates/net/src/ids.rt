@@ -1,0 +1,64 @@
+// Components "have distinct ids"; an id has 32 bits.
+ghost use mathlib.Core.Path.{_≡_};
+ghost use mathlib.Core.List.{[], map};
+ghost use Prim.Native.Nat.{_-_, _≤_};
+ghost use Rattle.lists.specs.Lists.{from, every, has, distinct};
+ghost use Rattle.value.specs.Value.{below};
+ghost use Rattle.net.specs.Net.{lent, idsDistinct};
+ghost use Rattle.net.specs.Parts.{idIn};
+use tables::Counts;
+
+// Whether the id of each of the first count components has 32 bits.
+fn ids_fit(components: &[u64], count: usize) -> bool
+    requires { ⌜ count ≤ 256 ⌝ }
+    ensures { λ r. ⌜ r ≡ every (λ i. below (idIn (now (components .entry)) i) 32) (from 0 count) ⌝ }
+{
+    let mut i: usize = 0;
+    while i < count {
+        if !value::lies_below(tables::word_of(components, i, 1), 32) {
+            return false;
+        }
+        i += 1;
+    }
+    true
+}
+
+// Whether a component from `start` on has this id.
+fn id_from(components: &[u64], id: u64, start: usize, count: usize) -> bool
+    requires { ⌜ (start ≤ count) × (count ≤ 256) ⌝ }
+    ensures { λ r. ⌜ r ≡ has id (map (idIn (now (components .entry))) (from start (count - start))) ⌝ }
+{
+    let mut i = start;
+    while i < count {
+        if id == tables::word_of(components, i, 1) {
+            return true;
+        }
+        i += 1;
+    }
+    false
+}
+
+// Whether no two of the first count components have the same id.
+fn ids_apart(components: &[u64], count: usize) -> bool
+    requires { ⌜ count ≤ 256 ⌝ }
+    ensures { λ r. ⌜ r ≡ distinct (map (idIn (now (components .entry))) (from 0 count)) ⌝ }
+{
+    let mut i: usize = 0;
+    while i < count {
+        let id = tables::word_of(components, i, 1);
+        if id_from(components, id, i + 1, count) {
+            return false;
+        }
+        i += 1;
+    }
+    true
+}
+
+// Whether the components have distinct ids.
+pub fn ids_distinct(components: &[u64], counts: Counts) -> bool
+    requires { ⌜ counts .components ≤ 256 ⌝ }
+    ensures { λ r. ⌜ r ≡ idsDistinct (lent (now (components .entry)) [] [] [] counts) ⌝ }
+{
+    let n = counts.components;
+    ids_fit(components, n) & ids_apart(components, n)
+}

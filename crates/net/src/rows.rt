@@ -1,0 +1,58 @@
+// "components are of kinds 1 to 13, obey the table of kinds", and "ports follow each other without gaps"
+ghost use mathlib.Core.Path.{_≡_};
+ghost use mathlib.Core.Bool.{true};
+ghost use mathlib.Core.List.{[]};
+ghost use Prim.Native.Nat.{_<_, _≤_};
+ghost use Rattle.net.specs.Net.{lent, kindsObeyed, portsFollow};
+ghost use Rattle.net.specs.Parts.{obeyedAt};
+use tables::Counts;
+
+// Whether component i is of kinds 1 to 13 and obeys the table of kinds. A word that no field can hold obeys nothing.
+fn row_obeyed(components: &[u64], i: usize) -> bool
+    requires { ⌜ i < 65536 ⌝ }
+    ensures { λ r. ⌜ r ≡ obeyedAt (now (components .entry)) i ⌝ }
+{
+    if !tables::fields_fit(components, i) {
+        return false;
+    }
+    let f = tables::fields_at(components, i);
+    primitive::is_primitive(f) & primitive::obeys(f)
+}
+
+// Whether all components are and do.
+pub fn kinds_obeyed(components: &[u64], counts: Counts) -> bool
+    requires { ⌜ counts .components ≤ 256 ⌝ }
+    ensures { λ r. ⌜ r ≡ kindsObeyed (lent (now (components .entry)) [] [] [] counts) ⌝ }
+{
+    let n = counts.components;
+    let mut i: usize = 0;
+    while i < n {
+        if !row_obeyed(components, i) {
+            return false;
+        }
+        i += 1;
+    }
+    true
+}
+
+// Whether each component's ports start where those before it end, the first at 0 and the last ending at the counts.
+pub fn ports_follow(components: &[u64], counts: Counts) -> bool
+    requires { ⌜ (counts .components ≤ 256) × (kindsObeyed (lent (now components) [] [] [] counts) ≡ true) ⌝ }
+    ensures { λ r. ⌜ r ≡ portsFollow (lent (now (components .entry)) [] [] [] counts) ⌝ }
+{
+    let n = counts.components;
+    let mut inputs: u64 = 0;
+    let mut outputs: u64 = 0;
+    let mut i: usize = 0;
+    while i < n {
+        let first_input = tables::word_of(components, i, 6);
+        let first_output = tables::word_of(components, i, 7);
+        if !((first_input == inputs) & (first_output == outputs)) {
+            return false;
+        }
+        inputs += tables::word_of(components, i, 4);
+        outputs += tables::word_of(components, i, 5);
+        i += 1;
+    }
+    (counts.inputs as u64 == inputs) & (counts.outputs as u64 == outputs)
+}

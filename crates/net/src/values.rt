@@ -1,0 +1,85 @@
+// "values fit, each Const's output is its value"
+ghost use mathlib.Core.Path.{_≡_};
+ghost use mathlib.Core.Bool.{true, _&&_};
+ghost use mathlib.Core.List.{[]};
+ghost use Prim.Native.Nat.{_+_, _<_, _≤_};
+ghost use lib.ListN.{length};
+ghost use Rattle.lists.specs.Lists.{every};
+ghost use Rattle.value.specs.Value.{below};
+ghost use Rattle.tables.specs.Tables.{fieldsIn, fieldsFit, numbers};
+ghost use Rattle.net.specs.Net.{lent, kindsObeyed, valuesFit, constsHeld};
+ghost use Rattle.net.specs.Parts.{InputsInside, OutputsInside, PortsInside, fitAt, heldAt};
+use tables::Counts;
+
+// Whether the numbers of `count` ports that start at `start` lie below 2^width.
+fn all_below(ports: &[u64], start: usize, count: usize, width: u64) -> bool
+    requires { ⌜ start + count ≤ length (now ports) ⌝ }
+    ensures { λ r. ⌜ r ≡ every (λ x. below x width) (numbers (now (ports .entry)) start count) ⌝ }
+{
+    let end = start + count;
+    let mut i = start;
+    while i < end {
+        if !value::lies_below(ports[i], width) {
+            return false;
+        }
+        i += 1;
+    }
+    true
+}
+
+// Whether the values of component i fit its ports.
+fn row_fits(components: &[u64], inputs: &[u64], outputs: &[u64], i: usize) -> bool
+    requires { ⌜ (i < 65536) × (fieldsFit (fieldsIn (now components) i) ≡ true) × InputsInside (now components) (now inputs) i × OutputsInside (now components) (now outputs) i ⌝ }
+    ensures { λ r. ⌜ r ≡ fitAt (now (components .entry)) (now (inputs .entry)) (now (outputs .entry)) i ⌝ }
+{
+    let f = tables::fields_at(components, i);
+    let first_input = tables::word_of(components, i, 6) as usize;
+    let first_output = tables::word_of(components, i, 7) as usize;
+    let entering = primitive::input_width(f);
+    let leaving = primitive::output_width(f);
+    all_below(inputs, first_input, f.inputs as usize, entering)
+        & all_below(outputs, first_output, f.outputs as usize, leaving)
+}
+
+// Whether all values fit.
+pub fn values_fit(components: &[u64], inputs: &[u64], outputs: &[u64], counts: Counts) -> bool
+    requires { ⌜ (counts .components ≤ 256) × (kindsObeyed (lent (now components) [] [] [] counts) ≡ true) × PortsInside (now components) (now inputs) (now outputs) (counts .components) ⌝ }
+    ensures { λ r. ⌜ r ≡ valuesFit (lent (now (components .entry)) (now (inputs .entry)) (now (outputs .entry)) [] counts) ⌝ }
+{
+    let n = counts.components;
+    let mut i: usize = 0;
+    while i < n {
+        if !row_fits(components, inputs, outputs, i) {
+            return false;
+        }
+        i += 1;
+    }
+    true
+}
+
+// Whether component i, where it is a Const, holds its value.
+fn row_held(components: &[u64], outputs: &[u64], i: usize) -> bool
+    requires { ⌜ i < 65536 ⌝ }
+    ensures { λ r. ⌜ r ≡ heldAt (now (components .entry)) (now (outputs .entry)) i ⌝ }
+{
+    let kind = tables::word_of(components, i, 0);
+    let parameter = tables::word_of(components, i, 3);
+    let first = tables::word_of(components, i, 7) as usize;
+    !(kind == 13) | (tables::word(outputs, first) == parameter)
+}
+
+// Whether each Const's output is its value.
+pub fn consts_held(components: &[u64], outputs: &[u64], counts: Counts) -> bool
+    requires { ⌜ counts .components ≤ 256 ⌝ }
+    ensures { λ r. ⌜ r ≡ constsHeld (lent (now (components .entry)) [] (now (outputs .entry)) [] counts) ⌝ }
+{
+    let n = counts.components;
+    let mut i: usize = 0;
+    while i < n {
+        if !row_held(components, outputs, i) {
+            return false;
+        }
+        i += 1;
+    }
+    true
+}
