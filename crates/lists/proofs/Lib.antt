@@ -1,2 +1,3 @@
 pub mod ListsLaws
 pub mod MembersLaws
+pub mod NamesLaws
