@@ -1,20 +1,24 @@
 -- What the clauses of a net say, one by one.
 -- Assumes nothing.
 use mathlib.Core.Path.{_≡_, refl, sym, ap, _∙_}
-use mathlib.Core.Bool.{Bool, true, false, _&&_}
-use mathlib.Core.List.{List, [], _∷_}
-use Prim.Native.Nat.{ℕ, _+_, _-_, _≤_, _<_}
+use mathlib.Core.Bool.{Bool, true, false, _&&_, true≢false}
+use mathlib.Core.List.{List, [], _∷_, map}
+use Prim.Native.Nat.{ℕ, _+_, _-_, _*_, _≤_, _<_}
 use native.Mathlib.Omega.{arith}
 use borrow.Author.Tests.{leb-true}
-use lib.Dec.{leb, eqb}
-use Rattle.lists.specs.Lists.{from, every}
-use Rattle.lists.proofs.ListsLaws.{every-from, every-end}
+use lib.ListN.{getD}
+use lib.Dec.{leb, ltb, eqb}
+use Rattle.lists.specs.Lists.{from, every, distinct}
+use Rattle.lists.proofs.ListsLaws.{and-left, and-right, every-from, every-end}
+use Rattle.primitive.specs.Kinds.{primitive, obeys, inputWidth, outputWidth}
+use Rattle.flatten.specs.declared.Wire.{Wire}
 use Rattle.tables.specs.declared.Counts.{Counts}
-use Rattle.tables.specs.Tables.{Tables, wordIn, fieldsIn, fieldsFit}
+use Rattle.tables.specs.Tables.{Tables, wordIn, fieldsIn, fieldsFit, fieldsAt, inputPlace, wireAt}
 use Rattle.tables.proofs.RowsLaws.{obeyed-fit, fieldsFit-inputs, fieldsFit-outputs}
 use Rattle.tables.proofs.PartsLaws.{parts-sound}
-use Rattle.net.specs.Net.{countsWithin, lent, kindsObeyed, portsFollow}
-use Rattle.net.specs.Parts.{obeyedAt, inputSum, outputSum, followAt}
+use Rattle.net.specs.Net.{countsWithin, lent, kindsObeyed, portsFollow, isOutput, isInput, wiresFit, inputsOnce}
+use Rattle.net.proofs.StepsLaws.{every-map, map-map}
+use Rattle.net.specs.Parts.{obeyedAt, inputSum, outputSum, followAt, targetIn, placeIn, wireRight}
 
 -- "counts are within these limits"
 pub record Within (m : Counts) : Type 0 where
@@ -44,19 +48,20 @@ countsWithin-sound m e =
     }
 
 -- "components are of kinds 1 to 13, obey the table of kinds"
-module _ (cs : List ℕ) (m : Counts) (e : kindsObeyed (lent cs [] [] [] m) ≡ true) (i : ℕ) (h : i < m .components) where
-  pub kindsObeyed-at : obeyedAt cs i ≡ true
+module _ (T : Tables) (e : kindsObeyed T ≡ true) (i : ℕ) (h : i < T .counts .components) where
+  pub kindsObeyed-at : (primitive (fieldsAt T i) && obeys (fieldsAt T i)) ≡ true
   unfolding kindsObeyed
-  kindsObeyed-at = every-from (obeyedAt cs) (m .components) e i h
+  kindsObeyed-at = every-from (obeyedAt (T .components)) (T .counts .components) e i h
 
-  pub kindsObeyed-fit : fieldsFit (fieldsIn cs i) ≡ true
-  kindsObeyed-fit = obeyed-fit (fieldsIn cs i) kindsObeyed-at
+  -- So its words fit the fields of a component.
+  pub kindsObeyed-fit : fieldsFit (fieldsAt T i) ≡ true
+  kindsObeyed-fit = obeyed-fit (fieldsAt T i) kindsObeyed-at
 
-  pub kindsObeyed-inputs : wordIn cs i 4 < 65536
-  kindsObeyed-inputs = fieldsFit-inputs (fieldsIn cs i) kindsObeyed-fit
+  pub kindsObeyed-inputs : fieldsAt T i .inputs < 65536
+  kindsObeyed-inputs = fieldsFit-inputs (fieldsAt T i) kindsObeyed-fit
 
-  pub kindsObeyed-outputs : wordIn cs i 5 < 65536
-  kindsObeyed-outputs = fieldsFit-outputs (fieldsIn cs i) kindsObeyed-fit
+  pub kindsObeyed-outputs : fieldsAt T i .outputs < 65536
+  kindsObeyed-outputs = fieldsFit-outputs (fieldsAt T i) kindsObeyed-fit
 
 -- "ports follow each other without gaps": one component's do not; and what the loop over them all leaves to be tested.
 pub portsFollow-fails : (cs : List ℕ) (m : Counts) → false ≡ every (followAt cs) (from 0 (m .components))
@@ -72,3 +77,45 @@ portsFollow-end cs m i ins outs e p q so-far =
     let z : every (followAt cs) (from 0 (m .components)) ≡ true =
     sym (every-end (followAt cs) i (m .components) (every (followAt cs) (from 0 (m .components))) (omega arith) so-far) in
     rw (p, q, e, z)
+
+-- "wires have ends that exist and equal widths": where a component of wire k does not exist, and where both do.
+module _ (cs ws : List ℕ) (n k : ℕ) where
+  abbrev ends : Bool
+  ends = ltb (getD ws (4 * k) 0) n && ltb (targetIn ws k) n
+
+  pub wireRight-none : ends ≡ false → false ≡ wireRight cs ws n k
+  wireRight-none e =
+      none (ltb (getD ws (4 * k) 0) n) (ltb (targetIn ws k) n) (ltb (getD ws (4 * k + 1) 0) (wordIn cs (getD ws (4 * k) 0) 5))
+      (ltb (getD ws (4 * k + 3) 0) (wordIn cs (targetIn ws k) 4))
+      (eqb (outputWidth (fieldsIn cs (getD ws (4 * k) 0))) (inputWidth (fieldsIn cs (targetIn ws k)))) e
+    where
+      none : (a b x y z : Bool) → (a && b) ≡ false → false ≡ ((a && x) && (b && y) && z)
+      none true true x y z e = absurd (true≢false e)
+      none true false true y z e = refl
+      none true false false y z e = refl
+      none false b x y z e = refl
+
+  pub wireRight-both : ends ≡ true
+      → (ltb (getD ws (4 * k + 1) 0) (wordIn cs (getD ws (4 * k) 0) 5) && ltb (getD ws (4 * k + 3) 0) (wordIn cs (targetIn ws k) 4)
+      && eqb (outputWidth (fieldsIn cs (getD ws (4 * k) 0))) (inputWidth (fieldsIn cs (targetIn ws k)))) ≡ wireRight cs ws n k
+  wireRight-both e =
+      let a = and-left (ltb (getD ws (4 * k) 0) n) (ltb (targetIn ws k) n) e in
+      let b = and-right (ltb (getD ws (4 * k) 0) n) (ltb (targetIn ws k) n) e in
+      rw (a, b)
+
+module _ (cs ws : List ℕ) (m : Counts) where
+  abbrev T : Tables
+  T = lent cs [] [] ws m
+
+  abbrev right : Wire → Bool
+  right w = isOutput T (w .src) && isInput T (w .dst) && eqb (outputWidth (fieldsAt T (w .src .comp))) (inputWidth (fieldsAt T (w .dst .comp)))
+
+  -- All wires, by their places in the table.
+  pub wiresFit-every : every (wireRight cs ws (m .components)) (from 0 (m .wires)) ≡ wiresFit T
+  unfolding wiresFit
+  wiresFit-every = every-map right (wireAt T) (from 0 (m .wires))
+
+  -- "no input has two wires"
+  pub inputsOnce-places : distinct (map (placeIn cs ws) (from 0 (m .wires))) ≡ inputsOnce T
+  unfolding inputsOnce
+  inputsOnce-places = ap distinct (map-map (λ (w : Wire). inputPlace T (w .dst)) (wireAt T) (from 0 (m .wires)))

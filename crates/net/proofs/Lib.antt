@@ -1,2 +1,3 @@
 pub mod StepsLaws
+pub mod MarksLaws
 pub mod ClausesLaws

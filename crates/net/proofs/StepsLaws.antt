@@ -20,6 +20,15 @@ use Rattle.lists.proofs.MembersLaws.{from-last, total-append}
 pub from-start : (n : ℕ) → from 0 (n - 0) ≡ from 0 n
 from-start n = ap (from 0) (sub-zero n)
 
+-- A test of what each gives, and what each of these gives.
+pub every-map : {A : Type 0} (f : A → Bool) (g : ℕ → A) (xs : List ℕ) → every (λ x. f (g x)) xs ≡ every f (map g xs)
+every-map f g [] = refl
+every-map f g (x ∷ xs) = ap (λ (b : Bool). f (g x) && b) (every-map f g xs)
+
+pub map-map : {A : Type 0} (f : A → ℕ) (g : ℕ → A) (xs : List ℕ) → map (λ x. f (g x)) xs ≡ map f (map g xs)
+map-map f g [] = refl
+map-map f g (x ∷ xs) = ap (λ (l : List ℕ). f (g x) ∷ l) (map-map f g xs)
+
 -- A search for x among what is still to come.
 module _ (g : ℕ → ℕ) (x q n : ℕ) (b : Bool) (so-far : has x (map g (from q (n - q))) ≡ b) where
   pub hasFrom-found : q < n → x ≡ g q → true ≡ b

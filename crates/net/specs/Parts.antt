@@ -4,11 +4,11 @@
 --   followAt                        its ports start where those before it end
 --   InputsInside, OutputsInside     its ports stand in the lent tables
 -- Assumes nothing.
-use Prim.Native.Nat.{ℕ, _+_, _<_, _≤_}
+use Prim.Native.Nat.{ℕ, _+_, _*_, _<_, _≤_}
 use mathlib.Core.Bool.{Bool, not, _&&_, _||_}
 use mathlib.Core.List.{List}
 use lib.ListN.{length, getD}
-use lib.Dec.{eqb}
+use lib.Dec.{eqb, ltb}
 use Rattle.lists.specs.Lists.{from, every, total}
 use Rattle.value.specs.Value.{below}
 use Rattle.primitive.specs.declared.kinds.Kind.the-variants.{Const}
@@ -56,3 +56,22 @@ outputSum cs i = total (λ j. wordIn cs j 5) (from 0 i)
 -- The ports of component i start where those before it end.
 abbrev pub followAt : List ℕ → ℕ → Bool
 followAt cs i = eqb (wordIn cs i 6) (inputSum cs i) && eqb (wordIn cs i 7) (outputSum cs i)
+
+-- The target of wire k: its component.
+abbrev pub targetIn : List ℕ → ℕ → ℕ
+targetIn ws k = getD ws (4 * k + 2) 0
+
+-- Where the input that wire k enters stands in its table.
+abbrev pub placeIn : List ℕ → List ℕ → ℕ → ℕ
+placeIn cs ws k = wordIn cs (targetIn ws k) 6 + getD ws (4 * k + 3) 0
+
+-- The inputs that the first n wires enter exist, among full size.
+abbrev pub PlacesInside : List ℕ → List ℕ → ℕ → Type 0
+PlacesInside cs ws n = (k : ℕ) → k < n → (targetIn ws k < 256) × (placeIn cs ws k < 1024)
+
+-- The ends of wire k exist, of n components, and have equal widths.
+abbrev pub wireRight : List ℕ → List ℕ → ℕ → ℕ → Bool
+wireRight cs ws n k =
+    ltb (getD ws (4 * k) 0) n && ltb (getD ws (4 * k + 1) 0) (wordIn cs (getD ws (4 * k) 0) 5)
+    && (ltb (targetIn ws k) n && ltb (getD ws (4 * k + 3) 0) (wordIn cs (targetIn ws k) 4))
+    && eqb (outputWidth (fieldsIn cs (getD ws (4 * k) 0))) (inputWidth (fieldsIn cs (targetIn ws k)))

@@ -4,11 +4,13 @@
 use borrow.Author.Tests.{not-true, not-false}
 use mathlib.Core.Path.{_≡_, refl, sym, ap, _∙_}
 use mathlib.Core.Bool.{_&&_}
+use mathlib.Core.List.{[]}
 use Prim.Native.Nat.{_*_, _-_, _≤_, _<_}
 use native.Mathlib.Omega.{arith}
 use lib.Dec.{eqb}
 use Rattle.lists.specs.Lists.{from, every}
 use Rattle.lists.proofs.ListsLaws.{every-fails, every-next}
+use Rattle.net.specs.Net.{lent}
 use Rattle.net.specs.Parts.{inputSum, outputSum, followAt}
 use Rattle.tables.specs.Tables.{wordIn}
 use Rattle.net.proofs.StepsLaws.{from-start, total-step}
@@ -63,7 +65,7 @@ add-inputs c =
     let s = c .before .before .before .before .before .before .before in
     let l = c .before .before .before .before .before .loop in
     omega (arith, c .word-of3 .ensures, l .inv .3, l .inv .0, s .pre .0,
-    kindsObeyed-inputs (s .args .components .now) (s .args .counts) (s .pre .1) (l .i) (omega arith))
+    kindsObeyed-inputs (lent (s .args .components .now) [] [] [] (s .args .counts)) (s .pre .1) (l .i) (omega arith))
 
 word-of-requires-4 : tie.Need-word-of-requires-4 Inv-loop μ-loop
 word-of-requires-4 c κs = search needs
@@ -73,7 +75,7 @@ add-outputs c =
     let s = c .before .before .before .before .before .before .before .before in
     let l = c .before .before .before .before .before .before .loop in
     omega (arith, c .word-of4 .ensures, l .inv .4, l .inv .0, s .pre .0,
-    kindsObeyed-outputs (s .args .components .now) (s .args .counts) (s .pre .1) (l .i) (omega arith))
+    kindsObeyed-outputs (lent (s .args .components .now) [] [] [] (s .args .counts)) (s .pre .1) (l .i) (omega arith))
 
 add-i : tie.Need-add-i Inv-loop μ-loop
 add-i c = search needs
@@ -90,8 +92,8 @@ loop-again c =
       omega arith,
       total-step (λ j. wordIn cs j 4) (l .inputs) (c .before .word-of3 .result) (l .i) (l .inv .1) (c .before .word-of3 .ensures),
       total-step (λ j. wordIn cs j 5) (l .outputs) (c .word-of4 .result) (l .i) (l .inv .2) (c .word-of4 .ensures),
-      omega (arith, l .inv .3, c .before .word-of3 .ensures, kindsObeyed-inputs cs (s .args .counts) (s .pre .1) (l .i) h),
-      omega (arith, l .inv .4, c .word-of4 .ensures, kindsObeyed-outputs cs (s .args .counts) (s .pre .1) (l .i) h),
+      omega (arith, l .inv .3, c .before .word-of3 .ensures, kindsObeyed-inputs (lent cs [] [] [] (s .args .counts)) (s .pre .1) (l .i) h),
+      omega (arith, l .inv .4, c .word-of4 .ensures, kindsObeyed-outputs (lent cs [] [] [] (s .args .counts)) (s .pre .1) (l .i) h),
       every-next (followAt cs) (l .i) (s .args .counts .components) _ h
       (sym (tested (c .before .before .before)) ∙ not-false _ (c .before .before .if1 .left)) (l .inv .5),
     )

@@ -2,11 +2,12 @@
 -- Assumes nothing.
 use borrow.Author.Tests.{not-true, not-false}
 use mathlib.Core.Path.{_≡_, sym, ap, _∙_}
+use mathlib.Core.List.{[]}
 use Prim.Native.Nat.{_-_, _≤_}
 use native.Mathlib.Omega.{arith}
 use Rattle.lists.specs.Lists.{from, every}
 use Rattle.lists.proofs.ListsLaws.{every-fails, every-next, every-end}
-use Rattle.net.specs.Net.{valuesFit}
+use Rattle.net.specs.Net.{lent, valuesFit}
 use Rattle.net.specs.Parts.{fitAt}
 use Rattle.net.proofs.ClausesLaws.{kindsObeyed-fit}
 use Rattle.net.proofs.StepsLaws.{from-start}
@@ -31,7 +32,7 @@ row-fits-requires c κs =
     let s = c .before .before .before .before .before in
     let i = c .before .loop .i in (
       omega arith,
-      kindsObeyed-fit (s .args .components .now) (s .args .counts) (s .pre .1) i (omega arith),
+      kindsObeyed-fit (lent (s .args .components .now) [] [] [] (s .args .counts)) (s .pre .1) i (omega arith),
       s .pre .2 i (omega arith) .0,
       s .pre .2 i (omega arith) .1,
     )
