@@ -1,0 +1,182 @@
+-- What the components and the wires of a net are: the part of "the tables are a net" that no round and no edit writes.
+--   Sound T   components obey the table of kinds, their ports stand apart, wires have ends that exist, no input has two
+-- Assumes nothing.
+use mathlib.Core.Path.{_≡_, refl, sym, ap, _∙_}
+use mathlib.Core.Logic.{_⊎_, inl, inr}
+use mathlib.Core.Bool.{Bool, true, false, _&&_, true≢false}
+use mathlib.Core.List.{List, map}
+use Prim.Native.Nat.{ℕ, _+_, _≤_, _<_}
+use native.Mathlib.Omega.{arith}
+use native.Mathlib.Decide.{decLt}
+use borrow.Author.Tests.{eqb-true, ltb-true}
+use lib.ListN.{length}
+use lib.Dec.{eqb, ltb}
+use Rattle.lists.specs.Lists.{from, every, total, distinct}
+use Rattle.lists.proofs.ListsLaws.{and-left, and-right, every-from}
+use Rattle.lists.proofs.MembersLaws.{In, every-sound, distinct-sound}
+use Rattle.lists.proofs.NamesLaws.{distinct-key, total-below}
+use Rattle.primitive.specs.declared.kinds.Kind.the-variants.{Clock}
+use Rattle.primitive.specs.Kinds.{is, primitive, obeys, inputWidth, outputWidth}
+use Rattle.flatten.specs.declared.Wire.{Wire}
+use Rattle.tables.specs.Tables.{Tables, fullSize, fieldsAt, firstInput, firstOutput, inputPlace, outputPlace, indexes, wiresIn}
+use Rattle.net.specs.Net.{kindsObeyed, inputsBelow, outputsBelow, portsFollow, isOutput, isInput, wiresFit, inputsOnce, isNet}
+use Rattle.simulator.proofs.Ports.{Off}
+use Rattle.simulator.proofs.Evaluation.{clock-inputs}
+use Rattle.simulator.proofs.Clauses.{Sizes, fullSize-sound, Few, countsWithin-sound, Clauses, isNet-sound}
+
+pub record Sound (T : Tables) : Type 0 where
+  pub few : T .counts .components ≤ 256
+  pub obeyed : (i : ℕ) → i < T .counts .components → (primitive (fieldsAt T i) && obeys (fieldsAt T i)) ≡ true
+  pub inputs-apart : (i j : ℕ) → i < j → j < T .counts .components → firstInput T i + fieldsAt T i .inputs ≤ firstInput T j
+  pub outputs-apart : (i j : ℕ) → i < j → j < T .counts .components → firstOutput T i + fieldsAt T i .outputs ≤ firstOutput T j
+  pub inputs-in : (i : ℕ) → i < T .counts .components → firstInput T i + fieldsAt T i .inputs ≤ length (T .inputs)
+  pub outputs-in : (i : ℕ) → i < T .counts .components → firstOutput T i + fieldsAt T i .outputs ≤ length (T .outputs)
+  pub source : (w : Wire) → In w (wiresIn T) → w .src .comp < T .counts .components
+  pub source-port : (w : Wire) → In w (wiresIn T) → w .src .port < fieldsAt T (w .src .comp) .outputs
+  pub target : (w : Wire) → In w (wiresIn T) → w .dst .comp < T .counts .components
+  pub target-port : (w : Wire) → In w (wiresIn T) → w .dst .port < fieldsAt T (w .dst .comp) .inputs
+  pub widths : (w : Wire) → In w (wiresIn T) → outputWidth (fieldsAt T (w .src .comp)) ≡ inputWidth (fieldsAt T (w .dst .comp))
+  pub once : (w x : Wire) → In w (wiresIn T) → In x (wiresIn T) → inputPlace T (w .dst) ≡ inputPlace T (x .dst) → w ≡ x
+
+-- The tables of a net are sound.
+module _ (T : Tables) (full : fullSize T ≡ true) (net : isNet T ≡ true) where
+  abbrev n : ℕ
+  n = T .counts .components
+
+  sizes : Sizes T
+  sizes = fullSize-sound T full
+
+  clauses : Clauses T
+  clauses = isNet-sound T net
+
+  counts : Few (T .counts)
+  counts = countsWithin-sound (T .counts) (clauses .counts)
+
+  abbrev placed : ℕ → Bool
+  placed i = eqb (firstInput T i) (inputsBelow T i) && eqb (firstOutput T i) (outputsBelow T i)
+
+  each-placed : (i : ℕ) → i < n → placed i ≡ true
+  unfolding portsFollow
+  each-placed =
+      let a = every placed (indexes T) in
+      let b = eqb (T .counts .inputs) (inputsBelow T n) in
+      let c = eqb (T .counts .outputs) (outputsBelow T n) in
+      every-from placed n (and-left a b (and-left (a && b) c (clauses .ports)))
+
+  all-inputs : T .counts .inputs ≡ inputsBelow T n
+  unfolding portsFollow
+  all-inputs =
+      let a = every placed (indexes T) in
+      let b = eqb (T .counts .inputs) (inputsBelow T n) in
+      let c = eqb (T .counts .outputs) (outputsBelow T n) in
+      eqb-true (T .counts .inputs) (inputsBelow T n) (and-right a b (and-left (a && b) c (clauses .ports)))
+
+  all-outputs : T .counts .outputs ≡ outputsBelow T n
+  unfolding portsFollow
+  all-outputs =
+      let a = every placed (indexes T) in
+      let b = eqb (T .counts .inputs) (inputsBelow T n) in
+      let c = eqb (T .counts .outputs) (outputsBelow T n) in
+      eqb-true (T .counts .outputs) (outputsBelow T n) (and-right (a && b) c (clauses .ports))
+
+  input-start : (i : ℕ) → i < n → firstInput T i ≡ inputsBelow T i
+  input-start i h =
+      eqb-true (firstInput T i) (inputsBelow T i)
+      (and-left (eqb (firstInput T i) (inputsBelow T i)) (eqb (firstOutput T i) (outputsBelow T i)) (each-placed i h))
+
+  output-start : (i : ℕ) → i < n → firstOutput T i ≡ outputsBelow T i
+  output-start i h =
+      eqb-true (firstOutput T i) (outputsBelow T i)
+      (and-right (eqb (firstInput T i) (inputsBelow T i)) (eqb (firstOutput T i) (outputsBelow T i)) (each-placed i h))
+
+  abbrev fit : Wire → Bool
+  fit w = isOutput T (w .src) && isInput T (w .dst) && eqb (outputWidth (fieldsAt T (w .src .comp))) (inputWidth (fieldsAt T (w .dst .comp)))
+
+  each-fit : (w : Wire) → In w (wiresIn T) → fit w ≡ true
+  unfolding wiresFit
+  each-fit w h = every-sound fit w (wiresIn T) (clauses .wires) h
+
+  abbrev same : Wire → Bool
+  same w = eqb (outputWidth (fieldsAt T (w .src .comp))) (inputWidth (fieldsAt T (w .dst .comp)))
+
+  leaves : (w : Wire) → In w (wiresIn T) → isOutput T (w .src) ≡ true
+  leaves w h = and-left (isOutput T (w .src)) (isInput T (w .dst)) (and-left (isOutput T (w .src) && isInput T (w .dst)) (same w) (each-fit w h))
+
+  enters : (w : Wire) → In w (wiresIn T) → isInput T (w .dst) ≡ true
+  enters w h = and-right (isOutput T (w .src)) (isInput T (w .dst)) (and-left (isOutput T (w .src) && isInput T (w .dst)) (same w) (each-fit w h))
+
+  pub isNet-wiring : Sound T
+  unfolding kindsObeyed inputsOnce
+  isNet-wiring =
+      record {
+        few = counts .components;
+        obeyed = every-from (λ i. primitive (fieldsAt T i) && obeys (fieldsAt T i)) n (clauses .kinds);
+        inputs-apart = λ i j h l. omega (arith, input-start i (omega arith), input-start j l, total-below (λ k. fieldsAt T k .inputs) i j h);
+        outputs-apart = λ i j h l. omega (arith, output-start i (omega arith), output-start j l, total-below (λ k. fieldsAt T k .outputs) i j h);
+        inputs-in = λ i h. omega (arith, input-start i h, all-inputs, counts .inputs, sizes .inputs, total-below (λ k. fieldsAt T k .inputs) i n h);
+        outputs-in = λ i h. omega (arith, output-start i h, all-outputs, counts .outputs, sizes .outputs, total-below (λ k. fieldsAt T k .outputs) i n h);
+        source = λ w h. ltb-true (w .src .comp) n (and-left (ltb (w .src .comp) n) (ltb (w .src .port) (fieldsAt T (w .src .comp) .outputs)) (leaves w h));
+        source-port = λ w h. ltb-true (w .src .port) (fieldsAt T (w .src .comp) .outputs) (and-right (ltb (w .src .comp) n) (ltb (w .src .port) (fieldsAt T (w .src .comp) .outputs)) (leaves w h));
+        target = λ w h. ltb-true (w .dst .comp) n (and-left (ltb (w .dst .comp) n) (ltb (w .dst .port) (fieldsAt T (w .dst .comp) .inputs)) (enters w h));
+        target-port = λ w h. ltb-true (w .dst .port) (fieldsAt T (w .dst .comp) .inputs) (and-right (ltb (w .dst .comp) n) (ltb (w .dst .port) (fieldsAt T (w .dst .comp) .inputs)) (enters w h));
+        widths = λ w h. eqb-true (outputWidth (fieldsAt T (w .src .comp))) (inputWidth (fieldsAt T (w .dst .comp))) (and-right (isOutput T (w .src) && isInput T (w .dst)) (same w) (each-fit w h));
+        once = λ w x h l e. distinct-key (λ (v : Wire). inputPlace T (v .dst)) (wiresIn T) w x (distinct-sound (map (λ (v : Wire). inputPlace T (v .dst)) (wiresIn T)) (clauses .inputs)) h l e;
+      }
+
+-- Where ports of two components stand.
+module _ (T : Tables) (g : Sound T) where
+  -- The outputs of two components stand apart.
+  pub outputs-beside : (i j : ℕ) → i < T .counts .components → j < T .counts .components → (j ≡ i → ⊥)
+      → (firstOutput T i + fieldsAt T i .outputs ≤ firstOutput T j) ⊎ (firstOutput T j + fieldsAt T j .outputs ≤ firstOutput T i)
+  outputs-beside i j h l ne = by-order (decLt i j) (decLt j i)
+    where
+      by-order : Dec (i < j) → Dec (j < i)
+          → (firstOutput T i + fieldsAt T i .outputs ≤ firstOutput T j) ⊎ (firstOutput T j + fieldsAt T j .outputs ≤ firstOutput T i)
+      by-order (yes a) b = inl (g .outputs-apart i j a l)
+      by-order (no a) (yes b) = inr (g .outputs-apart j i b h)
+      by-order (no a) (no b) = absurd (ne (omega arith))
+
+  pub inputs-beside : (i j : ℕ) → i < T .counts .components → j < T .counts .components → (j ≡ i → ⊥)
+      → (firstInput T i + fieldsAt T i .inputs ≤ firstInput T j) ⊎ (firstInput T j + fieldsAt T j .inputs ≤ firstInput T i)
+  inputs-beside i j h l ne = by-order (decLt i j) (decLt j i)
+    where
+      by-order : Dec (i < j) → Dec (j < i)
+          → (firstInput T i + fieldsAt T i .inputs ≤ firstInput T j) ⊎ (firstInput T j + fieldsAt T j .inputs ≤ firstInput T i)
+      by-order (yes a) b = inl (g .inputs-apart i j a l)
+      by-order (no a) (yes b) = inr (g .inputs-apart j i b h)
+      by-order (no a) (no b) = absurd (ne (omega arith))
+
+  -- A wire's output is none of another component's,
+  pub outputs-off : (i : ℕ) (w : Wire) → i < T .counts .components → In w (wiresIn T) → (w .src .comp ≡ i → ⊥)
+      → Off (firstOutput T i) (fieldsAt T i .outputs) (outputPlace T (w .src))
+  outputs-off i w h m ne = by-side (outputs-beside i (w .src .comp) h (g .source w m) ne)
+    where
+      by-side : (firstOutput T i + fieldsAt T i .outputs ≤ firstOutput T (w .src .comp))
+          ⊎ (firstOutput T (w .src .comp) + fieldsAt T (w .src .comp) .outputs ≤ firstOutput T i)
+          → Off (firstOutput T i) (fieldsAt T i .outputs) (outputPlace T (w .src))
+      by-side (inl a) = inr (omega arith)
+      by-side (inr a) = inl (omega (arith, g .source-port w m))
+
+  -- and its input none of another component's.
+  pub inputs-off : (i : ℕ) (w : Wire) → i < T .counts .components → In w (wiresIn T) → (i ≡ w .dst .comp → ⊥)
+      → Off (firstInput T i) (fieldsAt T i .inputs) (inputPlace T (w .dst))
+  inputs-off i w h m ne = by-side (inputs-beside i (w .dst .comp) h (g .target w m) (λ e. ne (sym e)))
+    where
+      by-side : (firstInput T i + fieldsAt T i .inputs ≤ firstInput T (w .dst .comp))
+          ⊎ (firstInput T (w .dst .comp) + fieldsAt T (w .dst .comp) .inputs ≤ firstInput T i)
+          → Off (firstInput T i) (fieldsAt T i .inputs) (inputPlace T (w .dst))
+      by-side (inl a) = inr (omega arith)
+      by-side (inr a) = inl (omega (arith, g .target-port w m))
+
+  -- A wire's input is there to be written.
+  pub input-room : (w : Wire) → In w (wiresIn T) → inputPlace T (w .dst) < length (T .inputs)
+  input-room w m = omega (arith, g .target-port w m, g .inputs-in (w .dst .comp) (g .target w m))
+
+  -- The target of a wire has an input, so it is no Clock.
+  pub target-unclocked : (w : Wire) → In w (wiresIn T) → is Clock (fieldsAt T (w .dst .comp)) ≡ false
+  target-unclocked w m = by-test (is Clock (fieldsAt T (w .dst .comp))) refl
+    where
+      by-test : (b : Bool) → is Clock (fieldsAt T (w .dst .comp)) ≡ b → b ≡ false
+      by-test true e =
+          absurd (omega (arith, g .target-port w m, clock-inputs (fieldsAt T (w .dst .comp)) (g .obeyed (w .dst .comp) (g .target w m)) e))
+      by-test false e = refl
