@@ -1,4 +1,6 @@
 // Rounds, edits and questions over lent tables. Rules: docs/SPECIFICATION.md, "Rounds" and "Numbers given back". Source: simulator.rs.
+mod rounds;
+
 use component::FlatIdx;
 use primitive::Refusal;
 use tables::Counts;
