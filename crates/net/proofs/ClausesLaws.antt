@@ -5,20 +5,20 @@ use mathlib.Core.Bool.{Bool, true, false, _&&_, true≢false}
 use mathlib.Core.List.{List, [], _∷_, map}
 use Prim.Native.Nat.{ℕ, _+_, _-_, _*_, _≤_, _<_}
 use native.Mathlib.Omega.{arith}
-use borrow.Author.Tests.{leb-true}
-use lib.ListN.{getD}
+use borrow.Author.Tests.{leb-true, ltb-true, eqb-true}
+use lib.ListN.{length, getD}
 use lib.Dec.{leb, ltb, eqb}
 use Rattle.lists.specs.Lists.{from, every, distinct}
 use Rattle.lists.proofs.ListsLaws.{and-left, and-right, every-from, every-end}
 use Rattle.primitive.specs.Kinds.{primitive, obeys, inputWidth, outputWidth}
 use Rattle.flatten.specs.declared.Wire.{Wire}
 use Rattle.tables.specs.declared.Counts.{Counts}
-use Rattle.tables.specs.Tables.{Tables, wordIn, fieldsIn, fieldsFit, fieldsAt, inputPlace, wireAt}
+use Rattle.tables.specs.Tables.{Tables, wordIn, fieldsIn, fieldsFit, fieldsAt, firstInput, firstOutput, inputPlace, wireAt}
 use Rattle.tables.proofs.RowsLaws.{obeyed-fit, fieldsFit-inputs, fieldsFit-outputs}
-use Rattle.tables.proofs.PartsLaws.{parts-sound}
-use Rattle.net.specs.Net.{countsWithin, lent, kindsObeyed, portsFollow, isOutput, isInput, wiresFit, inputsOnce}
-use Rattle.net.proofs.StepsLaws.{every-map, map-map}
-use Rattle.net.specs.Parts.{obeyedAt, inputSum, outputSum, followAt, targetIn, placeIn, wireRight}
+use Rattle.tables.proofs.PartsLaws.{AllTrue, parts-sound}
+use Rattle.net.specs.Net.{countsWithin, lent, kindsObeyed, inputsBelow, outputsBelow, portsFollow, isOutput, isInput, wiresFit, inputsOnce}
+use Rattle.net.proofs.StepsLaws.{every-map, map-map, total-room}
+use Rattle.net.specs.Parts.{obeyedAt, inputSum, outputSum, followAt, targetIn, placeIn, wireRight, PortsInside, PlacesInside}
 
 -- "counts are within these limits"
 pub record Within (m : Counts) : Type 0 where
@@ -78,6 +78,54 @@ portsFollow-end cs m i ins outs e p q so-far =
     sym (every-end (followAt cs) i (m .components) (every (followAt cs) (from 0 (m .components))) (omega arith) so-far) in
     rw (p, q, e, z)
 
+-- What it says of component i: where its ports start, and that they end within the counts.
+module _ (T : Tables) (e : portsFollow T ≡ true) where
+  abbrev cs : List ℕ
+  cs = T .components
+
+  abbrev n : ℕ
+  n = T .counts .components
+
+  follow-parts : AllTrue (every (followAt cs) (from 0 n) ∷ eqb (T .counts .inputs) (inputsBelow T n) ∷ eqb (T .counts .outputs) (outputsBelow T n) ∷ [])
+  unfolding portsFollow
+  follow-parts =
+      parts-sound (every (followAt cs) (from 0 n)) (eqb (T .counts .inputs) (inputsBelow T n) ∷ eqb (T .counts .outputs) (outputsBelow T n) ∷ []) e
+
+  pub portsFollow-inputCount : T .counts .inputs ≡ inputsBelow T n
+  portsFollow-inputCount = eqb-true (T .counts .inputs) (inputsBelow T n) (follow-parts .1 .0)
+
+  pub portsFollow-outputCount : T .counts .outputs ≡ outputsBelow T n
+  portsFollow-outputCount = eqb-true (T .counts .outputs) (outputsBelow T n) (follow-parts .1 .1 .0)
+
+  module _ (i : ℕ) (h : i < n) where
+    pub portsFollow-firstInput : firstInput T i ≡ inputsBelow T i
+    portsFollow-firstInput =
+        eqb-true (firstInput T i) (inputsBelow T i)
+        (and-left (eqb (firstInput T i) (inputsBelow T i)) (eqb (firstOutput T i) (outputsBelow T i)) (every-from (followAt cs) n (follow-parts .0) i h))
+
+    pub portsFollow-firstOutput : firstOutput T i ≡ outputsBelow T i
+    portsFollow-firstOutput =
+        eqb-true (firstOutput T i) (outputsBelow T i)
+        (and-right (eqb (firstInput T i) (inputsBelow T i)) (eqb (firstOutput T i) (outputsBelow T i)) (every-from (followAt cs) n (follow-parts .0) i h))
+
+    pub portsFollow-inputs : firstInput T i + fieldsAt T i .inputs ≤ T .counts .inputs
+    portsFollow-inputs =
+        omega (arith, portsFollow-firstInput, portsFollow-inputCount, total-room (λ j. fieldsAt T j .inputs) i n h)
+
+    pub portsFollow-outputs : firstOutput T i + fieldsAt T i .outputs ≤ T .counts .outputs
+    portsFollow-outputs =
+        omega (arith, portsFollow-firstOutput, portsFollow-outputCount, total-room (λ j. fieldsAt T j .outputs) i n h)
+
+  -- The ports of an earlier component end where those of a later one start, or before.
+  module _ (i j : ℕ) (l : i < j) (h : j < n) where
+    pub portsFollow-inputsApart : firstInput T i + fieldsAt T i .inputs ≤ firstInput T j
+    portsFollow-inputsApart =
+        omega (arith, portsFollow-firstInput i (omega arith), portsFollow-firstInput j h, total-room (λ k. fieldsAt T k .inputs) i j l)
+
+    pub portsFollow-outputsApart : firstOutput T i + fieldsAt T i .outputs ≤ firstOutput T j
+    portsFollow-outputsApart =
+        omega (arith, portsFollow-firstOutput i (omega arith), portsFollow-firstOutput j h, total-room (λ k. fieldsAt T k .outputs) i j l)
+
 -- "wires have ends that exist and equal widths": where a component of wire k does not exist, and where both do.
 module _ (cs ws : List ℕ) (n k : ℕ) where
   abbrev ends : Bool
@@ -119,3 +167,39 @@ module _ (cs ws : List ℕ) (m : Counts) where
   pub inputsOnce-places : distinct (map (placeIn cs ws) (from 0 (m .wires))) ≡ inputsOnce T
   unfolding inputsOnce
   inputsOnce-places = ap distinct (map-map (λ (w : Wire). inputPlace T (w .dst)) (wireAt T) (from 0 (m .wires)))
+
+  -- Wire k of a table that passes.
+  module _ (e : wiresFit T ≡ true) (k : ℕ) (h : k < m .wires) where
+    pub wiresFit-right : wireRight cs ws (m .components) k ≡ true
+    wiresFit-right = every-from (wireRight cs ws (m .components)) (m .wires) (wiresFit-every ∙ e) k h
+
+    wire-parts : AllTrue (isOutput T (wireAt T k .src) ∷ isInput T (wireAt T k .dst)
+        ∷ eqb (outputWidth (fieldsAt T (wireAt T k .src .comp))) (inputWidth (fieldsAt T (wireAt T k .dst .comp))) ∷ [])
+    wire-parts =
+        parts-sound (isOutput T (wireAt T k .src)) (isInput T (wireAt T k .dst)
+        ∷ eqb (outputWidth (fieldsAt T (wireAt T k .src .comp))) (inputWidth (fieldsAt T (wireAt T k .dst .comp))) ∷ []) wiresFit-right
+
+    pub wiresFit-target : targetIn ws k < m .components
+    wiresFit-target =
+        ltb-true _ _ (and-left (ltb (targetIn ws k) (m .components)) (ltb (getD ws (4 * k + 3) 0) (wordIn cs (targetIn ws k) 4)) (wire-parts .1 .0))
+
+    pub wiresFit-port : getD ws (4 * k + 3) 0 < wordIn cs (targetIn ws k) 4
+    wiresFit-port =
+        ltb-true _ _ (and-right (ltb (targetIn ws k) (m .components)) (ltb (getD ws (4 * k + 3) 0) (wordIn cs (targetIn ws k) 4)) (wire-parts .1 .0))
+
+-- What the clauses before it give the tests of values and of inputs.
+module _ (cs : List ℕ) (m : Counts) (few : countsWithin m ≡ true) (follow : portsFollow (lent cs [] [] [] m) ≡ true) where
+  pub portsInside : (is os : List ℕ) → 1024 ≤ length is → 1024 ≤ length os → PortsInside cs is os (m .components)
+  portsInside is os a b i h =
+      let w = countsWithin-sound m few in (
+        omega (arith, portsFollow-inputs (lent cs [] [] [] m) follow i h),
+        omega (arith, portsFollow-outputs (lent cs [] [] [] m) follow i h),
+      )
+
+  pub placesInside : (ws : List ℕ) → wiresFit (lent cs [] [] ws m) ≡ true → PlacesInside cs ws (m .wires)
+  placesInside ws e k h =
+      let w = countsWithin-sound m few in
+      let t = wiresFit-target cs ws m e k h in (
+        omega arith,
+        omega (arith, wiresFit-port cs ws m e k h, portsFollow-inputs (lent cs [] [] [] m) follow (targetIn ws k) t),
+      )

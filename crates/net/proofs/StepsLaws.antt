@@ -14,7 +14,7 @@ use lib.Seq.{slice, slice-cons, slice-empty}
 use lib.Dec.{eqb}
 use Rattle.lists.specs.Lists.{from, every, total, has, distinct}
 use Rattle.lists.proofs.ListsLaws.{from-step, from-end}
-use Rattle.lists.proofs.MembersLaws.{from-last, total-append}
+use Rattle.lists.proofs.MembersLaws.{from-last, from-append, total-append}
 
 -- Before the first turn.
 pub from-start : (n : ℕ) → from 0 (n - 0) ≡ from 0 n
@@ -84,3 +84,15 @@ total-more g i =
 
 pub total-step : (g : ℕ → ℕ) (s x i : ℕ) → s ≡ total g (from 0 i) → x ≡ g i → s + x ≡ total g (from 0 (i + 1))
 total-step g s x i e h = omega (arith, total-more g i)
+
+-- A sum of fewer is no larger.
+pub total-mono : (g : ℕ → ℕ) (i n : ℕ) → i ≤ n → total g (from 0 i) ≤ total g (from 0 n)
+total-mono g i n h =
+    let e : n ≡ i + (n - i) = omega arith in
+    let a : total g (from 0 n) ≡ total g (from 0 i) + total g (from (0 + i) (n - i)) =
+    ap (λ (k : ℕ). total g (from 0 k)) e ∙ ap (total g) (from-append 0 i (n - i)) ∙ total-append g (from 0 i) (from (0 + i) (n - i)) in
+    omega (arith, a)
+
+-- What stands below i, with what i gives, is no more than what stands below a later j.
+pub total-room : (g : ℕ → ℕ) (i j : ℕ) → i < j → total g (from 0 i) + g i ≤ total g (from 0 j)
+total-room g i j h = omega (arith, total-more g i, total-mono g (i + 1) j (omega arith))

@@ -10,9 +10,6 @@ use Rattle.net.proofs.StepsLaws.{hasFrom-found, hasFrom-next, hasFrom-e
 use borrow.Author.Needs.{needs}
 use Rattle.net.proofs.ids.id_from.Statement.{statement}
 use Rattle.net.proofs.ids.id_from.Tie as tie
-use Rattle.net.proofs.ids.id_from.Reads as reads
-use Rattle.net.proofs.ids.id_from.Lts as lts
-use Rattle.tables.proofs.word_of.Reads as word-of-reads
 
 abbrev Inv-loop : tie.InvT-loop
 Inv-loop components id start count i₀ i = (i ≤ count) × (has id (map (idIn components) (from i (count - i))) ≡ has id (map (idIn components) (from start (count - start))))

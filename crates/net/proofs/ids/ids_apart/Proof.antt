@@ -11,10 +11,6 @@ use Rattle.net.proofs.StepsLaws.{from-start, distinctFrom-again, distin
 use borrow.Author.Needs.{needs}
 use Rattle.net.proofs.ids.ids_apart.Statement.{statement}
 use Rattle.net.proofs.ids.ids_apart.Tie as tie
-use Rattle.net.proofs.ids.ids_apart.Reads as reads
-use Rattle.net.proofs.ids.ids_apart.Lts as lts
-use Rattle.net.proofs.ids.id_from.Reads as id-from-reads
-use Rattle.tables.proofs.word_of.Reads as word-of-reads
 
 abbrev Inv-loop : tie.InvT-loop
 Inv-loop components count i₀ i = (i ≤ count) × (distinct (map (idIn components) (from i (count - i))) ≡ distinct (map (idIn components) (from 0 count)))

@@ -4,10 +4,6 @@ use Rattle.net.specs.Net.{idsDistinct}
 use borrow.Author.Needs.{needs}
 use Rattle.net.proofs.ids.ids_distinct.Statement.{statement}
 use Rattle.net.proofs.ids.ids_distinct.Tie as tie
-use Rattle.net.proofs.ids.ids_distinct.Reads as reads
-use Rattle.net.proofs.ids.ids_distinct.Lts as lts
-use Rattle.net.proofs.ids.ids_apart.Reads as ids-apart-reads
-use Rattle.net.proofs.ids.ids_fit.Reads as ids-fit-reads
 
 ids-fit-requires : tie.Need-ids-fit-requires
 ids-fit-requires c κs = search needs

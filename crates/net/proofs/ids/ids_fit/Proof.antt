@@ -14,10 +14,6 @@ use Rattle.net.proofs.StepsLaws.{from-start}
 use borrow.Author.Needs.{needs}
 use Rattle.net.proofs.ids.ids_fit.Statement.{statement}
 use Rattle.net.proofs.ids.ids_fit.Tie as tie
-use Rattle.net.proofs.ids.ids_fit.Reads as reads
-use Rattle.net.proofs.ids.ids_fit.Lts as lts
-use Rattle.tables.proofs.word_of.Reads as word-of-reads
-use Rattle.value.proofs.lies_below.Reads as lies-below-reads
 
 -- The id of component i has 32 bits.
 abbrev idFits : List ℕ → ℕ → Bool

@@ -5,8 +5,6 @@ use Rattle.net.specs.Net.{countsWithin}
 use borrow.Author.Needs.{needs}
 use Rattle.net.proofs.limits.counts_within.Statement.{statement}
 use Rattle.net.proofs.limits.counts_within.Tie as tie
-use Rattle.net.proofs.limits.counts_within.Reads as reads
-use Rattle.net.proofs.limits.counts_within.Lts as lts
 
 returns : tie.Need-returns
 unfolding countsWithin

@@ -13,9 +13,6 @@ use Rattle.net.proofs.MarksLaws.{naming, naming-start, namingSlice-past
 use borrow.Author.Needs.{needs}
 use Rattle.net.proofs.naming.names.Statement.{statement}
 use Rattle.net.proofs.naming.names.Tie as tie
-use Rattle.net.proofs.naming.names.Reads as reads
-use Rattle.net.proofs.naming.names.Lts as lts
-use Rattle.tables.proofs.entry.Reads as entry-reads
 
 abbrev Inv-loop : tie.InvT-loop
 Inv-loop list count n seen₀ i₀ seen i =
@@ -69,8 +66,8 @@ loop-again c =
       omega arith,
       length-set (l .seen) (c .before .before .entry .result) 1 ∙ l .inv .1,
       rw e
-      (namingSlice-next (a .counts .components) (l .seen) (a .list .now) (l .i) (a .count) _ (omega arith) (l .inv .2) (omega arith)
-      (omega (arith, e, c .before .if1 .left)) (omega (arith, e, c .before .if1 .left, l .inv .1, s .pre .0)) (rw e at (c .if2 .left))),
+          (namingSlice-next (a .counts .components) (l .seen) (a .list .now) (l .i) (a .count) _ (omega arith) (l .inv .2) (omega arith)
+          (omega (arith, e, c .before .if1 .left)) (omega (arith, e, c .before .if1 .left, l .inv .1, s .pre .0)) (rw e at (c .if2 .left))),
     )
 
 returns-3 : tie.Need-returns-3 Inv-loop μ-loop

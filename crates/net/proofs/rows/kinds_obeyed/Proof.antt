@@ -12,9 +12,6 @@ use Rattle.net.proofs.StepsLaws.{from-start}
 use borrow.Author.Needs.{needs}
 use Rattle.net.proofs.rows.kinds_obeyed.Statement.{statement}
 use Rattle.net.proofs.rows.kinds_obeyed.Tie as tie
-use Rattle.net.proofs.rows.kinds_obeyed.Reads as reads
-use Rattle.net.proofs.rows.kinds_obeyed.Lts as lts
-use Rattle.net.proofs.rows.row_obeyed.Reads as row-obeyed-reads
 
 abbrev Inv-loop : tie.InvT-loop
 Inv-loop components n i₀ i = (i ≤ n) × (every (obeyedAt components) (from i (n - i)) ≡ every (obeyedAt components) (from 0 n))

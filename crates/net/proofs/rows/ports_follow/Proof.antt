@@ -18,9 +18,6 @@ use Rattle.net.proofs.ClausesLaws.{kindsObeyed-inputs, kindsObeyed-outp
 use borrow.Author.Needs.{needs}
 use Rattle.net.proofs.rows.ports_follow.Statement.{statement}
 use Rattle.net.proofs.rows.ports_follow.Tie as tie
-use Rattle.net.proofs.rows.ports_follow.Reads as reads
-use Rattle.net.proofs.rows.ports_follow.Lts as lts
-use Rattle.tables.proofs.word_of.Reads as word-of-reads
 
 abbrev Inv-loop : tie.InvT-loop
 Inv-loop components counts n inputs₀ outputs₀ i₀ inputs outputs i =
@@ -64,8 +61,14 @@ add-inputs : tie.Need-add-inputs Inv-loop μ-loop
 add-inputs c =
     let s = c .before .before .before .before .before .before .before in
     let l = c .before .before .before .before .before .loop in
-    omega (arith, c .word-of3 .ensures, l .inv .3, l .inv .0, s .pre .0,
-    kindsObeyed-inputs (lent (s .args .components .now) [] [] [] (s .args .counts)) (s .pre .1) (l .i) (omega arith))
+    omega (
+      arith,
+      c .word-of3 .ensures,
+      l .inv .3,
+      l .inv .0,
+      s .pre .0,
+      kindsObeyed-inputs (lent (s .args .components .now) [] [] [] (s .args .counts)) (s .pre .1) (l .i) (omega arith),
+    )
 
 word-of-requires-4 : tie.Need-word-of-requires-4 Inv-loop μ-loop
 word-of-requires-4 c κs = search needs
@@ -74,8 +77,14 @@ add-outputs : tie.Need-add-outputs Inv-loop μ-loop
 add-outputs c =
     let s = c .before .before .before .before .before .before .before .before in
     let l = c .before .before .before .before .before .before .loop in
-    omega (arith, c .word-of4 .ensures, l .inv .4, l .inv .0, s .pre .0,
-    kindsObeyed-outputs (lent (s .args .components .now) [] [] [] (s .args .counts)) (s .pre .1) (l .i) (omega arith))
+    omega (
+      arith,
+      c .word-of4 .ensures,
+      l .inv .4,
+      l .inv .0,
+      s .pre .0,
+      kindsObeyed-outputs (lent (s .args .components .now) [] [] [] (s .args .counts)) (s .pre .1) (l .i) (omega arith),
+    )
 
 add-i : tie.Need-add-i Inv-loop μ-loop
 add-i c = search needs
@@ -95,7 +104,7 @@ loop-again c =
       omega (arith, l .inv .3, c .before .word-of3 .ensures, kindsObeyed-inputs (lent cs [] [] [] (s .args .counts)) (s .pre .1) (l .i) h),
       omega (arith, l .inv .4, c .word-of4 .ensures, kindsObeyed-outputs (lent cs [] [] [] (s .args .counts)) (s .pre .1) (l .i) h),
       every-next (followAt cs) (l .i) (s .args .counts .components) _ h
-      (sym (tested (c .before .before .before)) ∙ not-false _ (c .before .before .if1 .left)) (l .inv .5),
+          (sym (tested (c .before .before .before)) ∙ not-false _ (c .before .before .if1 .left)) (l .inv .5),
     )
 
 returns-2 : tie.Need-returns-2 Inv-loop μ-loop

@@ -7,12 +7,6 @@ use Rattle.tables.proofs.RowsLaws.{unfit-obeys}
 use borrow.Author.Needs.{needs}
 use Rattle.net.proofs.rows.row_obeyed.Statement.{statement}
 use Rattle.net.proofs.rows.row_obeyed.Tie as tie
-use Rattle.net.proofs.rows.row_obeyed.Reads as reads
-use Rattle.net.proofs.rows.row_obeyed.Lts as lts
-use Rattle.primitive.proofs.is_primitive.Reads as is-primitive-reads
-use Rattle.primitive.proofs.obeys.Reads as obeys-reads
-use Rattle.tables.proofs.fields_at.Reads as fields-at-reads
-use Rattle.tables.proofs.fields_fit.Reads as fields-fit-reads
 
 fields-fit-requires : tie.Need-fields-fit-requires
 fields-fit-requires c κs = search needs

@@ -13,9 +13,6 @@ use Rattle.net.proofs.StepsLaws.{everySlice-fails, everySlice-next, eve
 use borrow.Author.Needs.{needs}
 use Rattle.net.proofs.values.all_below.Statement.{statement}
 use Rattle.net.proofs.values.all_below.Tie as tie
-use Rattle.net.proofs.values.all_below.Reads as reads
-use Rattle.net.proofs.values.all_below.Lts as lts
-use Rattle.value.proofs.lies_below.Reads as lies-below-reads
 
 -- A number lies below 2^w.
 abbrev fitsBits : ℕ → ℕ → Bool
@@ -61,7 +58,7 @@ loop-again c =
     let l = c .before .before .before .before .loop in (
       omega arith,
       everySlice-next (fitsBits (a .width)) (a .ports .now) (l .i) (a .start + a .count) _ (omega arith) (l .inv .1) (omega arith)
-      (sym (c .before .lies-below .ensures) ∙ not-false _ (c .if1 .left)),
+          (sym (c .before .lies-below .ensures) ∙ not-false _ (c .if1 .left)),
     )
 
 returns-2 : tie.Need-returns-2 Inv-loop μ-loop

@@ -12,9 +12,6 @@ use Rattle.net.proofs.StepsLaws.{from-start}
 use borrow.Author.Needs.{needs}
 use Rattle.net.proofs.values.consts_held.Statement.{statement}
 use Rattle.net.proofs.values.consts_held.Tie as tie
-use Rattle.net.proofs.values.consts_held.Reads as reads
-use Rattle.net.proofs.values.consts_held.Lts as lts
-use Rattle.net.proofs.values.row_held.Reads as row-held-reads
 
 abbrev Inv-loop : tie.InvT-loop
 Inv-loop components outputs n i₀ i = (i ≤ n) × (every (heldAt components outputs) (from i (n - i)) ≡ every (heldAt components outputs) (from 0 n))

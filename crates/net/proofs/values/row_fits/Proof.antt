@@ -7,13 +7,6 @@ use Rattle.primitive.specs.declared.table.Fields.{Fields}
 use borrow.Author.Needs.{needs}
 use Rattle.net.proofs.values.row_fits.Statement.{statement}
 use Rattle.net.proofs.values.row_fits.Tie as tie
-use Rattle.net.proofs.values.row_fits.Reads as reads
-use Rattle.net.proofs.values.row_fits.Lts as lts
-use Rattle.net.proofs.values.all_below.Reads as all-below-reads
-use Rattle.primitive.proofs.input_width.Reads as input-width-reads
-use Rattle.primitive.proofs.output_width.Reads as output-width-reads
-use Rattle.tables.proofs.fields_at.Reads as fields-at-reads
-use Rattle.tables.proofs.word_of.Reads as word-of-reads
 
 fields-at-requires : tie.Need-fields-at-requires
 fields-at-requires c κs = search needs

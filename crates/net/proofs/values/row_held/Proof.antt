@@ -3,10 +3,6 @@
 use borrow.Author.Needs.{needs}
 use Rattle.net.proofs.values.row_held.Statement.{statement}
 use Rattle.net.proofs.values.row_held.Tie as tie
-use Rattle.net.proofs.values.row_held.Reads as reads
-use Rattle.net.proofs.values.row_held.Lts as lts
-use Rattle.tables.proofs.word.Reads as word-reads
-use Rattle.tables.proofs.word_of.Reads as word-of-reads
 
 word-of-requires : tie.Need-word-of-requires
 word-of-requires c κs = search needs

@@ -14,9 +14,6 @@ use Rattle.net.proofs.StepsLaws.{from-start}
 use borrow.Author.Needs.{needs}
 use Rattle.net.proofs.values.values_fit.Statement.{statement}
 use Rattle.net.proofs.values.values_fit.Tie as tie
-use Rattle.net.proofs.values.values_fit.Reads as reads
-use Rattle.net.proofs.values.values_fit.Lts as lts
-use Rattle.net.proofs.values.row_fits.Reads as row-fits-reads
 
 abbrev Inv-loop : tie.InvT-loop
 Inv-loop components inputs outputs n i₀ i = (i ≤ n) × (every (fitAt components inputs outputs) (from i (n - i)) ≡ every (fitAt components inputs outputs) (from 0 n))

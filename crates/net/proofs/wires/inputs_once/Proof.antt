@@ -13,9 +13,6 @@ use Rattle.net.proofs.ClausesLaws.{inputsOnce-places}
 use borrow.Author.Needs.{needs}
 use Rattle.net.proofs.wires.inputs_once.Statement.{statement}
 use Rattle.net.proofs.wires.inputs_once.Tie as tie
-use Rattle.net.proofs.wires.inputs_once.Reads as reads
-use Rattle.net.proofs.wires.inputs_once.Lts as lts
-use Rattle.net.proofs.wires.place_of.Reads as place-of-reads
 
 abbrev Inv-loop : tie.InvT-loop
 Inv-loop components wires n seen₀ k₀ seen k =
@@ -75,8 +72,8 @@ loop-again c =
       omega arith,
       length-set (l .seen) (c .before .place-of .result) 1 ∙ l .inv .1,
       rw e
-      (freshFrom-next (placeIn (a .components .now) (a .wires .now)) (l .seen) (l .k) (a .counts .wires) _ (l .inv .2) (omega arith)
-      (omega (arith, e, l .inv .1, place-small (c .before))) (rw e at (c .if1 .left))),
+          (freshFrom-next (placeIn (a .components .now) (a .wires .now)) (l .seen) (l .k) (a .counts .wires) _ (l .inv .2) (omega arith)
+          (omega (arith, e, l .inv .1, place-small (c .before))) (rw e at (c .if1 .left))),
     )
 
 returns-2 : tie.Need-returns-2 Inv-loop μ-loop

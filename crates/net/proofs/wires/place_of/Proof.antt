@@ -7,10 +7,6 @@ use Rattle.tables.specs.Tables.{wordIn}
 use borrow.Author.Needs.{needs}
 use Rattle.net.proofs.wires.place_of.Statement.{statement}
 use Rattle.net.proofs.wires.place_of.Tie as tie
-use Rattle.net.proofs.wires.place_of.Reads as reads
-use Rattle.net.proofs.wires.place_of.Lts as lts
-use Rattle.tables.proofs.entry.Reads as entry-reads
-use Rattle.tables.proofs.word_of.Reads as word-of-reads
 
 mul-entry : tie.Need-mul-entry
 mul-entry c = search needs

@@ -15,12 +15,7 @@ use Rattle.net.proofs.ClausesLaws.{kindsObeyed-fit, wireRight-none, wir
 use borrow.Author.Needs.{needs}
 use Rattle.net.proofs.wires.wire_right.Statement.{statement}
 use Rattle.net.proofs.wires.wire_right.Tie as tie
-use Rattle.net.proofs.wires.wire_right.Reads as reads
-use Rattle.net.proofs.wires.wire_right.Lts as lts
-use Rattle.primitive.proofs.input_width.Reads as input-width-reads
-use Rattle.primitive.proofs.output_width.Reads as output-width-reads
-use Rattle.tables.proofs.fields_at.Reads as fields-at-reads
-use Rattle.tables.proofs.entry.Reads as entry-reads
+
 -- What the test of the two components says.
 tested : (c : tie.After-entry2) →
     (ltb (c .before .entry .result) (c .before .before .before .before .args .counts .components)
@@ -37,7 +32,6 @@ source-exists c = ltb-true _ _ (and-left (ltb (c .before .before .entry .result)
 
 target-exists : (c : tie.Else1) → c .before .entry2 .result < c .before .before .before .before .before .args .counts .components
 target-exists c = ltb-true _ _ (and-right (ltb (c .before .before .entry .result) (c .before .before .before .before .before .args .counts .components)) (ltb (c .before .entry2 .result) (c .before .before .before .before .before .args .counts .components)) (not-false _ (c .if1 .left)))
-
 
 mul-entry : tie.Need-mul-entry
 mul-entry c = search needs

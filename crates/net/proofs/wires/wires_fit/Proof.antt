@@ -12,9 +12,6 @@ use Rattle.net.proofs.StepsLaws.{from-start}
 use borrow.Author.Needs.{needs}
 use Rattle.net.proofs.wires.wires_fit.Statement.{statement}
 use Rattle.net.proofs.wires.wires_fit.Tie as tie
-use Rattle.net.proofs.wires.wires_fit.Reads as reads
-use Rattle.net.proofs.wires.wires_fit.Lts as lts
-use Rattle.net.proofs.wires.wire_right.Reads as wire-right-reads
 
 abbrev Inv-loop : tie.InvT-loop
 Inv-loop components wires counts n k₀ k = (k ≤ n) × (every (wireRight components wires (counts .components)) (from k (n - k)) ≡ every (wireRight components wires (counts .components)) (from 0 n))

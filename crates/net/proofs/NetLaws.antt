@@ -1,0 +1,263 @@
+-- What a net is, clause by clause: `isNet-sound` takes the test apart, `isNet-complete` puts it together, and a law for each
+-- clause says what it gives of a component, a port, a wire or a list. Then the number of a call that checks 2 and 16.
+--   Net T      the tables T pass every clause
+-- Not here: laws of countsWithin, kindsObeyed and portsFollow (ClausesLaws).
+-- Assumes nothing.
+use mathlib.Core.Path.{_≡_, refl, sym, ap, _∙_, subst}
+use mathlib.Core.Bool.{Bool, true, false, not, _&&_, _||_, false≢true}
+use mathlib.Core.List.{List, [], _∷_, map}
+use mathlib.Core.Logic.{_⊎_, inl, inr, ⊎-elim}
+use Prim.Native.Nat.{ℕ, _+_, _*_, _≤_, _<_}
+use native.Mathlib.Decide.{decLt}
+use native.Mathlib.Omega.{arith}
+use borrow.Author.Tests.{leb-true, ltb-true, eqb-true, not-false}
+use lib.ListN.{length, getD, take}
+use lib.Dec.{eqb, ltb}
+use Rattle.lists.specs.Lists.{from, every, distinct}
+use Rattle.lists.proofs.ListsLaws.{and-left, and-right, every-from, refusal-first, refusal-rest}
+use Rattle.lists.proofs.MembersLaws.{In, Distinct, every-sound, distinct-sound, distinct-place, distinct-bound, from-length, from0-complete, in-getD, map-sound}
+use Rattle.value.specs.Value.{below}
+use Rattle.primitive.specs.declared.kinds.Kind.the-variants.{Const}
+use Rattle.primitive.specs.Kinds.{is, inputWidth, outputWidth}
+use Rattle.flatten.specs.declared.Pin.{Pin}
+use Rattle.flatten.specs.declared.Wire.{Wire}
+use Rattle.tables.specs.declared.Counts.{Counts}
+use Rattle.tables.specs.Tables.{Tables, fullSize, fieldsAt, idAt, firstInput, firstOutput, inputPlace, outputPlace, inputsAt, outputsAt, indexes, wiresIn, wireAt, currentList, followingList, standingList}
+use Rattle.tables.proofs.PartsLaws.{AllTrue, parts-sound, parts-complete}
+use Rattle.tables.proofs.SizesLaws.{Full, fullSize-sound}
+use Rattle.net.specs.Net.{countsWithin, lent, kindsObeyed, idsDistinct, portsFollow, valuesFit, constsHeld, isOutput, isInput, wiresFit, inputsOnce, names, isCircuit, isNet, netNumber}
+use Rattle.net.specs.Parts.{fitAt, heldAt}
+use Rattle.net.proofs.ClausesLaws.{Within, countsWithin-sound, portsFollow-inputsApart, portsFollow-outputsApart, portsFollow-inputs}
+
+-- The clauses.
+pub record Net (T : Tables) : Type 0 where
+  pub counts : countsWithin (T .counts) ≡ true
+  pub kinds : kindsObeyed T ≡ true
+  pub ids : idsDistinct T ≡ true
+  pub ports : portsFollow T ≡ true
+  pub values : valuesFit T ≡ true
+  pub consts : constsHeld T ≡ true
+  pub wires : wiresFit T ≡ true
+  pub once : inputsOnce T ≡ true
+  pub current : names T (currentList T) ≡ true
+  pub following : names T (followingList T) ≡ true
+  pub standing : names T (standingList T) ≡ true
+
+module _ (T : Tables) where
+  abbrev after-counts : List Bool
+  after-counts =
+      kindsObeyed T ∷ idsDistinct T ∷ portsFollow T ∷ valuesFit T ∷ constsHeld T ∷ wiresFit T ∷ inputsOnce T ∷ names T (currentList T)
+      ∷ names T (followingList T) ∷ names T (standingList T) ∷ []
+
+  pub isNet-sound : isNet T ≡ true → Net T
+  unfolding isNet
+  isNet-sound e =
+      let p = parts-sound (countsWithin (T .counts)) after-counts e in
+      record {
+        counts = p .0;
+        kinds = p .1 .0;
+        ids = p .1 .1 .0;
+        ports = p .1 .1 .1 .0;
+        values = p .1 .1 .1 .1 .0;
+        consts = p .1 .1 .1 .1 .1 .0;
+        wires = p .1 .1 .1 .1 .1 .1 .0;
+        once = p .1 .1 .1 .1 .1 .1 .1 .0;
+        current = p .1 .1 .1 .1 .1 .1 .1 .1 .0;
+        following = p .1 .1 .1 .1 .1 .1 .1 .1 .1 .0;
+        standing = p .1 .1 .1 .1 .1 .1 .1 .1 .1 .1 .0;
+      }
+
+  pub isNet-complete : Net T → isNet T ≡ true
+  unfolding isNet
+  isNet-complete w =
+      rw (w .counts, w .kinds, w .ids, w .ports, w .values, w .consts, w .wires, w .once, w .current, w .following, w .standing)
+
+-- "distinct ids"
+module _ (T : Tables) (e : idsDistinct T ≡ true) where
+  ids-parts : AllTrue (every (λ i. below (idAt T i) 32) (indexes T) ∷ distinct (map (idAt T) (indexes T)) ∷ [])
+  unfolding idsDistinct
+  ids-parts = parts-sound (every (λ i. below (idAt T i) 32) (indexes T)) (distinct (map (idAt T) (indexes T)) ∷ []) e
+
+  pub idsDistinct-below : (i : ℕ) → i < T .counts .components → below (idAt T i) 32 ≡ true
+  idsDistinct-below i h = every-from (λ j. below (idAt T j) 32) (T .counts .components) (ids-parts .0) i h
+
+  pub idsDistinct-apart : Distinct (map (idAt T) (indexes T))
+  idsDistinct-apart = distinct-sound (map (idAt T) (indexes T)) (ids-parts .1 .0)
+
+-- "values fit", component by component.
+module _ (T : Tables) (e : valuesFit T ≡ true) (i : ℕ) (h : i < T .counts .components) where
+  fit-at : fitAt (T .components) (T .inputs) (T .outputs) i ≡ true
+  unfolding valuesFit
+  fit-at = every-from (fitAt (T .components) (T .inputs) (T .outputs)) (T .counts .components) e i h
+
+  pub valuesFit-inputs : every (λ x. below x (inputWidth (fieldsAt T i))) (inputsAt T (T .inputs) i) ≡ true
+  valuesFit-inputs =
+      and-left (every (λ x. below x (inputWidth (fieldsAt T i))) (inputsAt T (T .inputs) i))
+      (every (λ x. below x (outputWidth (fieldsAt T i))) (outputsAt T (T .outputs) i)) fit-at
+
+  pub valuesFit-outputs : every (λ x. below x (outputWidth (fieldsAt T i))) (outputsAt T (T .outputs) i) ≡ true
+  valuesFit-outputs =
+      and-right (every (λ x. below x (inputWidth (fieldsAt T i))) (inputsAt T (T .inputs) i))
+      (every (λ x. below x (outputWidth (fieldsAt T i))) (outputsAt T (T .outputs) i)) fit-at
+
+-- "each Const's output is its value"
+pub constsHeld-at : (T : Tables) → constsHeld T ≡ true → (i : ℕ) → i < T .counts .components → is Const (fieldsAt T i) ≡ true
+    → getD (T .outputs) (firstOutput T i) 0 ≡ fieldsAt T i .parameter
+unfolding constsHeld
+constsHeld-at T e i h k =
+    let p : (not (is Const (fieldsAt T i)) || eqb (getD (T .outputs) (firstOutput T i) 0) (fieldsAt T i .parameter)) ≡ true =
+    every-from (heldAt (T .components) (T .outputs)) (T .counts .components) e i h in
+    eqb-true (getD (T .outputs) (firstOutput T i) 0) (fieldsAt T i .parameter) (rw k at p)
+
+-- Ports that exist: two places are equal only where component and port are.
+module _ (T : Tables) where
+  pub isOutput-comp : (s : Pin) → isOutput T s ≡ true → s .comp < T .counts .components
+  isOutput-comp s e =
+      ltb-true _ _ (and-left (ltb (s .comp) (T .counts .components)) (ltb (s .port) (fieldsAt T (s .comp) .outputs)) e)
+
+  pub isOutput-port : (s : Pin) → isOutput T s ≡ true → s .port < fieldsAt T (s .comp) .outputs
+  isOutput-port s e =
+      ltb-true _ _ (and-right (ltb (s .comp) (T .counts .components)) (ltb (s .port) (fieldsAt T (s .comp) .outputs)) e)
+
+  pub isInput-comp : (t : Pin) → isInput T t ≡ true → t .comp < T .counts .components
+  isInput-comp t e =
+      ltb-true _ _ (and-left (ltb (t .comp) (T .counts .components)) (ltb (t .port) (fieldsAt T (t .comp) .inputs)) e)
+
+  pub isInput-port : (t : Pin) → isInput T t ≡ true → t .port < fieldsAt T (t .comp) .inputs
+  isInput-port t e =
+      ltb-true _ _ (and-right (ltb (t .comp) (T .counts .components)) (ltb (t .port) (fieldsAt T (t .comp) .inputs)) e)
+
+  -- Of ports a and b of components i and j, where ports start at f and component i has g i of them.
+  place-inj : (f g : ℕ → ℕ) (n : ℕ) → ((i j : ℕ) → i < j → j < n → f i + g i ≤ f j) → (i j a b : ℕ) → i < n → j < n → a < g i
+      → b < g j → f i + a ≡ f j + b → i ≡ j
+  place-inj f g n apart i j a b hi hj ha hb e = by-order (decLt i j) (decLt j i)
+    where
+      by-order : Dec (i < j) → Dec (j < i) → i ≡ j
+      by-order (yes l) q = absurd (omega (arith, apart i j l hj))
+      by-order (no l) (yes r) = absurd (omega (arith, apart j i r hi))
+      by-order (no l) (no r) = omega arith
+
+  module _ (e : portsFollow T ≡ true) (s t : Pin) where
+    pub inputPlace-comp : isInput T s ≡ true → isInput T t ≡ true → inputPlace T s ≡ inputPlace T t → s .comp ≡ t .comp
+    inputPlace-comp a b q =
+        place-inj (firstInput T) (λ i. fieldsAt T i .inputs) (T .counts .components) (portsFollow-inputsApart T e) (s .comp) (t .comp)
+        (s .port) (t .port) (isInput-comp s a) (isInput-comp t b) (isInput-port s a) (isInput-port t b) q
+
+    pub inputPlace-port : isInput T s ≡ true → isInput T t ≡ true → inputPlace T s ≡ inputPlace T t → s .port ≡ t .port
+    inputPlace-port a b q = omega (arith, q, ap (firstInput T) (inputPlace-comp a b q))
+
+    pub outputPlace-comp : isOutput T s ≡ true → isOutput T t ≡ true → outputPlace T s ≡ outputPlace T t → s .comp ≡ t .comp
+    outputPlace-comp a b q =
+        place-inj (firstOutput T) (λ i. fieldsAt T i .outputs) (T .counts .components) (portsFollow-outputsApart T e) (s .comp) (t .comp)
+        (s .port) (t .port) (isOutput-comp s a) (isOutput-comp t b) (isOutput-port s a) (isOutput-port t b) q
+
+    pub outputPlace-port : isOutput T s ≡ true → isOutput T t ≡ true → outputPlace T s ≡ outputPlace T t → s .port ≡ t .port
+    outputPlace-port a b q = omega (arith, q, ap (firstOutput T) (outputPlace-comp a b q))
+
+-- "wires have ends that exist and equal widths"
+module _ (T : Tables) (e : wiresFit T ≡ true) (w : Wire) (h : In w (wiresIn T)) where
+  abbrev right : Wire → Bool
+  right w = isOutput T (w .src) && isInput T (w .dst) && eqb (outputWidth (fieldsAt T (w .src .comp))) (inputWidth (fieldsAt T (w .dst .comp)))
+
+  wire-parts : AllTrue (isOutput T (w .src) ∷ isInput T (w .dst)
+      ∷ eqb (outputWidth (fieldsAt T (w .src .comp))) (inputWidth (fieldsAt T (w .dst .comp))) ∷ [])
+  unfolding wiresFit
+  wire-parts =
+      parts-sound (isOutput T (w .src)) (isInput T (w .dst)
+      ∷ eqb (outputWidth (fieldsAt T (w .src .comp))) (inputWidth (fieldsAt T (w .dst .comp))) ∷ []) (every-sound right w (wiresIn T) e h)
+
+  pub wiresFit-source : isOutput T (w .src) ≡ true
+  wiresFit-source = wire-parts .0
+
+  pub wiresFit-target : isInput T (w .dst) ≡ true
+  wiresFit-target = wire-parts .1 .0
+
+  pub wiresFit-widths : outputWidth (fieldsAt T (w .src .comp)) ≡ inputWidth (fieldsAt T (w .dst .comp))
+  wiresFit-widths = eqb-true _ _ (wire-parts .1 .1 .0)
+
+-- "no input has two wires"
+pub inputsOnce-sound : (T : Tables) → inputsOnce T ≡ true → Distinct (map (λ (w : Wire). inputPlace T (w .dst)) (wiresIn T))
+unfolding inputsOnce
+inputsOnce-sound T e = distinct-sound (map (λ (w : Wire). inputPlace T (w .dst)) (wiresIn T)) e
+
+-- "each list names existing components without repeats"; so it is no longer than there are components.
+module _ (T : Tables) (xs : List ℕ) (e : names T xs ≡ true) where
+  names-parts : AllTrue (every (λ i. ltb i (T .counts .components)) xs ∷ distinct xs ∷ [])
+  unfolding names
+  names-parts = parts-sound (every (λ i. ltb i (T .counts .components)) xs) (distinct xs ∷ []) e
+
+  pub names-existing : (i : ℕ) → In i xs → i < T .counts .components
+  names-existing i h = ltb-true i (T .counts .components) (every-sound (λ j. ltb j (T .counts .components)) i xs (names-parts .0) h)
+
+  pub names-distinct : Distinct xs
+  names-distinct = distinct-sound xs (names-parts .1 .0)
+
+  pub names-length : length xs ≤ T .counts .components
+  names-length =
+      omega (
+        arith,
+        distinct-bound xs (from 0 (T .counts .components)) names-distinct
+            (λ i h. from0-complete (T .counts .components) i (names-existing i h)),
+        from-length 0 (T .counts .components),
+      )
+
+-- The test of the lists after that of the rest.
+module _ (T : Tables) where
+  whole-lent : isCircuit T ≡ isCircuit (lent (T .components) (T .inputs) (T .outputs) (T .wires) (T .counts))
+  unfolding kindsObeyed idsDistinct portsFollow valuesFit constsHeld wiresFit inputsOnce
+  whole-lent = refl
+
+  names-lent : (xs : List ℕ) → names T xs ≡ names (lent [] [] [] [] (T .counts)) xs
+  unfolding names
+  names-lent xs = refl
+
+  pub net-circuit : isCircuit (lent (T .components) (T .inputs) (T .outputs) (T .wires) (T .counts)) ≡ false → false ≡ isNet T
+  unfolding isNet
+  net-circuit e =
+      let z : isCircuit T ≡ false = whole-lent ∙ e in
+      rw z
+
+  module _ (e : isCircuit (lent (T .components) (T .inputs) (T .outputs) (T .wires) (T .counts)) ≡ true) where
+    pub net-lists : (names (lent [] [] [] [] (T .counts)) (currentList T) && names (lent [] [] [] [] (T .counts)) (followingList T)
+        && names (lent [] [] [] [] (T .counts)) (standingList T)) ≡ isNet T
+    unfolding isNet
+    net-lists =
+        let z : isCircuit T ≡ true = whole-lent ∙ e in
+        rw (z, names-lent (currentList T), names-lent (followingList T), names-lent (standingList T))
+
+    pub circuit-within : Within (T .counts)
+    circuit-within =
+        countsWithin-sound (T .counts)
+        (parts-sound (countsWithin (T .counts))
+        (kindsObeyed T ∷ idsDistinct T ∷ portsFollow T ∷ valuesFit T ∷ constsHeld T ∷ wiresFit T ∷ inputsOnce T ∷ []) (whole-lent ∙ e) .0)
+
+-- The number of a call: 2, 16, or 0 for a net of full size.
+module _ (T : Tables) where
+  pub netNumber-2 : fullSize T ≡ false → 2 ≡ netNumber T
+  unfolding netNumber
+  netNumber-2 e = rw e
+
+  pub netNumber-16 : fullSize T ≡ true → isNet T ≡ false → 16 ≡ netNumber T
+  unfolding netNumber
+  netNumber-16 f e = rw (f, e)
+
+  pub netNumber-0 : fullSize T ≡ true → isNet T ≡ true → 0 ≡ netNumber T
+  unfolding netNumber
+  netNumber-0 f e = rw (f, e)
+
+  module _ (z : netNumber T ≡ 0) where
+    pub netNumber-full : fullSize T ≡ true
+    unfolding netNumber
+    netNumber-full = not-false _ (refusal-first 2 (not (fullSize T)) ((16, not (isNet T)) ∷ []) (λ q. omega arith) z)
+
+    pub netNumber-isNet : isNet T ≡ true
+    unfolding netNumber
+    netNumber-isNet =
+        not-false _ (refusal-first 16 (not (isNet T)) [] (λ q. omega arith)
+        (refusal-rest 2 (not (fullSize T)) ((16, not (isNet T)) ∷ []) (λ q. omega arith) z))
+
+    pub netNumber-net : Net T
+    netNumber-net = isNet-sound T netNumber-isNet
+
+    pub netNumber-sizes : Full T
+    netNumber-sizes = fullSize-sound T netNumber-full

@@ -1,0 +1,36 @@
+-- `net_number`: 2, 16 or 0 by the two tests.
+-- Assumes nothing.
+use borrow.Author.Tests.{not-true, not-false}
+use mathlib.Core.Path.{_≡_, sym, _∙_}
+use mathlib.Core.Bool.{true}
+use Rattle.tables.specs.Tables.{Tables, tablesOf, fullSize}
+use Rattle.net.proofs.NetLaws.{netNumber-2, netNumber-16, netNumber-0}
+use borrow.Author.Needs.{needs}
+use Rattle.net.proofs.whole.net_number.Statement.{statement}
+use Rattle.net.proofs.whole.net_number.Tie as tie
+
+-- The tables as they came, and that they are of full size once check 2 is passed.
+abbrev came : tie.Start → Tables
+came c = (tablesOf (c .args .components .now) (c .args .inputs .now) (c .args .outputs .now) (c .args .wires .now) (c .args .current .now) (c .args .following .now) (c .args .standing .now) (c .args .counts))
+
+full : (c : tie.Else1) → fullSize (came (c .before .before .before .before .before .before .before .before .before)) ≡ true
+full c = sym (c .before .full-size .ensures) ∙ not-false _ (c .if1 .left)
+
+full-size-requires : tie.Need-full-size-requires
+full-size-requires c κs = search needs
+
+returns : tie.Need-returns
+returns c = netNumber-2 (came (c .before .before .before .before .before .before .before .before .before)) (sym (c .before .full-size .ensures) ∙ not-true _ (c .if1 .taken))
+
+is-net-requires : tie.Need-is-net-requires
+is-net-requires c κs = full c
+
+returns-2 : tie.Need-returns-2
+returns-2 c = netNumber-16 (came (c .before .before .before .before .before .before .before .before .before .before .before)) (full (c .before .before)) (sym (c .before .is-net .ensures) ∙ not-true _ (c .if2 .taken))
+
+returns-3 : tie.Need-returns-3
+returns-3 c = netNumber-0 (came (c .before .before .before .before .before .before .before .before .before .before .before)) (full (c .before .before)) (sym (c .before .is-net .ensures) ∙ not-false _ (c .if2 .left))
+
+pub net-number-spec : {M : Type 1} → statement M
+net-number-spec =
+    tie.close (tie.spec full-size-requires returns is-net-requires returns-2 returns-3)

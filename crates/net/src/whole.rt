@@ -1,0 +1,109 @@
+// All clauses of a net, in the order of the definition, and the numbers 2 and 16.
+ghost use mathlib.Core.Path.{_≡_};
+ghost use mathlib.Core.Bool.{true};
+ghost use mathlib.Core.List.{[]};
+ghost use Prim.Native.Nat.{_≤_};
+ghost use lib.ListN.{length};
+ghost use Rattle.tables.specs.Tables.{tablesOf, fullSize};
+ghost use Rattle.net.specs.Net.{lent, isCircuit, isNet, netNumber};
+use crate::ids::ids_distinct;
+use crate::limits::counts_within;
+use crate::naming::names;
+use crate::rows::kinds_obeyed;
+use crate::rows::ports_follow;
+use crate::values::consts_held;
+use crate::values::values_fit;
+use crate::wires::inputs_once;
+use crate::wires::wires_fit;
+use tables::Counts;
+
+// Whether components, ports and wires are those of a net. Each test rests on those before it: they are made in this order.
+fn is_circuit(
+    components: &[u64],
+    inputs: &[u64],
+    outputs: &[u64],
+    wires: &[u16],
+    counts: Counts,
+) -> bool
+    requires { ⌜ (1024 ≤ length (now inputs)) × (1024 ≤ length (now outputs)) ⌝ }
+    ensures { λ r. ⌜ r ≡ isCircuit (lent (now (components .entry)) (now (inputs .entry)) (now (outputs .entry)) (now (wires .entry)) counts) ⌝ }
+{
+    if !counts_within(counts) {
+        return false;
+    }
+    if !kinds_obeyed(components, counts) {
+        return false;
+    }
+    if !(ids_distinct(components, counts) & ports_follow(components, counts)) {
+        return false;
+    }
+    if !(values_fit(components, inputs, outputs, counts)
+        & consts_held(components, outputs, counts)
+        & wires_fit(components, wires, counts)) {
+        return false;
+    }
+    inputs_once(components, wires, counts)
+}
+
+// Whether tables of full size are a net.
+fn is_net(
+    components: &[u64],
+    inputs: &[u64],
+    outputs: &[u64],
+    wires: &[u16],
+    current: &[u16],
+    following: &[u16],
+    standing: &[u16],
+    counts: Counts,
+) -> bool
+    requires { ⌜ fullSize (tablesOf (now components) (now inputs) (now outputs) (now wires) (now current) (now following) (now standing) counts) ≡ true ⌝ }
+    ensures { λ r. ⌜ r ≡ isNet (tablesOf (now (components .entry)) (now (inputs .entry)) (now (outputs .entry)) (now (wires .entry)) (now (current .entry)) (now (following .entry)) (now (standing .entry)) counts) ⌝ }
+{
+    if !is_circuit(components, inputs, outputs, wires, counts) {
+        return false;
+    }
+    names(current, counts.current, counts)
+        & names(following, counts.following, counts)
+        & names(standing, counts.standing, counts)
+}
+
+// What every call on tables checks first, on any tables and counts: 2 where a table is shorter than full size, 16 where the
+// tables are not a net, else 0.
+pub fn net_number(
+    components: &[u64],
+    inputs: &[u64],
+    outputs: &[u64],
+    wires: &[u16],
+    current: &[u16],
+    following: &[u16],
+    standing: &[u16],
+    counts: Counts,
+) -> u32
+    ensures { λ r. ⌜ r ≡ netNumber (tablesOf (now (components .entry)) (now (inputs .entry)) (now (outputs .entry)) (now (wires .entry)) (now (current .entry)) (now (following .entry)) (now (standing .entry)) counts) ⌝ }
+{
+    if !tables::full_size(
+        components,
+        inputs,
+        outputs,
+        wires,
+        current,
+        following,
+        standing,
+        counts,
+    ) {
+        return 2;
+    }
+    if !is_net(
+        components,
+        inputs,
+        outputs,
+        wires,
+        current,
+        following,
+        standing,
+        counts,
+    ) {
+        return 16;
+    }
+    0
+}
