@@ -1,18 +1,21 @@
 -- Laws of the steps of a round, one step at a time: a wire, the wires of a component, an evaluation, and a component of the list.
 -- Assumes nothing.
 use mathlib.Core.Path.{_≡_, refl, sym, ap, _∙_, subst}
+use mathlib.Core.Logic.{_⊎_, inl, inr}
 use mathlib.Core.Bool.{Bool, true, false, cond}
 use mathlib.Core.List.{List, [], _∷_, _++_, map, foldl, append-assoc}
 use Prim.Native.Nat.{ℕ, zero, suc, _+_, _-_, _*_, _≤_, _<_}
-use native.Mathlib.Nat.{zero-add, suc-add}
+use native.Mathlib.Nat.{zero-add, suc-add, sub-zero}
+use native.Mathlib.Numerals.{add-one}
 use native.Mathlib.Omega.{arith}
 use borrow.Rule.Slice.PartMut.{putMid, post-is}
 use borrow.Author.Tests.{eq-eqb, ne-eqb, eqb-true}
 use lib.ListN.{length, getD, take, drop, set, length-take}
-use lib.Seq.{sets, sets-eq, take-nil}
+use lib.Seq.{sets, sets-eq, take-nil, slice, slice-cons, slice-empty, getD-take, length-take-le}
 use lib.Dec.{eqb}
 use Rattle.lists.specs.Lists.{from, appendNew, strike, overlay}
 use Rattle.lists.proofs.ListsLaws.{from-step, from-end}
+use Rattle.lists.proofs.MembersLaws.{In, in-getD, keep-sound, map-sound, from0-sound}
 use Rattle.lists.proofs.NamesLaws.{names-sound, names-complete, names-append, names-length}
 use Rattle.primitive.specs.declared.kinds.Kind.the-variants.{Clock}
 use Rattle.primitive.specs.declared.table.Fields.{Fields}
@@ -24,7 +27,8 @@ use Rattle.tables.specs.declared.Counts.{Counts}
 use Rattle.tables.specs.Tables.{Tables, wordOf, fieldsAt, firstInput, firstOutput, numbers, inputsAt, outputsAt, inputPlace, outputPlace, wireAt, wiresIn}
 use Rattle.tables.proofs.NamedLaws.{overlay-list, overlay-count}
 use Rattle.net.specs.Net.{names}
-use Rattle.simulator.specs.Round.{State, wiresFrom, evaluated, send}
+use Rattle.net.proofs.NetLaws.{names-existing}
+use Rattle.simulator.specs.Round.{State, wiresFrom, evaluated, send, visit}
 use Rattle.simulator.specs.Steps.{bare, wiring, stateAt, Evaluates, Sends, Runs, Listed, Step, Visited}
 use Rattle.simulator.proofs.Ports.{numbers-length}
 
@@ -119,9 +123,10 @@ module _ (T : Tables) (ins outs : List ℕ) (i : ℕ) (v : Evaluates T ins outs 
         let r : putMid b (b + f .outputs - b) outs zs ≡ take b outs ++ (zs ++ drop (b + f .outputs) outs) =
         rw (post-is b (b + f .outputs) outs h) in
         let m : firstOutput T i + length w ≤ length outs = omega (arith, v .outputs-in) in
-        let q : sets outs (firstOutput T i) w ≡ take (firstOutput T i) outs ++ w ++ drop (firstOutput T i + length w) outs =
-        sets-eq w outs (firstOutput T i) m in
-        r ∙ rw (eb, z, ef, ← l) (sym (q ∙ append-assoc (take (firstOutput T i) outs) w (drop (firstOutput T i + length w) outs)))
+        let q : sets outs (firstOutput T i) w ≡ take (firstOutput T i) outs ++ (w ++ drop (firstOutput T i + fieldsAt T i .outputs) outs) =
+        sets-eq w outs (firstOutput T i) m ∙ append-assoc (take (firstOutput T i) outs) w (drop (firstOutput T i + length w) outs)
+        ∙ ap (λ (k : ℕ). take (firstOutput T i) outs ++ (w ++ drop (firstOutput T i + k) outs)) l in
+        r ∙ rw (eb, z, ef) (sym q)
 
     -- A Clock stays in the standing list,
     pub evaluated-clock : (t n : ℕ) (zs std : List ℕ) → zs ≡ outputsAfter f xs ys t → f .kind ≡ 12 → n ≤ length std
@@ -140,6 +145,17 @@ module _ (T : Tables) (ins outs : List ℕ) (i : ℕ) (v : Evaluates T ins outs 
         let c : is Clock (fieldsAt T i) ≡ false = ne-eqb (fieldsAt T i .kind) 12 (λ q. k (ap (λ (g : Fields). g .kind) ef ∙ q)) in
         let m : length (take r std') ≡ r = ap length s ∙ sym l in
         record { count = omega (arith, length-take r std'); state = rw (outputs-put t zs e, c, s) }
+
+-- A state with the input of a wire written, and its target appended.
+abbrev wrote : Tables → Wire → State → State
+wrote T w u =
+    record {
+      inputs = set (u .inputs) (inputPlace T (w .dst)) (getD (u .outputs) (outputPlace T (w .src)) 0);
+      outputs = u .outputs;
+      current = u .current;
+      following = appendNew (w .dst .comp) (u .following);
+      standing = u .standing;
+    }
 
 -- The lists: what an append needs, and that a wire keeps them.
 module _ (T : Tables) where
@@ -162,13 +178,7 @@ module _ (T : Tables) where
   send-names s w h e =
       by-test (eqb (getD (s .outputs) (outputPlace T (w .src)) 0) (getD (s .inputs) (inputPlace T (w .dst)) 0))
     where
-      by-test : (b : Bool) → names T (cond b s (record {
-        inputs = set (s .inputs) (inputPlace T (w .dst)) (getD (s .outputs) (outputPlace T (w .src)) 0);
-        outputs = s .outputs;
-        current = s .current;
-        following = appendNew (w .dst .comp) (s .following);
-        standing = s .standing;
-      }) .following) ≡ true
+      by-test : (b : Bool) → names T (cond b s (wrote T w s) .following) ≡ true
       by-test true = e
       by-test false = append-names (w .dst .comp) (s .following) e h
 
@@ -189,6 +199,9 @@ module _ (T : Tables) (i q n : ℕ) (s : State) (x : State) where
       let z : eqb (getD (T .wires) (4 * q) 0) i ≡ false = ne-eqb (getD (T .wires) (4 * q) 0) i (λ p. t (e ∙ p)) in
       let y : to-come s q ≡ to-come s (q + 1) = rw (from-step q n h, z) in
       sym y ∙ so-far
+
+  pub sends-start : foldl (send T) s (wiresFrom i (map (wireAt T) (from 0 (n - 0)))) ≡ foldl (send T) s (wiresFrom i (map (wireAt T) (from 0 n)))
+  sends-start = ap (λ (k : ℕ). foldl (send T) s (wiresFrom i (map (wireAt T) (from 0 k)))) (sub-zero n)
 
   pub sends-end : n ≤ q → to-come s q ≡ x → s ≡ x
   sends-end h so-far = ap (λ (l : List ℕ). foldl (send T) s (wiresFrom i (map (wireAt T) l))) (sym (from-end q n h)) ∙ so-far
@@ -214,6 +227,7 @@ module _ (cs ws : List ℕ) (m : Counts) where
   pub sent-listed : (ins outs fol ins' fol' : List ℕ) (n k r : ℕ) → Runs (wiring cs ws m) ins outs → Listed (wiring cs ws m) n fol → k < m .wires
       → Step r fol' (stateAt ins' outs (take r fol') []) (send (bare cs ws) (stateAt ins outs (take n fol) []) (wireAt (bare cs ws) k))
       → length fol' ≡ length fol → Listed (wiring cs ws m) r fol'
+  unfolding send
   sent-listed ins outs fol ins' fol' n k r g l h d e =
       record {
         whole = omega (arith, l .whole);
@@ -237,3 +251,117 @@ module _ (cs ws : List ℕ) (m : Counts) where
         target = λ k h. omega (arith, g .target k h);
         named = g .named;
       }
+
+-- What a step leaves beside: sends leave the standing list, and no step reads or writes the current one.
+abbrev standingAs : List ℕ → State → State
+standingAs d s = record { inputs = s .inputs; outputs = s .outputs; current = s .current; following = s .following; standing = d }
+
+abbrev currentAs : List ℕ → State → State
+currentAs d s = record { inputs = s .inputs; outputs = s .outputs; current = d; following = s .following; standing = s .standing }
+
+foldl-beside : {A : Type 0} (g : State → State) (f : State → A → State) → ((s : State) (a : A) → f (g s) a ≡ g (f s a))
+    → (s : State) (xs : List A) → foldl f (g s) xs ≡ g (foldl f s xs)
+foldl-beside g f h s [] = refl
+foldl-beside {A} g f h s (x ∷ xs) = ap (λ (u : State). foldl f u xs) (h s x) ∙ foldl-beside g f h (f s x) xs
+
+module _ (T : Tables) where
+  send-standing : (d : List ℕ) (s : State) (w : Wire) → send T (standingAs d s) w ≡ standingAs d (send T s w)
+  unfolding send
+  send-standing d s w =
+      by-test (eqb (getD (s .outputs) (outputPlace T (w .src)) 0) (getD (s .inputs) (inputPlace T (w .dst)) 0))
+    where
+      by-test : (b : Bool) → cond b (standingAs d s) (wrote T w (standingAs d s)) ≡ standingAs d (cond b s (wrote T w s))
+      by-test true = refl
+      by-test false = refl
+
+  send-current : (d : List ℕ) (s : State) (w : Wire) → send T (currentAs d s) w ≡ currentAs d (send T s w)
+  unfolding send
+  send-current d s w =
+      by-test (eqb (getD (s .outputs) (outputPlace T (w .src)) 0) (getD (s .inputs) (inputPlace T (w .dst)) 0))
+    where
+      by-test : (b : Bool) → cond b (currentAs d s) (wrote T w (currentAs d s)) ≡ currentAs d (cond b s (wrote T w s))
+      by-test true = refl
+      by-test false = refl
+
+  visit-current : (ws : List Wire) (t : ℕ) (d : List ℕ) (s : State) (i : ℕ) → visit T ws t (currentAs d s) i ≡ currentAs d (visit T ws t s i)
+  unfolding visit evaluated
+  visit-current ws t d s i = foldl-beside (currentAs d) (send T) (send-current d) (evaluated T t i s) (wiresFrom i ws)
+
+  pub visits-current : (ws : List Wire) (t : ℕ) (d : List ℕ) (s : State) (xs : List ℕ)
+      → foldl (visit T ws t) (currentAs d s) xs ≡ currentAs d (foldl (visit T ws t) s xs)
+  visits-current ws t d s xs = foldl-beside (currentAs d) (visit T ws t) (visit-current ws t d) s xs
+
+  -- A component of the list, from its evaluation and its wires.
+  pub visited : (ws : List Wire) (t i : ℕ) (ins outs fol std ins' outs' fol' std' : List ℕ)
+      → stateAt ins outs' [] std' ≡ evaluated T t i (stateAt ins outs [] std)
+      → stateAt ins' outs' fol' [] ≡ foldl (send T) (stateAt ins outs' fol []) (wiresFrom i ws)
+      → stateAt ins' outs' fol' std' ≡ visit T ws t (stateAt ins outs fol std) i
+  unfolding visit evaluated
+  visited ws t i ins outs fol std ins' outs' fol' std' e f =
+      let o : outs' ≡ evaluated T t i (stateAt ins outs [] std) .outputs = ap (λ (u : State). u .outputs) e in
+      let d : std' ≡ evaluated T t i (stateAt ins outs [] std) .standing = ap (λ (u : State). u .standing) e in
+      let v : stateAt ins outs' fol std' ≡ evaluated T t i (stateAt ins outs fol std) = rw (o, d) in
+      ap (standingAs std') f
+      ∙ sym (foldl-beside (standingAs std') (send T) (send-standing std') (stateAt ins outs' fol []) (wiresFrom i ws))
+      ∙ ap (λ (u : State). foldl (send T) u (wiresFrom i ws)) v
+
+  -- The following list stays one of names.
+  sends-names : (ws : List Wire) → ((w : Wire) → In w ws → w .dst .comp < T .counts .components) → (s : State)
+      → names T (s .following) ≡ true → names T (foldl (send T) s ws .following) ≡ true
+  sends-names [] f s e = e
+  sends-names (w ∷ ws) f s e = sends-names ws (λ x m. f x (inr m)) (send T s w) (send-names T s w (f w (inl refl)) e)
+
+  pub visit-names : (ws : List Wire) (t i : ℕ) → ((w : Wire) → In w ws → w .dst .comp < T .counts .components) → (s : State)
+      → names T (s .following) ≡ true → names T (visit T ws t s i .following) ≡ true
+  unfolding visit evaluated
+  visit-names ws t i f s e =
+      sends-names (wiresFrom i ws) (λ w m. f w (keep-sound (λ (x : Wire). eqb (x .src .comp) i) w ws m .1)) (evaluated T t i s) e
+
+  -- A wire of the table is one of those by number.
+  pub wires-named : ((k : ℕ) → k < T .counts .wires → wireAt T k .dst .comp < T .counts .components)
+      → (w : Wire) → In w (wiresIn T) → w .dst .comp < T .counts .components
+  wires-named f w m =
+      let r = map-sound (wireAt T) w (from 0 (T .counts .wires)) m in
+      subst (λ (x : Wire). x .dst .comp < T .counts .components) (sym (r .2)) (f (r .0) (from0-sound (T .counts .wires) (r .0) (r .1)))
+
+-- What visits need at a turn, and keep.
+module _ (cs ws : List ℕ) (m : Counts) where
+  pub runs-evaluates : (ins outs : List ℕ) (i : ℕ) → Runs (wiring cs ws m) ins outs → i < m .components → Evaluates (bare cs []) ins outs i
+  runs-evaluates ins outs i g h =
+      record { few = omega (arith, g .few); obeyed = g .obeyed i h; inputs-in = g .inputs-in i h; outputs-in = g .outputs-in i h }
+
+  pub evaluated-bare : (t i : ℕ) (s : State) → evaluated (bare cs []) t i s ≡ evaluated (wiring cs ws m) t i s
+  unfolding evaluated
+  evaluated-bare t i s = refl
+
+  pub visited-listed : (ins outs fol std : List ℕ) (s : State) (i t n r : ℕ) (fol' : List ℕ) → Runs (wiring cs ws m) ins outs
+      → Listed (wiring cs ws m) n fol → s .following ≡ take r fol'
+      → s ≡ visit (wiring cs ws m) (wiresIn (wiring cs ws m)) t (stateAt ins outs (take n fol) std) i
+      → r ≤ length fol' → length fol' ≡ length fol → Listed (wiring cs ws m) r fol'
+  visited-listed ins outs fol std s i t n r fol' g l q e b k =
+      record {
+        whole = omega (arith, l .whole);
+        count = b;
+        named =
+            ap (names (wiring cs ws m)) (sym q) ∙ ap (λ (u : State). names (wiring cs ws m) (u .following)) e
+            ∙ visit-names (wiring cs ws m) (wiresIn (wiring cs ws m)) t i (wires-named (wiring cs ws m) (g .named))
+            (stateAt ins outs (take n fol) std) (l .named);
+      }
+
+  pub listed-at : (n : ℕ) (t : List ℕ) (k i : ℕ) → Listed (wiring cs ws m) n t → k < n → i ≡ getD t k 0 → i < m .components
+  listed-at n t k i l h e =
+      let b : k < length (take n t) = omega (arith, length-take-le n t (l .count)) in
+      names-existing (wiring cs ws m) (take n t) (l .named) i
+      (subst (λ (x : ℕ). In x (take n t)) (getD-take n t k 0 h ∙ sym e) (in-getD (take n t) k 0 b))
+
+-- A loop over the current list: what is still to come.
+module _ (T : Tables) (ws : List Wire) (t : ℕ) (cur : List ℕ) (q n : ℕ) (s x : State) where
+  pub visits-next : (u : State) (i : ℕ) → q < n → n ≤ length cur → i ≡ getD cur q 0 → u ≡ visit T ws t s i
+      → foldl (visit T ws t) s (slice q n cur) ≡ x → foldl (visit T ws t) u (slice (q + 1) n cur) ≡ x
+  visits-next u i h l e eu so-far =
+      let y : foldl (visit T ws t) s (slice q n cur) ≡ foldl (visit T ws t) (visit T ws t s (getD cur q 0)) (slice (q + 1) n cur) =
+      rw (slice-cons q n cur 0 h l, add-one) in
+      rw (eu, e) (sym y ∙ so-far)
+
+  pub visits-end : q ≡ n → foldl (visit T ws t) s (slice q n cur) ≡ x → s ≡ x
+  visits-end h so-far = ap (foldl (visit T ws t) s) (sym (ap (λ (k : ℕ). slice k n cur) h ∙ slice-empty n cur)) ∙ so-far

@@ -1,13 +1,11 @@
 // Rounds. Rule: docs/SPECIFICATION.md, "Rounds". Source: simulator.rs, one pass of the loop in `start`, as with `keep_running` true.
 // Each step is the definition of the same name in specs/Round.antt.
 ghost use mathlib.Core.Path.{_≡_};
-ghost use mathlib.Core.Bool.{true, _&&_};
 ghost use mathlib.Core.List.{[], foldl};
-ghost use Prim.Native.Nat.{_+_, _≤_, _<_};
+ghost use Prim.Native.Nat.{_≤_, _<_};
 ghost use lib.ListN.{length, take};
-ghost use Rattle.primitive.specs.Kinds.{primitive, obeys};
-ghost use Rattle.tables.specs.Tables.{tablesOf, fullSize, fieldsIn, wordIn, wireAt, wiresIn};
-ghost use Rattle.net.specs.Net.{isNet};
+ghost use Rattle.tables.specs.Tables.{tablesOf, wireAt, wiresIn};
+ghost use Rattle.net.specs.Net.{netNumber};
 ghost use Rattle.simulator.specs.Round.{wiresFrom, turn, leave, send, evaluated, visit, roundOf};
 ghost use Rattle.simulator.specs.Steps.{bare, wiring, stateAt, Evaluates, Sends, Runs, Listed, Step, Visited};
 use tables::Counts;
@@ -95,4 +93,140 @@ fn evaluate_at(
         return count;
     }
     tables::strike(standing, count, i as u16)
+}
+
+// One component of the current list: evaluated, then each of its wires. The answer is the new counts of the two lists.
+fn visit(
+    components: &[u64],
+    wires: &[u16],
+    inputs: &mut [u64],
+    outputs: &mut [u64],
+    following: &mut [u16],
+    standing: &mut [u16],
+    counts: Counts,
+    sizes: Sizes,
+    i: usize,
+    time: u64,
+) -> Sizes
+    requires { ⌜ Runs (wiring (now components) (now wires) counts) (now inputs) (now outputs) × Listed (wiring (now components) (now wires) counts) (sizes .following) (now following) × (sizes .standing ≤ length (now standing)) × (i < counts .components) ⌝ }
+    ensures { λ r. ⌜ Visited r (now (following .exit)) (now (standing .exit)) (stateAt (now (inputs .exit)) (now (outputs .exit)) (take (r .following) (now (following .exit))) (take (r .standing) (now (standing .exit)))) (visit (wiring (now (components .entry)) (now (wires .entry)) counts) (wiresIn (wiring (now (components .entry)) (now (wires .entry)) counts)) time (stateAt (now (inputs .entry)) (now (outputs .entry)) (take (sizes .following) (now (following .entry))) (take (sizes .standing) (now (standing .entry)))) i) ⌝ }
+{
+    let left = evaluate_at(components, inputs, outputs, standing, sizes.standing, i, time);
+    let filled = send_wires(
+        components,
+        wires,
+        inputs,
+        outputs,
+        following,
+        sizes.following,
+        counts,
+        i,
+    );
+    Sizes {
+        following: filled,
+        standing: left,
+    }
+}
+
+// Every component of the current list, in its order.
+fn visit_all(
+    components: &[u64],
+    wires: &[u16],
+    current: &[u16],
+    inputs: &mut [u64],
+    outputs: &mut [u64],
+    following: &mut [u16],
+    standing: &mut [u16],
+    counts: Counts,
+    sizes: Sizes,
+    time: u64,
+) -> Sizes
+    requires { ⌜ Runs (wiring (now components) (now wires) counts) (now inputs) (now outputs) × Listed (wiring (now components) (now wires) counts) (counts .current) (now current) × Listed (wiring (now components) (now wires) counts) (sizes .following) (now following) × (sizes .standing ≤ length (now standing)) ⌝ }
+    ensures { λ r. ⌜ Visited r (now (following .exit)) (now (standing .exit)) (stateAt (now (inputs .exit)) (now (outputs .exit)) (take (r .following) (now (following .exit))) (take (r .standing) (now (standing .exit)))) (foldl (visit (wiring (now (components .entry)) (now (wires .entry)) counts) (wiresIn (wiring (now (components .entry)) (now (wires .entry)) counts)) time) (stateAt (now (inputs .entry)) (now (outputs .entry)) (take (sizes .following) (now (following .entry))) (take (sizes .standing) (now (standing .entry)))) (take (counts .current) (now (current .entry)))) ⌝ }
+{
+    let mut reached = sizes;
+    let mut k: usize = 0;
+    while k < counts.current {
+        let i = tables::entry(current, k);
+        reached = visit(
+            components,
+            wires,
+            inputs,
+            outputs,
+            following,
+            standing,
+            counts,
+            reached,
+            i,
+            time,
+        );
+        k += 1;
+    }
+    reached
+}
+
+// The end of a round: current becomes following, and following becomes a copy of standing. `next` and `left` are the following and
+// the standing list that the round has made; entries past their counts stay what they were in the lent tables.
+fn end_round(
+    next: &[u16],
+    left: &[u16],
+    current: &mut [u16],
+    following: &mut [u16],
+    standing: &mut [u16],
+    counts: Counts,
+    sizes: Sizes,
+) -> Counts
+    requires { ⌜ (sizes .following ≤ length (now next)) × (sizes .standing ≤ length (now left)) × (sizes .following ≤ length (now current)) × (sizes .standing ≤ length (now following)) × (sizes .standing ≤ length (now standing)) ⌝ }
+    ensures { λ r. ⌜ tablesOf [] [] [] [] (now (current .exit)) (now (following .exit)) (now (standing .exit)) r ≡ leave (tablesOf [] [] [] [] (now (current .entry)) (now (following .entry)) (now (standing .entry)) counts) (turn (stateAt [] [] (take (sizes .following) (now (next .entry))) (take (sizes .standing) (now (left .entry))))) ⌝ }
+{
+    tables::copy(next, sizes.following, current);
+    tables::copy(left, sizes.standing, following);
+    tables::copy(left, sizes.standing, standing);
+    Counts {
+        components: counts.components,
+        inputs: counts.inputs,
+        outputs: counts.outputs,
+        wires: counts.wires,
+        current: sizes.following,
+        following: sizes.standing,
+        standing: sizes.standing,
+    }
+}
+
+// A round of a net. The answer is the new counts.
+fn net_round(
+    components: &[u64],
+    inputs: &mut [u64],
+    outputs: &mut [u64],
+    wires: &[u16],
+    current: &mut [u16],
+    following: &mut [u16],
+    standing: &mut [u16],
+    counts: Counts,
+    time: u64,
+) -> Counts
+    requires { ⌜ netNumber (tablesOf (now components) (now inputs) (now outputs) (now wires) (now current) (now following) (now standing) counts) ≡ 0 ⌝ }
+    ensures { λ r. ⌜ tablesOf (now (components .entry)) (now (inputs .exit)) (now (outputs .exit)) (now (wires .entry)) (now (current .exit)) (now (following .exit)) (now (standing .exit)) r ≡ roundOf time (tablesOf (now (components .entry)) (now (inputs .entry)) (now (outputs .entry)) (now (wires .entry)) (now (current .entry)) (now (following .entry)) (now (standing .entry)) counts) ⌝ }
+{
+    let mut next = [0u16; 256];
+    let mut left = [0u16; 256];
+    tables::copy(following, counts.following, &mut next);
+    tables::copy(standing, counts.standing, &mut left);
+    let sizes = Sizes {
+        following: counts.following,
+        standing: counts.standing,
+    };
+    let reached = visit_all(
+        components,
+        wires,
+        current,
+        inputs,
+        outputs,
+        &mut next,
+        &mut left,
+        counts,
+        sizes,
+        time,
+    );
+    end_round(&next, &left, current, following, standing, counts, reached)
 }
