@@ -1,6 +1,8 @@
 // Rounds, edits and questions over lent tables. Rules: docs/SPECIFICATION.md, "Rounds" and "Numbers given back". Source: simulator.rs.
 mod rounds;
 
+pub use rounds::round;
+
 use component::FlatIdx;
 use primitive::Refusal;
 use tables::Counts;

@@ -6,8 +6,11 @@ ghost use Prim.Native.Nat.{_≤_, _<_};
 ghost use lib.ListN.{length, take};
 ghost use Rattle.tables.specs.Tables.{tablesOf, wireAt, wiresIn};
 ghost use Rattle.net.specs.Net.{netNumber};
-ghost use Rattle.simulator.specs.Round.{wiresFrom, turn, leave, send, evaluated, visit, roundOf};
+ghost use Rattle.simulator.specs.Round.{wiresFrom, turn, leave, send, evaluated, visit, calm, roundOf};
+ghost use Rattle.simulator.specs.Calls.{roundAnswer, roundTables};
 ghost use Rattle.simulator.specs.Steps.{bare, wiring, stateAt, Evaluates, Sends, Runs, Listed, Step, Visited};
+use primitive::Refusal;
+use tables::Answer;
 use tables::Counts;
 
 // How many entries of the following and the standing list are in use.
@@ -229,4 +232,63 @@ fn net_round(
         time,
     );
     end_round(&next, &left, current, following, standing, counts, reached)
+}
+
+// A round at a time, on any tables and counts: 2, 16. "A refusal of any call changes no lent table."
+pub fn round(
+    components: &[u64],
+    inputs: &mut [u64],
+    outputs: &mut [u64],
+    wires: &[u16],
+    current: &mut [u16],
+    following: &mut [u16],
+    standing: &mut [u16],
+    counts: Counts,
+    time: u64,
+) -> Answer
+    ensures { λ r. ⌜ (r ≡ roundAnswer (tablesOf (now (components .entry)) (now (inputs .entry)) (now (outputs .entry)) (now (wires .entry)) (now (current .entry)) (now (following .entry)) (now (standing .entry)) counts) time) × (tablesOf (now (components .entry)) (now (inputs .exit)) (now (outputs .exit)) (now (wires .entry)) (now (current .exit)) (now (following .exit)) (now (standing .exit)) (roundTables (tablesOf (now (components .entry)) (now (inputs .entry)) (now (outputs .entry)) (now (wires .entry)) (now (current .entry)) (now (following .entry)) (now (standing .entry)) counts) time .counts) ≡ roundTables (tablesOf (now (components .entry)) (now (inputs .entry)) (now (outputs .entry)) (now (wires .entry)) (now (current .entry)) (now (following .entry)) (now (standing .entry)) counts) time) ⌝ }
+{
+    let number = net::net_number(
+        components,
+        inputs,
+        outputs,
+        wires,
+        current,
+        following,
+        standing,
+        counts,
+    );
+    if number != 0 {
+        return Answer::Refused(Refusal {
+            number,
+            position: 0,
+        });
+    }
+    Answer::Done(net_round(
+        components,
+        inputs,
+        outputs,
+        wires,
+        current,
+        following,
+        standing,
+        counts,
+        time,
+    ))
+}
+
+// Calm: the current list of a net names only Clocks.
+fn is_calm(components: &[u64], current: &[u16], counts: Counts) -> bool
+    requires { ⌜ counts .current ≤ length (now current) ⌝ }
+    ensures { λ r. ⌜ r ≡ calm (tablesOf (now (components .entry)) [] [] [] (now (current .entry)) [] [] counts) ⌝ }
+{
+    let mut k: usize = 0;
+    while k < counts.current {
+        let i = tables::entry(current, k);
+        if tables::word_of(components, i, 0) != 12 {
+            return false;
+        }
+        k += 1;
+    }
+    true
 }
