@@ -1,3 +1,4 @@
 pub mod Ports
 pub mod StepsLaws
 pub mod RoundLaws
+pub mod CallsLaws
