@@ -10,11 +10,11 @@ use mathlib.Core.List.{List, [], _∷_, _++_, map}
 use Prim.Native.Nat.{ℕ, zero, suc, _+_, _≤_, _<_}
 use native.Mathlib.Decide.{decLt}
 use native.Mathlib.Omega.{arith}
-use borrow.Author.Tests.{ltb-true, lt-ltb, ne-eqb, eqb-false, not-true}
+use borrow.Author.Tests.{ltb-true, lt-ltb, ne-eqb}
 use lib.ListN.{length, take, drop, length-append, length-drop}
 use lib.Seq.{take-append-seam}
 use lib.Dec.{eqb, ltb}
-use Rattle.lists.specs.Lists.{from, keep, every, total, has, distinct, appendNew, strike, overlay}
+use Rattle.lists.specs.Lists.{from, every, total, has, distinct, appendNew, strike, overlay}
 use Rattle.lists.proofs.ListsLaws.{and-left, and-right}
 use Rattle.lists.proofs.MembersLaws.{In, in-left, in-right, in-cases, has-sound, has-complete, keep-sound, keep-complete, every-sound, every-complete, Distinct, distinct-append, distinct-keep, distinct-bound, distinct-sound, distinct-complete, map-complete, total-append, from0-complete, from-length, from-last}
 
@@ -87,7 +87,8 @@ pub record Names (n : ℕ) (xs : List ℕ) : Type 0 where
 pub names-sound : (n : ℕ) (xs : List ℕ) → (every (λ i. ltb i n) xs && distinct xs) ≡ true → Names n xs
 names-sound n xs e =
     record {
-      exist = λ x h. ltb-true x n (every-sound (λ i. ltb i n) x xs (and-left (every (λ i. ltb i n) xs) (distinct xs) e) h);
+      exist = λ x h. ltb-true x n (every-sound (λ i. ltb i n) x xs
+          (and-left (every (λ i. ltb i n) xs) (distinct xs) e) h);
       once = distinct-sound xs (and-right (every (λ i. ltb i n) xs) (distinct xs) e);
     }
 
@@ -99,7 +100,8 @@ names-complete n xs a =
 -- It is no longer than the bound.
 pub names-length : (n : ℕ) (xs : List ℕ) → Names n xs → length xs ≤ n
 names-length n xs a =
-    let l : length xs ≤ length (from 0 n) = distinct-bound xs (from 0 n) (a .once) (λ x h. from0-complete n x (a .exist x h)) in
+    let l : length xs ≤ length (from 0 n) = distinct-bound xs (from 0 n) (a .once)
+    (λ x h. from0-complete n x (a .exist x h)) in
     omega (arith, from-length 0 n)
 
 pub names-append : (n x : ℕ) (xs : List ℕ) → x < n → Names n xs → Names n (appendNew x xs)
@@ -124,7 +126,8 @@ unfolding overlay
 overlay-length xs t h = length-append xs (drop (length xs) t) ∙ omega (arith, length-drop (length xs) t)
 
 -- Where keys do not repeat, a key tells members apart.
-pub distinct-key : {A B : Type 0} (g : A → B) (xs : List A) (a c : A) → Distinct (map g xs) → In a xs → In c xs → g a ≡ g c → a ≡ c
+pub distinct-key : {A B : Type 0} (g : A → B) (xs : List A) (a c : A) → Distinct (map g xs) → In a xs → In c xs
+    → g a ≡ g c → a ≡ c
 distinct-key g [] a c d u v e = absurd u
 distinct-key g (x ∷ xs) a c d (inl p) (inl q) e = p ∙ sym q
 distinct-key {B = B} g (x ∷ xs) a c d (inl p) (inr v) e =
@@ -141,6 +144,7 @@ total-below f i (suc j) h = by-place (decLt i j) (λ l. total-below f i j l)
     more : total f (from 0 (suc j)) ≡ total f (from 0 j) + f j
     more = ap (total f) (from-last j) ∙ total-append f (from 0 j) (j ∷ []) ∙ omega arith
 
-    by-place : Dec (i < j) → (i < j → total f (from 0 i) + f i ≤ total f (from 0 j)) → total f (from 0 i) + f i ≤ total f (from 0 (suc j))
+    by-place : Dec (i < j) → (i < j → total f (from 0 i) + f i ≤ total f (from 0 j))
+        → total f (from 0 i) + f i ≤ total f (from 0 (suc j))
     by-place (yes l) later = omega (arith, later l, more)
     by-place (no l) later = let e : i ≡ j = omega arith in rw e (omega (arith, more))

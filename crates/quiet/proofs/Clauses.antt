@@ -2,15 +2,15 @@
 --   Sizes T     no table is shorter than full size
 --   Clauses T   the clauses of "the tables are a net"
 -- Assumes nothing.
-use mathlib.Core.Path.{_≡_, refl}
-use mathlib.Core.Bool.{Bool, true, false, not, _&&_}
+use mathlib.Core.Path.{_≡_}
+use mathlib.Core.Bool.{Bool, true, not, _&&_}
 use mathlib.Core.List.{[], _∷_}
-use Prim.Native.Nat.{ℕ, _*_, _≤_}
+use Prim.Native.Nat.{_*_, _≤_}
 use native.Mathlib.Omega.{arith}
 use borrow.Author.Tests.{leb-true, le-leb, not-false}
 use lib.ListN.{length}
 use lib.Dec.{leb}
-use Rattle.lists.specs.Lists.{refusal, _if_}
+use Rattle.lists.specs.Lists.{_if_}
 use Rattle.lists.proofs.ListsLaws.{and-left, and-right, refusal-first, refusal-rest}
 use Rattle.tables.specs.declared.Counts.{Counts}
 use Rattle.tables.specs.Tables.{Tables, fullSize, currentList, followingList, standingList}
@@ -50,7 +50,8 @@ pub record Sizes (T : Tables) : Type 0 where
 pub fullSize-sound : (T : Tables) → fullSize T ≡ true → Sizes T
 unfolding fullSize
 fullSize-sound T e =
-    let r = seven (leb (8 * 256) (length (T .components))) (leb 1024 (length (T .inputs))) (leb 1024 (length (T .outputs)))
+    let r = seven (leb (8 * 256) (length (T .components))) (leb 1024 (length (T .inputs)))
+    (leb 1024 (length (T .outputs)))
     (leb (4 * 1024) (length (T .wires))) (leb 256 (length (T .current))) (leb 256 (length (T .following)))
     (leb 256 (length (T .standing))) e in
     record {
@@ -167,13 +168,26 @@ isNet-sound T e =
 pub isNet-complete : (T : Tables) → Clauses T → isNet T ≡ true
 unfolding isNet
 isNet-complete T c =
-    rw (c .counts, c .kinds, c .ids, c .ports, c .values, c .consts, c .wires, c .inputs, c .current, c .following, c .standing)
+    rw (
+      c .counts,
+      c .kinds,
+      c .ids,
+      c .ports,
+      c .values,
+      c .consts,
+      c .wires,
+      c .inputs,
+      c .current,
+      c .following,
+      c .standing,
+    )
 
 -- Neither 2 nor 16 is given exactly where the tables have full size and are a net.
 module _ (T : Tables) where
   pub netNumber-full : netNumber T ≡ 0 → fullSize T ≡ true
   unfolding netNumber
-  netNumber-full e = not-false (fullSize T) (refusal-first 2 (not (fullSize T)) ((16 if not (isNet T)) ∷ []) (λ z. omega arith) e)
+  netNumber-full e = not-false (fullSize T)
+      (refusal-first 2 (not (fullSize T)) ((16 if not (isNet T)) ∷ []) (λ z. omega arith) e)
 
   pub netNumber-net : netNumber T ≡ 0 → isNet T ≡ true
   unfolding netNumber

@@ -5,7 +5,7 @@ use mathlib.Core.Path.{_≡_, refl, sym, ap, _∙_, subst}
 use mathlib.Core.Logic.{_⊎_, inl, inr}
 use mathlib.Core.Bool.{Bool, true, false, cond, not, _&&_, _||_, true≢false}
 use mathlib.Core.List.{List, [], _∷_}
-use Prim.Native.Nat.{ℕ, _+_, _≤_, _<_}
+use Prim.Native.Nat.{ℕ, _+_, _<_}
 use native.Mathlib.Omega.{arith}
 use native.Mathlib.Decide.{ℕ-discrete}
 use borrow.Author.Tests.{leb-false, not-true, not-false, eq-eqb}
@@ -15,9 +15,9 @@ use lib.Dec.{eqb, leb}
 use Rattle.lists.specs.Lists.{refusal, _if_, appendNew}
 use Rattle.lists.proofs.ListsLaws.{and-left, and-right, refusal-first, refusal-rest}
 use Rattle.lists.proofs.MembersLaws.{In, or-cases, any-none}
-use Rattle.lists.proofs.NamesLaws.{Names, names-append}
+use Rattle.lists.proofs.NamesLaws.{names-append}
 use Rattle.value.specs.Value.{below}
-use Rattle.primitive.specs.declared.kinds.Kind.the-variants.{Switch, Input, Clock, Const}
+use Rattle.primitive.specs.declared.kinds.Kind.the-variants.{Switch, Input, Const}
 use Rattle.primitive.specs.Kinds.{is, inputWidth, outputWidth}
 use Rattle.flatten.specs.declared.Wire.{Wire}
 use Rattle.tables.specs.Tables.{Tables, fullSize, fieldsAt, firstInput, firstOutput, wiresIn}
@@ -25,8 +25,8 @@ use Rattle.net.specs.Net.{isNet}
 use Rattle.simulator.specs.Round.{State, edited}
 use Rattle.simulator.specs.Calls.{driven, editNumber}
 use Rattle.quiet.proofs.Evaluation.{is-other, const-outputs, switch-outputs, input-inputs}
-use Rattle.quiet.proofs.Sound.{Sound, outputs-beside, inputs-beside}
-use Rattle.quiet.proofs.Held.{Held}
+use Rattle.quiet.proofs.Sound.{OutputsBeside, InputsBeside, Sound, outputs-beside, inputs-beside}
+use Rattle.quiet.proofs.Held.{inputFits, outputFits, Held}
 
 pub record Editable (T : Tables) (i v : ℕ) : Type 0 where
   pub exists : i < T .counts .components
@@ -76,7 +76,8 @@ module _ (T : Tables) (i v : ℕ) (e : editNumber T i v ≡ 0) where
   pub editNumber-editable : Editable T i v
   editNumber-editable =
       record {
-        exists = leb-false (T .counts .components) i (refusal-first 17 (leb (T .counts .components) i) from18 (λ z. omega arith) to17);
+        exists = leb-false (T .counts .components) i
+            (refusal-first 17 (leb (T .counts .components) i) from18 (λ z. omega arith) to17);
         settable = by-kind (or-cases (is Switch (fieldsAt T i)) (is Input (fieldsAt T i) && not (driven T i))
             (not-false settable (refusal-first 18 (not settable) from19 (λ z. omega arith) to18)));
         value = not-false fitting (refusal-first 19 (not fitting) [] (λ z. omega arith) to19);
@@ -118,8 +119,10 @@ fed T i v s =
 
 -- An edit is one of the two.
 pub data EditCase (T : Tables) (i v : ℕ) (s : State) : Type 0 where
-  switch : is Switch (fieldsAt T i) ≡ true → below v (outputWidth (fieldsAt T i)) ≡ true → edited T i v s ≡ switched T i v s → EditCase T i v s
-  input : is Input (fieldsAt T i) ≡ true → driven T i ≡ false → below v (inputWidth (fieldsAt T i)) ≡ true → edited T i v s ≡ fed T i v s
+  switch : is Switch (fieldsAt T i) ≡ true → below v (outputWidth (fieldsAt T i)) ≡ true
+      → edited T i v s ≡ switched T i v s → EditCase T i v s
+  input : is Input (fieldsAt T i) ≡ true → driven T i ≡ false → below v (inputWidth (fieldsAt T i)) ≡ true
+      → edited T i v s ≡ fed T i v s
       → EditCase T i v s
 
 pub edit-case : (T : Tables) (i v : ℕ) (s : State) → Editable T i v → EditCase T i v s
@@ -127,7 +130,8 @@ unfolding edited switched fed
 edit-case T i v s a = by-kind (a .settable) (a .value)
   where
     by-kind : (is Switch (fieldsAt T i) ≡ true) ⊎ ((is Input (fieldsAt T i) ≡ true) × (driven T i ≡ false))
-        → below v (cond (is Switch (fieldsAt T i)) (outputWidth (fieldsAt T i)) (inputWidth (fieldsAt T i))) ≡ true → EditCase T i v s
+        → below v (cond (is Switch (fieldsAt T i)) (outputWidth (fieldsAt T i)) (inputWidth (fieldsAt T i))) ≡ true
+        → EditCase T i v s
     by-kind (inl q) b = switch q (rw q at b) (rw q)
     by-kind (inr q) b =
         let z : is Switch (fieldsAt T i) ≡ false = is-other (fieldsAt T i) Input Switch refl (q .0) in
@@ -142,7 +146,7 @@ module _ (T : Tables) (g : Sound T) (i v : ℕ) (h : i < T .counts .components) 
       → firstOutput T d + j ≡ firstOutput T i → ⊥
   switch-apart k d j q ne l e = by-side (outputs-beside T g i d h q ne)
     where
-      by-side : (firstOutput T i + fieldsAt T i .outputs ≤ firstOutput T d) ⊎ (firstOutput T d + fieldsAt T d .outputs ≤ firstOutput T i) → ⊥
+      by-side : OutputsBeside T i d → ⊥
       by-side (inl u) = omega (arith, switch-outputs (fieldsAt T i) (g .obeyed i h) k)
       by-side (inr u) = omega arith
 
@@ -151,11 +155,12 @@ module _ (T : Tables) (g : Sound T) (i v : ℕ) (h : i < T .counts .components) 
       → firstInput T d + j ≡ firstInput T i → ⊥
   input-apart k d j q ne l e = by-side (inputs-beside T g i d h q ne)
     where
-      by-side : (firstInput T i + fieldsAt T i .inputs ≤ firstInput T d) ⊎ (firstInput T d + fieldsAt T d .inputs ≤ firstInput T i) → ⊥
+      by-side : InputsBeside T i d → ⊥
       by-side (inl u) = omega (arith, input-inputs (fieldsAt T i) (g .obeyed i h) k)
       by-side (inr u) = omega arith
 
-  switched-held : is Switch (fieldsAt T i) ≡ true → below v (outputWidth (fieldsAt T i)) ≡ true → Held T (switched T i v s)
+  switched-held : is Switch (fieldsAt T i) ≡ true → below v (outputWidth (fieldsAt T i)) ≡ true
+      → Held T (switched T i v s)
   unfolding switched
   switched-held k b =
       record {
@@ -172,18 +177,20 @@ module _ (T : Tables) (g : Sound T) (i v : ℕ) (h : i < T .counts .components) 
       room : firstOutput T i < length (s .outputs)
       room = omega (arith, switch-outputs (fieldsAt T i) (g .obeyed i h) k, a .outputs-length, g .outputs-in i h)
 
-      own : (j : ℕ) → j < fieldsAt T i .outputs → below (getD (set (s .outputs) (firstOutput T i) v) (firstOutput T i + j) 0) (outputWidth (fieldsAt T i)) ≡ true
+      own : (j : ℕ) → j < fieldsAt T i .outputs
+          → outputFits T (set (s .outputs) (firstOutput T i) v) i j ≡ true
       own j l =
-          let e : firstOutput T i + j ≡ firstOutput T i = omega (arith, switch-outputs (fieldsAt T i) (g .obeyed i h) k) in
+          let one = switch-outputs (fieldsAt T i) (g .obeyed i h) k in
+          let e : firstOutput T i + j ≡ firstOutput T i = omega arith in
           ap (λ (p : ℕ). below (getD (set (s .outputs) (firstOutput T i) v) p 0) (outputWidth (fieldsAt T i))) e
           ∙ ap (λ (x : ℕ). below x (outputWidth (fieldsAt T i))) (getD-set-same (s .outputs) (firstOutput T i) v 0 room)
           ∙ b
 
       fit : (d : ℕ) → d < n → (j : ℕ) → j < fieldsAt T d .outputs → Dec (d ≡ i)
-          → below (getD (set (s .outputs) (firstOutput T i) v) (firstOutput T d + j) 0) (outputWidth (fieldsAt T d)) ≡ true
+          → outputFits T (set (s .outputs) (firstOutput T i) v) d j ≡ true
       fit d q j l (yes e) =
           subst (λ (x : ℕ). j < fieldsAt T x .outputs
-          → below (getD (set (s .outputs) (firstOutput T i) v) (firstOutput T x + j) 0) (outputWidth (fieldsAt T x)) ≡ true)
+          → outputFits T (set (s .outputs) (firstOutput T i) v) x j ≡ true)
           (sym e) (own j) l
       fit d q j l (no ne) =
           ap (λ (x : ℕ). below x (outputWidth (fieldsAt T d)))
@@ -193,14 +200,16 @@ module _ (T : Tables) (g : Sound T) (i v : ℕ) (h : i < T .counts .components) 
       away : (d : ℕ) → d < n → is Const (fieldsAt T d) ≡ true → (d ≡ i → ⊥) → firstOutput T d ≡ firstOutput T i → ⊥
       away d q e ne p = by-side (outputs-beside T g i d h q ne)
         where
-          by-side : (firstOutput T i + fieldsAt T i .outputs ≤ firstOutput T d) ⊎ (firstOutput T d + fieldsAt T d .outputs ≤ firstOutput T i) → ⊥
+          by-side : OutputsBeside T i d → ⊥
           by-side (inl u) = omega (arith, switch-outputs (fieldsAt T i) (g .obeyed i h) k)
           by-side (inr u) = omega (arith, const-outputs (fieldsAt T d) (g .obeyed d q) e)
 
       const : (d : ℕ) → d < n → is Const (fieldsAt T d) ≡ true → Dec (d ≡ i)
           → getD (set (s .outputs) (firstOutput T i) v) (firstOutput T d) 0 ≡ fieldsAt T d .parameter
       const d q e (yes p) =
-          absurd (true≢false (sym e ∙ ap (λ (x : ℕ). is Const (fieldsAt T x)) p ∙ is-other (fieldsAt T i) Switch Const refl k))
+          let z : is Const (fieldsAt T d) ≡ false
+          = ap (λ (x : ℕ). is Const (fieldsAt T x)) p ∙ is-other (fieldsAt T i) Switch Const refl k in
+          absurd (true≢false (sym e ∙ z))
       const d q e (no ne) =
           getD-set-other (s .outputs) (firstOutput T i) (firstOutput T d) v 0 (away d q e ne) ∙ a .consts d q e
 
@@ -221,7 +230,8 @@ module _ (T : Tables) (g : Sound T) (i v : ℕ) (h : i < T .counts .components) 
       room : firstInput T i < length (s .inputs)
       room = omega (arith, input-inputs (fieldsAt T i) (g .obeyed i h) k, a .inputs-length, g .inputs-in i h)
 
-      own : (j : ℕ) → j < fieldsAt T i .inputs → below (getD (set (s .inputs) (firstInput T i) v) (firstInput T i + j) 0) (inputWidth (fieldsAt T i)) ≡ true
+      own : (j : ℕ) → j < fieldsAt T i .inputs
+          → inputFits T (set (s .inputs) (firstInput T i) v) i j ≡ true
       own j l =
           let e : firstInput T i + j ≡ firstInput T i = omega (arith, input-inputs (fieldsAt T i) (g .obeyed i h) k) in
           ap (λ (p : ℕ). below (getD (set (s .inputs) (firstInput T i) v) p 0) (inputWidth (fieldsAt T i))) e
@@ -229,10 +239,10 @@ module _ (T : Tables) (g : Sound T) (i v : ℕ) (h : i < T .counts .components) 
           ∙ b
 
       fit : (d : ℕ) → d < n → (j : ℕ) → j < fieldsAt T d .inputs → Dec (d ≡ i)
-          → below (getD (set (s .inputs) (firstInput T i) v) (firstInput T d + j) 0) (inputWidth (fieldsAt T d)) ≡ true
+          → inputFits T (set (s .inputs) (firstInput T i) v) d j ≡ true
       fit d q j l (yes e) =
           subst (λ (x : ℕ). j < fieldsAt T x .inputs
-          → below (getD (set (s .inputs) (firstInput T i) v) (firstInput T x + j) 0) (inputWidth (fieldsAt T x)) ≡ true)
+          → inputFits T (set (s .inputs) (firstInput T i) v) x j ≡ true)
           (sym e) (own j) l
       fit d q j l (no ne) =
           ap (λ (x : ℕ). below x (inputWidth (fieldsAt T d)))

@@ -1,11 +1,11 @@
 -- What rounds and edits lean on of the kinds: how many ports some have, and what an evaluation depends on.
 -- Assumes nothing.
 use mathlib.Core.Path.{_≡_, refl, sym, ap, _∙_}
-use mathlib.Core.Bool.{Bool, true, false, cond, _&&_, _||_, true≢false}
+use mathlib.Core.Bool.{Bool, true, false, cond, _&&_, _||_}
 use mathlib.Core.List.{List, [], _∷_}
 use Prim.Native.Nat.{ℕ, _<_}
 use native.Mathlib.Omega.{arith}
-use borrow.Author.Tests.{eqb-true, eq-eqb, eqb-false}
+use borrow.Author.Tests.{eqb-true, eqb-false}
 use lib.Dec.{eqb}
 use Rattle.lists.proofs.ListsLaws.{and-left, within-most}
 use Rattle.primitive.specs.declared.kinds.Kind.{Kind}
@@ -13,7 +13,7 @@ use Rattle.primitive.specs.declared.kinds.Kind.the-variants.{Composite, And, Or
 use Rattle.primitive.specs.declared.table.Fields.{Fields}
 use Rattle.primitive.specs.Kinds.{numberOf, kindOf, is, primitive, obeys}
 use Rattle.primitive.specs.Evaluate.{rule, functionOf, outputsAfter}
-use Rattle.primitive.proofs.KindsLaws.{numberOf-kindOf, kindOf-numberOf}
+use Rattle.primitive.proofs.KindsLaws.{numberOf-kindOf}
 use Rattle.primitive.proofs.UpdateLaws.{obeyed-row}
 
 -- A component is of one kind only.
@@ -54,7 +54,8 @@ module _ (f : Fields) (o : (primitive f && obeys f) ≡ true) where
       let r = obeyed-row f Input o (eqb-true (f .kind) 8 e) in omega (arith, r .inputs .least, r .inputs .most)
 
   -- An evaluation of any kind but a Clock does not depend on the time.
-  pub outputsAfter-time : (xs ys : List ℕ) (t u : ℕ) → is Clock f ≡ false → outputsAfter f xs ys t ≡ outputsAfter f xs ys u
+  pub outputsAfter-time : (xs ys : List ℕ) (t u : ℕ) → is Clock f ≡ false
+      → outputsAfter f xs ys t ≡ outputsAfter f xs ys u
   unfolding outputsAfter functionOf
   outputsAfter-time xs ys t u e =
       ap (cond (is Switch f || is Const f) ys) (rule-time (kindOf (f .kind)) (f .parameter) xs t u no-clock)
@@ -65,7 +66,8 @@ module _ (f : Fields) (o : (primitive f && obeys f) ≡ true) where
           eqb-false (f .kind) 12 e (sym (numberOf-kindOf (f .kind) b) ∙ ap numberOf q)
 
 -- A second evaluation on the same inputs changes nothing.
-pub outputsAfter-twice : (f : Fields) (xs ys : List ℕ) (t : ℕ) → outputsAfter f xs (outputsAfter f xs ys t) t ≡ outputsAfter f xs ys t
+pub outputsAfter-twice : (f : Fields) (xs ys : List ℕ) (t : ℕ)
+    → outputsAfter f xs (outputsAfter f xs ys t) t ≡ outputsAfter f xs ys t
 unfolding outputsAfter
 outputsAfter-twice f xs ys t = by-test (is Switch f || is Const f)
   where

@@ -1,14 +1,14 @@
--- What a net holds of a state, and that every step of a round and an edit keep it: port tables keep their lengths, values
--- fit, each Const's output is its value, and the three lists name existing components without repeats.
+-- What a net holds of a state, and that every step of a round keeps it: port tables keep their lengths, values fit,
+-- each Const's output is its value, and the three lists name existing components without repeats.
 --   Held T s      the state s is one that a net with the components and wires of T may have
 --   Order T ws    ws is an order of all wires of T: it has the same members
 --   Agree T s w   the output and the input of the wire w hold the same number
 -- Assumes nothing.
 use mathlib.Core.Path.{_≡_, refl, sym, ap, _∙_, subst}
-use mathlib.Core.Logic.{_⊎_, inl, inr, ⊎-elim}
-use mathlib.Core.Bool.{Bool, true, false, cond, _&&_, true≢false}
+use mathlib.Core.Logic.{inl, inr}
+use mathlib.Core.Bool.{Bool, true, false, cond}
 use mathlib.Core.List.{List, [], _∷_, foldl}
-use Prim.Native.Nat.{ℕ, zero, suc, _+_, _≤_, _<_}
+use Prim.Native.Nat.{ℕ, _+_, _≤_, _<_}
 use native.Mathlib.Omega.{arith}
 use native.Mathlib.Decide.{ℕ-discrete}
 use borrow.Author.Tests.{eqb-true, eqb-false}
@@ -19,24 +19,31 @@ use Rattle.lists.specs.Lists.{appendNew, strike}
 use Rattle.lists.proofs.MembersLaws.{In, in-getD, every-sound, keep-sound}
 use Rattle.lists.proofs.NamesLaws.{Names, names-append, names-strike}
 use Rattle.value.specs.Value.{below}
-use Rattle.primitive.specs.declared.kinds.Kind.the-variants.{Switch, Input, Clock, Const}
+use Rattle.primitive.specs.declared.kinds.Kind.the-variants.{Clock, Const}
 use Rattle.primitive.specs.Kinds.{is, inputWidth, outputWidth}
 use Rattle.primitive.specs.Evaluate.{outputsAfter, Own}
 use Rattle.primitive.proofs.FitLaws.{outputsAfter-length, outputsAfter-fits}
 use Rattle.flatten.specs.declared.Wire.{Wire}
 use Rattle.tables.specs.Tables.{Tables, fieldsAt, firstInput, firstOutput, inputPlace, outputPlace, inputsAt, outputsAt, wiresIn}
-use Rattle.simulator.specs.Round.{State, wiresFrom, turn, evaluated, send, visit, round, edited}
+use Rattle.simulator.specs.Round.{State, wiresFrom, evaluated, send, visit, round}
 use Rattle.quiet.proofs.Ports.{Off, sets-at-ne, sets-at, numbers-length, numbers-at, numbers-fit}
-use Rattle.quiet.proofs.Evaluation.{is-other, const-outputs, switch-outputs, input-inputs, outputsAfter-const}
-use Rattle.quiet.proofs.Sound.{Sound, outputs-beside, inputs-beside, outputs-off, inputs-off, input-room}
+use Rattle.quiet.proofs.Evaluation.{const-outputs, outputsAfter-const}
+use Rattle.quiet.proofs.Sound.{outputsEnd, inputsEnd, OutputsBeside, Sound, outputs-beside, inputs-off, input-room}
+
+-- Input j of component i fits its width in a table of inputs; output j does in one of outputs.
+abbrev pub inputFits : Tables → List ℕ → ℕ → ℕ → Bool
+inputFits T l i j = below (getD l (firstInput T i + j) 0) (inputWidth (fieldsAt T i))
+
+abbrev pub outputFits : Tables → List ℕ → ℕ → ℕ → Bool
+outputFits T l i j = below (getD l (firstOutput T i + j) 0) (outputWidth (fieldsAt T i))
 
 pub record Held (T : Tables) (s : State) : Type 0 where
   pub inputs-length : length (s .inputs) ≡ length (T .inputs)
   pub outputs-length : length (s .outputs) ≡ length (T .outputs)
   pub inputs-fit : (i : ℕ) → i < T .counts .components → (j : ℕ) → j < fieldsAt T i .inputs
-      → below (getD (s .inputs) (firstInput T i + j) 0) (inputWidth (fieldsAt T i)) ≡ true
+      → inputFits T (s .inputs) i j ≡ true
   pub outputs-fit : (i : ℕ) → i < T .counts .components → (j : ℕ) → j < fieldsAt T i .outputs
-      → below (getD (s .outputs) (firstOutput T i + j) 0) (outputWidth (fieldsAt T i)) ≡ true
+      → outputFits T (s .outputs) i j ≡ true
   pub consts : (i : ℕ) → i < T .counts .components → is Const (fieldsAt T i) ≡ true
       → getD (s .outputs) (firstOutput T i) 0 ≡ fieldsAt T i .parameter
   pub current : Names (T .counts .components) (s .current)
@@ -52,15 +59,22 @@ pub record Order (T : Tables) (ws : List Wire) : Type 0 where
 pub stored-order : (T : Tables) → Order T (wiresIn T)
 stored-order T = record { only = λ w m. m; all = λ w m. m }
 
--- Output and input of a wire hold the same number.
+-- The numbers of a wire's output and of its input.
+abbrev pub carried : Tables → State → Wire → ℕ
+carried T s w = getD (s .outputs) (outputPlace T (w .src)) 0
+
+abbrev pub received : Tables → State → Wire → ℕ
+received T s w = getD (s .inputs) (inputPlace T (w .dst)) 0
+
+-- They are the same.
 abbrev pub Agree : Tables → State → Wire → Type 0
-Agree T s w = getD (s .outputs) (outputPlace T (w .src)) 0 ≡ getD (s .inputs) (inputPlace T (w .dst)) 0
+Agree T s w = carried T s w ≡ received T s w
 
 -- The store of one wire.
 unfoldable pub written : Tables → State → Wire → State
 written T s w =
     record {
-      inputs = set (s .inputs) (inputPlace T (w .dst)) (getD (s .outputs) (outputPlace T (w .src)) 0);
+      inputs = set (s .inputs) (inputPlace T (w .dst)) (carried T s w);
       outputs = s .outputs;
       current = s .current;
       following = appendNew (w .dst .comp) (s .following);
@@ -74,15 +88,19 @@ pub data SendCase (T : Tables) (s : State) (w : Wire) : Type 0 where
 
 pub send-case : (T : Tables) (s : State) (w : Wire) → SendCase T s w
 unfolding send written
-send-case T s w = by-test (eqb (getD (s .outputs) (outputPlace T (w .src)) 0) (getD (s .inputs) (inputPlace T (w .dst)) 0)) refl
+send-case T s w = by-test (eqb (carried T s w) (received T s w)) refl
   where
-    by-test : (b : Bool) → eqb (getD (s .outputs) (outputPlace T (w .src)) 0) (getD (s .inputs) (inputPlace T (w .dst)) 0) ≡ b → SendCase T s w
-    by-test true e = agrees (eqb-true (getD (s .outputs) (outputPlace T (w .src)) 0) (getD (s .inputs) (inputPlace T (w .dst)) 0) e) (rw e)
-    by-test false e = writes (eqb-false (getD (s .outputs) (outputPlace T (w .src)) 0) (getD (s .inputs) (inputPlace T (w .dst)) 0) e) (rw e)
+    by-test : (b : Bool) → eqb (carried T s w) (received T s w) ≡ b → SendCase T s w
+    by-test true e = agrees (eqb-true (carried T s w) (received T s w) e) (rw e)
+    by-test false e = writes (eqb-false (carried T s w) (received T s w) e) (rw e)
 
 -- The outputs that an evaluation of component i leaves.
 abbrev pub made : Tables → ℕ → State → ℕ → List ℕ
 made T t s i = outputsAfter (fieldsAt T i) (inputsAt T (s .inputs) i) (outputsAt T (s .outputs) i) t
+
+-- The table of outputs after it.
+abbrev pub outputsMade : Tables → ℕ → State → ℕ → List ℕ
+outputsMade T t s i = sets (s .outputs) (firstOutput T i) (made T t s i)
 
 module _ (T : Tables) (g : Sound T) where
   -- One wire.
@@ -90,9 +108,9 @@ module _ (T : Tables) (g : Sound T) where
   unfolding written
   send-held s w m a = by-case (send-case T s w)
     where
-      value : below (getD (s .outputs) (outputPlace T (w .src)) 0) (inputWidth (fieldsAt T (w .dst .comp))) ≡ true
+      value : below (carried T s w) (inputWidth (fieldsAt T (w .dst .comp))) ≡ true
       value =
-          ap (below (getD (s .outputs) (outputPlace T (w .src)) 0)) (sym (g .widths w m))
+          ap (below (carried T s w)) (sym (g .widths w m))
           ∙ a .outputs-fit (w .src .comp) (g .source w m) (w .src .port) (g .source-port w m)
 
       room : inputPlace T (w .dst) < length (s .inputs)
@@ -100,16 +118,16 @@ module _ (T : Tables) (g : Sound T) where
 
       at-input : (i j : ℕ) → i ≡ w .dst .comp → i < T .counts .components → j < fieldsAt T i .inputs
           → Dec (firstInput T i + j ≡ inputPlace T (w .dst))
-          → below (getD (written T s w .inputs) (firstInput T i + j) 0) (inputWidth (fieldsAt T i)) ≡ true
+          → inputFits T (written T s w .inputs) i j ≡ true
       at-input i j e h l (yes p) =
           ap (λ (k : ℕ). below (getD (written T s w .inputs) k 0) (inputWidth (fieldsAt T i))) p
           ∙ ap (λ (x : ℕ). below x (inputWidth (fieldsAt T i)))
-          (getD-set-same (s .inputs) (inputPlace T (w .dst)) (getD (s .outputs) (outputPlace T (w .src)) 0) 0 room)
-          ∙ ap (λ (k : ℕ). below (getD (s .outputs) (outputPlace T (w .src)) 0) (inputWidth (fieldsAt T k))) e
+          (getD-set-same (s .inputs) (inputPlace T (w .dst)) (carried T s w) 0 room)
+          ∙ ap (λ (k : ℕ). below (carried T s w) (inputWidth (fieldsAt T k))) e
           ∙ value
       at-input i j e h l (no p) =
           ap (λ (x : ℕ). below x (inputWidth (fieldsAt T i)))
-          (getD-set-other (s .inputs) (inputPlace T (w .dst)) (firstInput T i + j) (getD (s .outputs) (outputPlace T (w .src)) 0) 0 p)
+          (getD-set-other (s .inputs) (inputPlace T (w .dst)) (firstInput T i + j) (carried T s w) 0 p)
           ∙ a .inputs-fit i h j l
 
       apart : (i j : ℕ) → j < fieldsAt T i .inputs → Off (firstInput T i) (fieldsAt T i .inputs) (inputPlace T (w .dst))
@@ -118,24 +136,25 @@ module _ (T : Tables) (g : Sound T) where
       apart i j l (inr o) e = omega arith
 
       fit : (i : ℕ) → i < T .counts .components → (j : ℕ) → j < fieldsAt T i .inputs → Dec (i ≡ w .dst .comp)
-          → below (getD (written T s w .inputs) (firstInput T i + j) 0) (inputWidth (fieldsAt T i)) ≡ true
+          → inputFits T (written T s w .inputs) i j ≡ true
       fit i h j l (yes e) = at-input i j e h l (ℕ-discrete (firstInput T i + j) (inputPlace T (w .dst)))
       fit i h j l (no e) =
           ap (λ (x : ℕ). below x (inputWidth (fieldsAt T i)))
-          (getD-set-other (s .inputs) (inputPlace T (w .dst)) (firstInput T i + j) (getD (s .outputs) (outputPlace T (w .src)) 0) 0
+          (getD-set-other (s .inputs) (inputPlace T (w .dst)) (firstInput T i + j) (carried T s w) 0
           (apart i j l (inputs-off T g i w h m e)))
           ∙ a .inputs-fit i h j l
 
       new : Held T (written T s w)
       new =
           record {
-            inputs-length = length-set (s .inputs) (inputPlace T (w .dst)) (getD (s .outputs) (outputPlace T (w .src)) 0) ∙ a .inputs-length;
+            inputs-length = length-set (s .inputs) (inputPlace T (w .dst)) (carried T s w) ∙ a .inputs-length;
             outputs-length = a .outputs-length;
             inputs-fit = λ i h j l. fit i h j l (ℕ-discrete i (w .dst .comp));
             outputs-fit = a .outputs-fit;
             consts = a .consts;
             current = a .current;
-            following = names-append (T .counts .components) (w .dst .comp) (s .following) (g .target w m) (a .following);
+            following = names-append (T .counts .components) (w .dst .comp) (s .following) (g .target w m)
+                (a .following);
             standing = a .standing;
           }
 
@@ -144,16 +163,17 @@ module _ (T : Tables) (g : Sound T) where
       by-case (writes p e) = rw e new
 
   -- The wires of one component.
-  pub sends-held : (ws : List Wire) → ((w : Wire) → In w ws → In w (wiresIn T)) → (s : State) → Held T s → Held T (foldl (send T) s ws)
+  pub sends-held : (ws : List Wire) → ((w : Wire) → In w ws → In w (wiresIn T)) → (s : State) → Held T s
+      → Held T (foldl (send T) s ws)
   sends-held [] f s a = a
   sends-held (w ∷ ws) f s a = sends-held ws (λ x m. f x (inr m)) (send T s w) (send-held s w (f w (inl refl)) a)
 
   -- An evaluation of component i.
   module _ (t i : ℕ) (h : i < T .counts .components) (s : State) (a : Held T s) where
-    inputs-room : firstInput T i + fieldsAt T i .inputs ≤ length (s .inputs)
+    inputs-room : inputsEnd T i ≤ length (s .inputs)
     inputs-room = omega (arith, a .inputs-length, g .inputs-in i h)
 
-    outputs-room : firstOutput T i + fieldsAt T i .outputs ≤ length (s .outputs)
+    outputs-room : outputsEnd T i ≤ length (s .outputs)
     outputs-room = omega (arith, a .outputs-length, g .outputs-in i h)
 
     own : Own (fieldsAt T i) (inputsAt T (s .inputs) i) (outputsAt T (s .outputs) i)
@@ -167,29 +187,34 @@ module _ (T : Tables) (g : Sound T) where
     pub made-length : length (made T t s i) ≡ fieldsAt T i .outputs
     made-length = outputsAfter-length (fieldsAt T i) (inputsAt T (s .inputs) i) (outputsAt T (s .outputs) i) t own
 
-    made-fits : (j : ℕ) → j < fieldsAt T i .outputs → below (getD (made T t s i) j 0) (outputWidth (fieldsAt T i)) ≡ true
+    made-fits : (j : ℕ) → j < fieldsAt T i .outputs
+        → below (getD (made T t s i) j 0) (outputWidth (fieldsAt T i)) ≡ true
     made-fits j l =
         every-sound (λ x. below x (outputWidth (fieldsAt T i))) (getD (made T t s i) j 0) (made T t s i)
         (outputsAfter-fits (fieldsAt T i) (inputsAt T (s .inputs) i) (outputsAt T (s .outputs) i) t own
-        (numbers-fit (s .inputs) (firstInput T i) (fieldsAt T i .inputs) inputs-room (inputWidth (fieldsAt T i)) (a .inputs-fit i h))
-        (numbers-fit (s .outputs) (firstOutput T i) (fieldsAt T i .outputs) outputs-room (outputWidth (fieldsAt T i)) (a .outputs-fit i h)))
+        (numbers-fit (s .inputs) (firstInput T i) (fieldsAt T i .inputs) inputs-room (inputWidth (fieldsAt T i))
+        (a .inputs-fit i h))
+        (numbers-fit (s .outputs) (firstOutput T i) (fieldsAt T i .outputs) outputs-room (outputWidth (fieldsAt T i))
+        (a .outputs-fit i h)))
         (in-getD (made T t s i) j 0 (omega (arith, made-length)))
 
     -- Another component's outputs are left.
     pub others-left : (d j : ℕ) → d < T .counts .components → (d ≡ i → ⊥) → j < fieldsAt T d .outputs
-        → getD (sets (s .outputs) (firstOutput T i) (made T t s i)) (firstOutput T d + j) 0 ≡ getD (s .outputs) (firstOutput T d + j) 0
+        → getD (outputsMade T t s i) (firstOutput T d + j) 0 ≡ getD (s .outputs) (firstOutput T d + j) 0
     others-left d j q ne l =
-        sets-at-ne (made T t s i) (s .outputs) (firstOutput T i) (firstOutput T d + j) (off (outputs-beside T g i d h q ne))
+        sets-at-ne (made T t s i) (s .outputs) (firstOutput T i) (firstOutput T d + j)
+        (off (outputs-beside T g i d h q ne))
       where
-        off : (firstOutput T i + fieldsAt T i .outputs ≤ firstOutput T d) ⊎ (firstOutput T d + fieldsAt T d .outputs ≤ firstOutput T i)
+        off : OutputsBeside T i d
             → Off (firstOutput T i) (length (made T t s i)) (firstOutput T d + j)
         off (inl u) = inr (omega (arith, made-length))
         off (inr u) = inl (omega arith)
 
     own-outputs : (j : ℕ) → j < fieldsAt T i .outputs
-        → getD (sets (s .outputs) (firstOutput T i) (made T t s i)) (firstOutput T i + j) 0 ≡ getD (made T t s i) j 0
+        → getD (outputsMade T t s i) (firstOutput T i + j) 0 ≡ getD (made T t s i) j 0
     own-outputs j l =
-        sets-at (made T t s i) (s .outputs) (firstOutput T i) j (omega (arith, made-length, outputs-room)) (omega (arith, made-length))
+        sets-at (made T t s i) (s .outputs) (firstOutput T i) j (omega (arith, made-length, outputs-room))
+        (omega (arith, made-length))
 
     pub evaluated-held : Held T (evaluated T t i s)
     unfolding evaluated
@@ -205,16 +230,18 @@ module _ (T : Tables) (g : Sound T) where
           standing = stand (is Clock (fieldsAt T i));
         }
       where
-        fit-own : (j : ℕ) → j < fieldsAt T i .outputs → below (getD (sets (s .outputs) (firstOutput T i) (made T t s i)) (firstOutput T i + j) 0) (outputWidth (fieldsAt T i)) ≡ true
+        fit-own : (j : ℕ) → j < fieldsAt T i .outputs
+            → outputFits T (outputsMade T t s i) i j ≡ true
         fit-own j l = ap (λ (x : ℕ). below x (outputWidth (fieldsAt T i))) (own-outputs j l) ∙ made-fits j l
 
         fit : (d : ℕ) → d < T .counts .components → (j : ℕ) → j < fieldsAt T d .outputs → Dec (d ≡ i)
-            → below (getD (sets (s .outputs) (firstOutput T i) (made T t s i)) (firstOutput T d + j) 0) (outputWidth (fieldsAt T d)) ≡ true
+            → outputFits T (outputsMade T t s i) d j ≡ true
         fit d q j l (yes e) =
             subst (λ (k : ℕ). j < fieldsAt T k .outputs
-            → below (getD (sets (s .outputs) (firstOutput T i) (made T t s i)) (firstOutput T k + j) 0) (outputWidth (fieldsAt T k)) ≡ true)
+            → outputFits T (outputsMade T t s i) k j ≡ true)
             (sym e) (fit-own j) l
-        fit d q j l (no ne) = ap (λ (x : ℕ). below x (outputWidth (fieldsAt T d))) (others-left d j q ne l) ∙ a .outputs-fit d q j l
+        fit d q j l (no ne) = ap (λ (x : ℕ). below x (outputWidth (fieldsAt T d))) (others-left d j q ne l)
+            ∙ a .outputs-fit d q j l
 
         one : (d : ℕ) → d < T .counts .components → is Const (fieldsAt T d) ≡ true → 0 < fieldsAt T d .outputs
         one d q e = omega (arith, const-outputs (fieldsAt T d) (g .obeyed d q) e)
@@ -223,23 +250,24 @@ module _ (T : Tables) (g : Sound T) where
         at-first l d = let e : firstOutput T d ≡ firstOutput T d + 0 = omega arith in ap (λ (k : ℕ). getD l k 0) e
 
         const-own : is Const (fieldsAt T i) ≡ true
-            → getD (sets (s .outputs) (firstOutput T i) (made T t s i)) (firstOutput T i) 0 ≡ fieldsAt T i .parameter
+            → getD (outputsMade T t s i) (firstOutput T i) 0 ≡ fieldsAt T i .parameter
         const-own e =
-            at-first (sets (s .outputs) (firstOutput T i) (made T t s i)) i
+            at-first (outputsMade T t s i) i
             ∙ own-outputs 0 (one i h e)
-            ∙ ap (λ (l : List ℕ). getD l 0 0) (outputsAfter-const (fieldsAt T i) (inputsAt T (s .inputs) i) (outputsAt T (s .outputs) i) t e)
+            ∙ ap (λ (l : List ℕ). getD l 0 0)
+            (outputsAfter-const (fieldsAt T i) (inputsAt T (s .inputs) i) (outputsAt T (s .outputs) i) t e)
             ∙ numbers-at (s .outputs) (firstOutput T i) (fieldsAt T i .outputs) outputs-room 0 (one i h e)
             ∙ sym (at-first (s .outputs) i)
             ∙ a .consts i h e
 
         const : (d : ℕ) → d < T .counts .components → is Const (fieldsAt T d) ≡ true → Dec (d ≡ i)
-            → getD (sets (s .outputs) (firstOutput T i) (made T t s i)) (firstOutput T d) 0 ≡ fieldsAt T d .parameter
+            → getD (outputsMade T t s i) (firstOutput T d) 0 ≡ fieldsAt T d .parameter
         const d q e (yes p) =
             subst (λ (k : ℕ). is Const (fieldsAt T k) ≡ true
-            → getD (sets (s .outputs) (firstOutput T i) (made T t s i)) (firstOutput T k) 0 ≡ fieldsAt T k .parameter)
+            → getD (outputsMade T t s i) (firstOutput T k) 0 ≡ fieldsAt T k .parameter)
             (sym p) const-own e
         const d q e (no ne) =
-            at-first (sets (s .outputs) (firstOutput T i) (made T t s i)) d
+            at-first (outputsMade T t s i) d
             ∙ others-left d 0 q ne (one d q e)
             ∙ sym (at-first (s .outputs) d)
             ∙ a .consts d q e
@@ -260,7 +288,8 @@ module _ (T : Tables) (g : Sound T) where
     pub visits-held : (xs : List ℕ) → ((x : ℕ) → In x xs → x < T .counts .components) → (s : State) → Held T s
         → Held T (foldl (visit T ws t) s xs)
     visits-held [] f s a = a
-    visits-held (x ∷ xs) f s a = visits-held xs (λ y m. f y (inr m)) (visit T ws t s x) (visit-held s x (f x (inl refl)) a)
+    visits-held (x ∷ xs) f s a = visits-held xs (λ y m. f y (inr m)) (visit T ws t s x)
+        (visit-held s x (f x (inl refl)) a)
 
     pub round-held : (s : State) → Held T s → Held T (round T ws t s)
     unfolding round

@@ -4,7 +4,7 @@
 --   Named s i          one of the three lists names i
 --   Inv T ran t s      between calls: whether a round has run, and the time of the last
 --   Due T rest s i     within a round, i is still to be evaluated
---   Mid T t rest todo s   within a round: `rest` is left of the current list, and `todo` of the wires of the component at hand
+--   Mid T t rest todo s   within a round: `rest` is left of the current list, `todo` of the component's wires
 -- Within a round a Clock is due only through the rest of the current list; it is never struck from the standing list.
 -- Assumes nothing.
 use mathlib.Core.Path.{_≡_, refl, sym, ap, _∙_, subst}
@@ -15,10 +15,10 @@ use Prim.Native.Nat.{ℕ, _+_, _≤_, _<_}
 use native.Mathlib.Omega.{arith}
 use native.Mathlib.Decide.{ℕ-discrete}
 use borrow.Author.Tests.{eq-eqb}
-use lib.ListN.{length, getD, set}
-use lib.Seq.{sets, getD-set-same, getD-set-other}
+use lib.ListN.{length}
+use lib.Seq.{getD-set-same, getD-set-other}
 use lib.Dec.{eqb}
-use Rattle.lists.specs.Lists.{from, appendNew, strike}
+use Rattle.lists.specs.Lists.{strike}
 use Rattle.lists.proofs.MembersLaws.{In, keep-complete}
 use Rattle.lists.proofs.NamesLaws.{appendNew-has, appendNew-kept, strike-kept}
 use Rattle.primitive.specs.declared.kinds.Kind.the-variants.{Clock}
@@ -29,8 +29,8 @@ use Rattle.tables.specs.Tables.{Tables, fieldsAt, firstInput, firstOutput, inpu
 use Rattle.simulator.specs.Round.{State, wiresFrom, turn, evaluated, send, visit, round}
 use Rattle.quiet.proofs.Ports.{Off, sets-at-ne, numbers-set, numbers-sets, numbers-sets-same}
 use Rattle.quiet.proofs.Evaluation.{outputsAfter-time, outputsAfter-twice}
-use Rattle.quiet.proofs.Sound.{Sound, outputs-beside, outputs-off, inputs-off, input-room, target-unclocked}
-use Rattle.quiet.proofs.Held.{Held, Order, Agree, written, SendCase, agrees, writes, send-case, made, send-held, made-length, evaluated-held, wiresFrom-in}
+use Rattle.quiet.proofs.Sound.{outputsEnd, OutputsBeside, Sound, outputs-beside, outputs-off, inputs-off, input-room, target-unclocked}
+use Rattle.quiet.proofs.Held.{Held, Order, carried, Agree, written, SendCase, agrees, writes, send-case, made, send-held, made-length, evaluated-held, wiresFrom-in}
 
 -- Component i is a Clock.
 abbrev pub clocked : Tables → ℕ → Bool
@@ -44,8 +44,8 @@ pub data Named (s : State) (i : ℕ) : Type 0 where
   next : In i (s .following) → Named s i
   later : In i (s .standing) → Named s i
 
--- Each wire agrees or its source is named; each component fits or is named; after a round, no Clock needs its name for that.
--- All three lists name every Clock.
+-- Each wire agrees or its source is named; each component fits or is named; after a round, no Clock needs its name
+-- for that. All three lists name every Clock.
 pub record Inv (T : Tables) (ran : Bool) (t : ℕ) (s : State) : Type 0 where
   pub wired : (w : Wire) → In w (wiresIn T)
       → Agree T s w ⊎ (((ran && clocked T (w .src .comp)) ≡ false) × Named s (w .src .comp))
@@ -112,7 +112,7 @@ module _ (T : Tables) (g : Sound T) where
         due i (in-standing e q) = in-standing e q
 
         own : Agree T (written T s v) v
-        own = sym (getD-set-same (s .inputs) (inputPlace T (v .dst)) (getD (s .outputs) (outputPlace T (v .src)) 0) 0 room)
+        own = sym (getD-set-same (s .inputs) (inputPlace T (v .dst)) (carried T s v) 0 room)
 
         wire : (w : Wire) → In w (wiresIn T) → Dec (inputPlace T (w .dst) ≡ inputPlace T (v .dst))
             → Agree T s w ⊎ (Due T rest s (w .src .comp) ⊎ In w (v ∷ ws))
@@ -120,7 +120,7 @@ module _ (T : Tables) (g : Sound T) where
         wire w mw (yes e) o = inl (subst (λ (x : Wire). Agree T (written T s v) x) (sym (g .once w v mw m e)) own)
         wire w mw (no e) (inl q) =
             inl (q ∙ sym (getD-set-other (s .inputs) (inputPlace T (v .dst)) (inputPlace T (w .dst))
-            (getD (s .outputs) (outputPlace T (v .src)) 0) 0 e))
+            (carried T s v) 0 e))
         wire w mw (no e) (inr (inl q)) = inr (inl (due (w .src .comp) q))
         wire w mw (no e) (inr (inr (inl q))) = absurd (e (ap (λ (x : Wire). inputPlace T (x .dst)) q))
         wire w mw (no e) (inr (inr (inr q))) = inr (inr q)
@@ -134,7 +134,7 @@ module _ (T : Tables) (g : Sound T) where
         fit i h (no ne) (inl q) =
             inl (ap (λ (xs : List ℕ). outputsAfter (fieldsAt T i) xs (outputsAt T (s .outputs) i) t)
             (numbers-set (s .inputs) (firstInput T i) (fieldsAt T i .inputs) (inputPlace T (v .dst))
-            (getD (s .outputs) (outputPlace T (v .src)) 0)
+            (carried T s v)
             (omega (arith, a .held .inputs-length, g .inputs-in i h)) (inputs-off T g i v h m ne)) ∙ q)
         fit i h (no ne) (inr q) = inr (due i q)
 
@@ -158,23 +158,23 @@ module _ (T : Tables) (g : Sound T) where
     len : length (made T t s i) ≡ fieldsAt T i .outputs
     len = made-length T g t i h s (a .held)
 
-    room : (d : ℕ) → d < n → firstOutput T d + fieldsAt T d .outputs ≤ length (s .outputs)
+    room : (d : ℕ) → d < n → outputsEnd T d ≤ length (s .outputs)
     room d q = omega (arith, a .held .outputs-length, g .outputs-in d q)
 
     own-made : outputsAt T (evaluated T t i s .outputs) i ≡ made T t s i
     unfolding evaluated
     own-made = numbers-sets-same (s .outputs) (firstOutput T i) (fieldsAt T i .outputs) (made T t s i) len (room i h)
 
-    others-made : (d : ℕ) → d < n → (d ≡ i → ⊥) → outputsAt T (evaluated T t i s .outputs) d ≡ outputsAt T (s .outputs) d
+    others-made : (d : ℕ) → d < n → (d ≡ i → ⊥)
+        → outputsAt T (evaluated T t i s .outputs) d ≡ outputsAt T (s .outputs) d
     unfolding evaluated
     others-made d q ne =
         numbers-sets (s .outputs) (firstOutput T d) (fieldsAt T d .outputs) (firstOutput T i) (made T t s i) (room d q)
         (beside (outputs-beside T g i d h q ne))
       where
-        beside : (firstOutput T i + fieldsAt T i .outputs ≤ firstOutput T d)
-            ⊎ (firstOutput T d + fieldsAt T d .outputs ≤ firstOutput T i)
+        beside : OutputsBeside T i d
             → (firstOutput T i + length (made T t s i) ≤ firstOutput T d)
-            ⊎ (firstOutput T d + fieldsAt T d .outputs ≤ firstOutput T i)
+            ⊎ (outputsEnd T d ≤ firstOutput T i)
         beside (inl u) = inl (omega (arith, len))
         beside (inr u) = inr u
 
@@ -195,7 +195,8 @@ module _ (T : Tables) (g : Sound T) where
     others-fit : (d : ℕ) → d < n → (d ≡ i → ⊥) → Fits T t s d → Fits T t (evaluated T t i s) d
     unfolding evaluated
     others-fit d q ne f =
-        subst (λ (ys : List ℕ). outputsAfter (fieldsAt T d) (inputsAt T (s .inputs) d) ys t ≡ ys) (sym (others-made d q ne)) f
+        subst (λ (ys : List ℕ). outputsAfter (fieldsAt T d) (inputsAt T (s .inputs) d) ys t ≡ ys)
+        (sym (others-made d q ne)) f
 
     still-standing : (d : ℕ) → (d ≡ i → ⊥) → In d (s .standing) → In d (evaluated T t i s .standing)
     unfolding evaluated
@@ -247,15 +248,18 @@ module _ (T : Tables) (g : Sound T) where
 
   -- A round at time u, its wires in any order.
   module _ (ws : List Wire) (o : Order T ws) (u : ℕ) where
-    visit-mid : (i : ℕ) (rest : List ℕ) → i < n → (s : State) → Mid T u (i ∷ rest) [] s → Mid T u rest [] (visit T ws u s i)
+    visit-mid : (i : ℕ) (rest : List ℕ) → i < n → (s : State) → Mid T u (i ∷ rest) [] s
+        → Mid T u rest [] (visit T ws u s i)
     unfolding visit
     visit-mid i rest h s a =
-        sends-mid u rest (wiresFrom i ws) (wiresFrom-in T g ws o u i) (evaluated T u i s) (evaluated-mid ws o u i rest h s a)
+        sends-mid u rest (wiresFrom i ws) (wiresFrom-in T g ws o u i) (evaluated T u i s)
+        (evaluated-mid ws o u i rest h s a)
 
     visits-mid : (xs : List ℕ) → ((x : ℕ) → In x xs → x < n) → (s : State) → Mid T u xs [] s
         → Mid T u [] [] (foldl (visit T ws u) s xs)
     visits-mid [] f s a = a
-    visits-mid (x ∷ xs) f s a = visits-mid xs (λ y m. f y (inr m)) (visit T ws u s x) (visit-mid x xs (f x (inl refl)) s a)
+    visits-mid (x ∷ xs) f s a = visits-mid xs (λ y m. f y (inr m)) (visit T ws u s x)
+        (visit-mid x xs (f x (inl refl)) s a)
 
     round-start : (ran : Bool) (t : ℕ) (s : State) → Held T s → Inv T ran t s → Mid T u (s .current) [] s
     round-start ran t s b a =
@@ -283,7 +287,8 @@ module _ (T : Tables) (g : Sound T) where
             → Fits T t s i ⊎ (((ran && clocked T i) ≡ false) × Named s i) → Fits T u s i ⊎ Due T (s .current) s i
         fit i h true e q = inr (in-rest (a .clock-current i h e))
         fit i h false e (inl q) =
-            inl (outputsAfter-time (fieldsAt T i) (g .obeyed i h) (inputsAt T (s .inputs) i) (outputsAt T (s .outputs) i) u t e ∙ q)
+            inl (outputsAfter-time (fieldsAt T i) (g .obeyed i h) (inputsAt T (s .inputs) i)
+            (outputsAt T (s .outputs) i) u t e ∙ q)
         fit i h false e (inr q) = inr (due i h false e (q .1))
 
     round-end : (s : State) → Mid T u [] [] s → Inv T true u (turn s)

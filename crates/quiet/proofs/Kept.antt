@@ -1,22 +1,22 @@
 -- Rounds and edits keep a net a net. docs/SPECIFICATION.md, "Rounds" and "Numbers given back".
 -- First a round with its wires in any order, then the calls as their contracts describe them, refused ones too.
 -- Assumes nothing.
-use mathlib.Core.Path.{_≡_, refl, sym, ap, _∙_, subst}
+use mathlib.Core.Path.{_≡_, refl, ap, _∙_}
 use mathlib.Core.Bool.{Bool, true, false, cond}
 use mathlib.Core.List.{List}
-use Prim.Native.Nat.{ℕ, zero, suc, _<_}
-use borrow.Author.Tests.{eqb-true, eq-eqb}
+use Prim.Native.Nat.{ℕ}
+use borrow.Author.Tests.{eqb-true, ne-eqb}
 use lib.Dec.{eqb}
 use Rattle.flatten.specs.declared.Wire.{Wire}
-use Rattle.tables.specs.Tables.{Tables, fullSize, wiresIn, currentList}
+use Rattle.tables.specs.Tables.{Tables, fullSize, wiresIn}
 use Rattle.net.specs.Net.{isNet}
-use Rattle.simulator.specs.Round.{State, stateOf, leave, round, edited, roundOf}
+use Rattle.simulator.specs.Round.{stateOf, leave, round, edited, roundOf}
 use Rattle.simulator.specs.Calls.{after, netNumber, roundTables, editNumber, editTables}
 use Rattle.quiet.proofs.Clauses.{netNumber-full, netNumber-net, netNumber-none}
 use Rattle.quiet.proofs.Sound.{Sound, isNet-wiring}
 use Rattle.quiet.proofs.Held.{Held, Order, stored-order, round-held}
 use Rattle.quiet.proofs.Edited.{Editable, editNumber-full, editNumber-net, editNumber-editable, edited-held}
-use Rattle.quiet.proofs.Left.{SameWiring, SameLengths, sameWiring-none, sameLengths-none, leave-wiring, isNet-held, leave-lengths, fullSize-leave, isNet-leave}
+use Rattle.quiet.proofs.Left.{SameWiring, SameLengths, sameWiring-none, sameLengths-none, leave-wiring, isNet-held, leave-lengths, fullSize-kept, isNet-kept}
 
 -- On a net of full size.
 module _ (T : Tables) (full : fullSize T ≡ true) (net : isNet T ≡ true) where
@@ -29,10 +29,10 @@ module _ (T : Tables) (full : fullSize T ≡ true) (net : isNet T ≡ true) wher
     round-leaves = round-held T sound ws o t (stateOf T) (isNet-held T full net)
 
     pub round-isNet : isNet (leave T (round T ws t (stateOf T))) ≡ true
-    round-isNet = isNet-leave T full net (round T ws t (stateOf T)) round-leaves
+    round-isNet = isNet-kept T full net (round T ws t (stateOf T)) round-leaves
 
     pub round-fullSize : fullSize (leave T (round T ws t (stateOf T))) ≡ true
-    round-fullSize = fullSize-leave T full net (round T ws t (stateOf T)) round-leaves
+    round-fullSize = fullSize-kept T full net (round T ws t (stateOf T)) round-leaves
 
     pub round-lengths : SameLengths T (leave T (round T ws t (stateOf T)))
     round-lengths = leave-lengths T full net (round T ws t (stateOf T)) round-leaves
@@ -56,10 +56,10 @@ module _ (T : Tables) (full : fullSize T ≡ true) (net : isNet T ≡ true) wher
     edited-leaves = edited-held T sound i v (ok .exists) (stateOf T) (isNet-held T full net) ok
 
     pub edited-isNet : isNet (leave T (edited T i v (stateOf T))) ≡ true
-    edited-isNet = isNet-leave T full net (edited T i v (stateOf T)) edited-leaves
+    edited-isNet = isNet-kept T full net (edited T i v (stateOf T)) edited-leaves
 
     pub edited-fullSize : fullSize (leave T (edited T i v (stateOf T))) ≡ true
-    edited-fullSize = fullSize-leave T full net (edited T i v (stateOf T)) edited-leaves
+    edited-fullSize = fullSize-kept T full net (edited T i v (stateOf T)) edited-leaves
 
     pub edited-lengths : SameLengths T (leave T (edited T i v (stateOf T)))
     edited-lengths = leave-lengths T full net (edited T i v (stateOf T)) edited-leaves
@@ -78,9 +78,19 @@ unfolding roundTables
 roundTables-done T t e = rw e
 
 -- The tables after an edit that is not refused.
-pub editTables-done : (T : Tables) (i v : ℕ) → editNumber T i v ≡ 0 → editTables T i v ≡ leave T (edited T i v (stateOf T))
+pub editTables-done : (T : Tables) (i v : ℕ) → editNumber T i v ≡ 0
+    → editTables T i v ≡ leave T (edited T i v (stateOf T))
 unfolding editTables
 editTables-done T i v e = rw e
+
+-- A refused round and a refused edit change no table.
+pub roundTables-refused : (T : Tables) (t : ℕ) → (netNumber T ≡ 0 → ⊥) → roundTables T t ≡ T
+unfolding roundTables
+roundTables-refused T t e = rw (ne-eqb (netNumber T) 0 e)
+
+pub editTables-refused : (T : Tables) (i v : ℕ) → (editNumber T i v ≡ 0 → ⊥) → editTables T i v ≡ T
+unfolding editTables
+editTables-refused T i v e = rw (ne-eqb (editNumber T i v) 0 e)
 
 -- An edit of tables that are a net is judged by its own checks: where it is not refused, neither 2 nor 16 was given.
 pub editNumber-netNumber : (T : Tables) (i v : ℕ) → editNumber T i v ≡ 0 → netNumber T ≡ 0
@@ -90,33 +100,38 @@ editNumber-netNumber T i v e = netNumber-none T (editNumber-full T i v e) (editN
 pub roundTables-wiring : (T : Tables) (t : ℕ) → SameWiring T (roundTables T t)
 unfolding roundTables roundOf
 roundTables-wiring T t =
-    by-number (SameWiring T) (netNumber T) (roundOf t T) T (λ e. leave-wiring T (round T (wiresIn T) t (stateOf T))) (sameWiring-none T)
+    by-number (SameWiring T) (netNumber T) (roundOf t T) T (λ e. leave-wiring T (round T (wiresIn T) t (stateOf T)))
+    (sameWiring-none T)
 
 -- So does any edit.
 pub editTables-wiring : (T : Tables) (i v : ℕ) → SameWiring T (editTables T i v)
 unfolding editTables
 editTables-wiring T i v =
-    by-number (SameWiring T) (editNumber T i v) (leave T (edited T i v (stateOf T))) T (λ e. leave-wiring T (edited T i v (stateOf T)))
+    by-number (SameWiring T) (editNumber T i v) (leave T (edited T i v (stateOf T))) T
+    (λ e. leave-wiring T (edited T i v (stateOf T)))
     (sameWiring-none T)
 
 -- No call changes the length of a table.
 pub roundTables-lengths : (T : Tables) (t : ℕ) → SameLengths T (roundTables T t)
 unfolding roundTables
 roundTables-lengths T t =
-    by-number (SameLengths T) (netNumber T) (roundOf t T) T (λ e. roundOf-lengths T (netNumber-full T e) (netNumber-net T e) t) (sameLengths-none T)
+    by-number (SameLengths T) (netNumber T) (roundOf t T) T
+    (λ e. roundOf-lengths T (netNumber-full T e) (netNumber-net T e) t) (sameLengths-none T)
 
 pub editTables-lengths : (T : Tables) (i v : ℕ) → SameLengths T (editTables T i v)
 unfolding editTables
 editTables-lengths T i v =
     by-number (SameLengths T) (editNumber T i v) (leave T (edited T i v (stateOf T))) T
-    (λ e. edited-lengths T (editNumber-full T i v e) (editNumber-net T i v e) i v (editNumber-editable T i v e)) (sameLengths-none T)
+    (λ e. edited-lengths T (editNumber-full T i v e) (editNumber-net T i v e) i v (editNumber-editable T i v e))
+    (sameLengths-none T)
 
 -- A round of a net leaves a net: the next call is given neither 2 nor 16.
 pub roundTables-net : (T : Tables) (t : ℕ) → netNumber T ≡ 0 → netNumber (roundTables T t) ≡ 0
 roundTables-net T t e =
     let f = netNumber-full T e in
     let n = netNumber-net T e in
-    ap netNumber (roundTables-done T t e) ∙ netNumber-none (roundOf t T) (roundOf-fullSize T f n t) (roundOf-isNet T f n t)
+    ap netNumber (roundTables-done T t e)
+    ∙ netNumber-none (roundOf t T) (roundOf-fullSize T f n t) (roundOf-isNet T f n t)
 
 -- An edit of a net, refused or not, leaves a net.
 pub editTables-net : (T : Tables) (i v : ℕ) → netNumber T ≡ 0 → netNumber (editTables T i v) ≡ 0

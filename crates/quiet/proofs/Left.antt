@@ -1,22 +1,24 @@
--- Tables with a state left in them: the state is found there again, and where the state is one that the net may have, the
+-- Tables with a state left in them: the state is found there again, and where it is one that the net may have, the
 -- tables are a net of full size, clause by clause.
 -- Assumes nothing.
-use mathlib.Core.Path.{_≡_, refl, sym, ap, _∙_, subst}
+use mathlib.Core.Path.{_≡_, refl, ap, _∙_}
 use mathlib.Core.Bool.{Bool, true, false, not, _&&_, _||_}
-use mathlib.Core.List.{List}
-use Prim.Native.Nat.{ℕ, _+_, _≤_, _<_}
+use mathlib.Core.List.{List, map}
+use Prim.Native.Nat.{ℕ, _+_, _*_, _≤_, _<_}
 use native.Mathlib.Omega.{arith}
 use borrow.Author.Tests.{eqb-true, eq-eqb}
-use lib.ListN.{length, getD, take}
+use lib.ListN.{length, getD}
 use lib.Dec.{eqb}
-use Rattle.lists.specs.Lists.{from, every, overlay}
+use Rattle.lists.specs.Lists.{from, every}
 use Rattle.lists.proofs.ListsLaws.{and-left, and-right, every-from}
 use Rattle.lists.proofs.MembersLaws.{In, every-complete, from0-sound}
 use Rattle.lists.proofs.NamesLaws.{Names, names-sound, names-complete, names-length, overlay-list, overlay-length}
 use Rattle.value.specs.Value.{below}
 use Rattle.primitive.specs.declared.kinds.Kind.the-variants.{Const}
 use Rattle.primitive.specs.Kinds.{is, inputWidth, outputWidth}
-use Rattle.tables.specs.Tables.{Tables, fullSize, fieldsAt, firstInput, firstOutput, inputsAt, outputsAt, indexes, currentList, followingList, standingList}
+use Rattle.flatten.specs.declared.Wire.{Wire}
+use Rattle.flatten.specs.Descent.{pin}
+use Rattle.tables.specs.Tables.{Tables, fullSize, fieldsAt, firstInput, firstOutput, inputsAt, outputsAt, indexes, wiresIn, currentList, followingList, standingList}
 use Rattle.net.specs.Net.{countsWithin, kindsObeyed, idsDistinct, portsFollow, valuesFit, constsHeld, wiresFit, inputsOnce, names, isNet}
 use Rattle.simulator.specs.Round.{State, stateOf, leave}
 use Rattle.quiet.proofs.Ports.{numbers-fit-at, numbers-fit}
@@ -57,38 +59,107 @@ pub record SameLengths (T U : Tables) : Type 0 where
 
 pub sameWiring-none : (T : Tables) → SameWiring T T
 sameWiring-none T =
-    record { components = refl; wires = refl; component-count = refl; input-count = refl; output-count = refl; wire-count = refl }
+    record {
+      components = refl;
+      wires = refl;
+      component-count = refl;
+      input-count = refl;
+      output-count = refl;
+      wire-count = refl;
+    }
 
 pub sameLengths-none : (T : Tables) → SameLengths T T
 sameLengths-none T =
-    record { components = refl; inputs = refl; outputs = refl; wires = refl; current = refl; following = refl; standing = refl }
+    record {
+      components = refl;
+      inputs = refl;
+      outputs = refl;
+      wires = refl;
+      current = refl;
+      following = refl;
+      standing = refl;
+    }
+
+pub sameWiring-more : (T U W : Tables) → SameWiring T U → SameWiring U W → SameWiring T W
+sameWiring-more T U W a b =
+    record {
+      components = b .components ∙ a .components;
+      wires = b .wires ∙ a .wires;
+      component-count = b .component-count ∙ a .component-count;
+      input-count = b .input-count ∙ a .input-count;
+      output-count = b .output-count ∙ a .output-count;
+      wire-count = b .wire-count ∙ a .wire-count;
+    }
+
+pub sameLengths-more : (T U W : Tables) → SameLengths T U → SameLengths U W → SameLengths T W
+sameLengths-more T U W a b =
+    record {
+      components = b .components ∙ a .components;
+      inputs = b .inputs ∙ a .inputs;
+      outputs = b .outputs ∙ a .outputs;
+      wires = b .wires ∙ a .wires;
+      current = b .current ∙ a .current;
+      following = b .following ∙ a .following;
+      standing = b .standing ∙ a .standing;
+    }
+
+-- k wires from their words.
+abbrev wiresOf : List ℕ → ℕ → List Wire
+wiresOf ws k =
+    let at : ℕ → Wire = λ q.
+    record {
+      src = pin (getD ws (4 * q) 0) (getD ws (4 * q + 1) 0);
+      dst = pin (getD ws (4 * q + 2) 0) (getD ws (4 * q + 3) 0);
+    } in
+    map at (from 0 k)
+
+-- What is read off the components and the wires is then the same too.
+module _ (T U : Tables) (a : SameWiring T U) where
+  pub fieldsAt-kept : (i : ℕ) → fieldsAt U i ≡ fieldsAt T i
+  fieldsAt-kept i = rw (a .components)
+
+  pub firstInput-kept : (i : ℕ) → firstInput U i ≡ firstInput T i
+  firstInput-kept i = rw (a .components)
+
+  pub firstOutput-kept : (i : ℕ) → firstOutput U i ≡ firstOutput T i
+  firstOutput-kept i = rw (a .components)
+
+  pub wiresIn-kept : wiresIn U ≡ wiresIn T
+  wiresIn-kept = λ j. wiresOf (a .wires j) (a .wire-count j)
 
 -- What a state that is left never touches, and the clauses that speak of nothing else.
 module _ (T : Tables) (s : State) where
   pub leave-wiring : SameWiring T (leave T s)
   unfolding leave
   leave-wiring =
-      record { components = refl; wires = refl; component-count = refl; input-count = refl; output-count = refl; wire-count = refl }
+      record {
+        components = refl;
+        wires = refl;
+        component-count = refl;
+        input-count = refl;
+        output-count = refl;
+        wire-count = refl;
+      }
 
-  pub kindsObeyed-leave : kindsObeyed (leave T s) ≡ kindsObeyed T
+  pub kindsObeyed-kept : kindsObeyed (leave T s) ≡ kindsObeyed T
   unfolding leave kindsObeyed
-  kindsObeyed-leave = refl
+  kindsObeyed-kept = refl
 
-  pub idsDistinct-leave : idsDistinct (leave T s) ≡ idsDistinct T
+  pub idsDistinct-kept : idsDistinct (leave T s) ≡ idsDistinct T
   unfolding leave idsDistinct
-  idsDistinct-leave = refl
+  idsDistinct-kept = refl
 
-  pub portsFollow-leave : portsFollow (leave T s) ≡ portsFollow T
+  pub portsFollow-kept : portsFollow (leave T s) ≡ portsFollow T
   unfolding leave portsFollow
-  portsFollow-leave = refl
+  portsFollow-kept = refl
 
-  pub wiresFit-leave : wiresFit (leave T s) ≡ wiresFit T
+  pub wiresFit-kept : wiresFit (leave T s) ≡ wiresFit T
   unfolding leave wiresFit
-  wiresFit-leave = refl
+  wiresFit-kept = refl
 
-  pub inputsOnce-leave : inputsOnce (leave T s) ≡ inputsOnce T
+  pub inputsOnce-kept : inputsOnce (leave T s) ≡ inputsOnce T
   unfolding leave inputsOnce
-  inputsOnce-leave = refl
+  inputsOnce-kept = refl
 
 -- The state of a net is one that a net may have.
 module _ (T : Tables) (full : fullSize T ≡ true) (net : isNet T ≡ true) where
@@ -101,19 +172,30 @@ module _ (T : Tables) (full : fullSize T ≡ true) (net : isNet T ≡ true) wher
   sound : Sound T
   sound = isNet-wiring T full net
 
-  abbrev inputs-below : ℕ → Bool
-  inputs-below i = every (λ x. below x (inputWidth (fieldsAt T i))) (inputsAt T (T .inputs) i)
+  -- In a table of inputs, those of component i fit; in one of outputs, its outputs do.
+  abbrev inputs-below : List ℕ → ℕ → Bool
+  inputs-below l i = every (λ x. below x (inputWidth (fieldsAt T i))) (inputsAt T l i)
 
-  abbrev outputs-below : ℕ → Bool
-  outputs-below i = every (λ x. below x (outputWidth (fieldsAt T i))) (outputsAt T (T .outputs) i)
+  abbrev outputs-below : List ℕ → ℕ → Bool
+  outputs-below l i = every (λ x. below x (outputWidth (fieldsAt T i))) (outputsAt T l i)
 
-  each-fits : (i : ℕ) → i < n → (inputs-below i && outputs-below i) ≡ true
+  each-fits : (i : ℕ) → i < n → (inputs-below (T .inputs) i && outputs-below (T .outputs) i) ≡ true
   unfolding valuesFit
-  each-fits = every-from (λ i. inputs-below i && outputs-below i) n (clauses .values)
+  each-fits = every-from (λ i. inputs-below (T .inputs) i && outputs-below (T .outputs) i) n (clauses .values)
 
-  each-held : (i : ℕ) → i < n → (not (is Const (fieldsAt T i)) || eqb (getD (T .outputs) (firstOutput T i) 0) (fieldsAt T i .parameter)) ≡ true
+  input-part : (i : ℕ) → i < n → inputs-below (T .inputs) i ≡ true
+  input-part i h = and-left (inputs-below (T .inputs) i) (outputs-below (T .outputs) i) (each-fits i h)
+
+  output-part : (i : ℕ) → i < n → outputs-below (T .outputs) i ≡ true
+  output-part i h = and-right (inputs-below (T .inputs) i) (outputs-below (T .outputs) i) (each-fits i h)
+
+  -- In a table of outputs, the first of component i holds its parameter.
+  abbrev holds : List ℕ → ℕ → Bool
+  holds l i = eqb (getD l (firstOutput T i) 0) (fieldsAt T i .parameter)
+
+  each-held : (i : ℕ) → i < n → (not (is Const (fieldsAt T i)) || holds (T .outputs) i) ≡ true
   unfolding constsHeld
-  each-held = every-from (λ i. not (is Const (fieldsAt T i)) || eqb (getD (T .outputs) (firstOutput T i) 0) (fieldsAt T i .parameter)) n (clauses .consts)
+  each-held = every-from (λ i. not (is Const (fieldsAt T i)) || holds (T .outputs) i) n (clauses .consts)
 
   pub isNet-held : Held T (stateOf T)
   unfolding names
@@ -122,9 +204,10 @@ module _ (T : Tables) (full : fullSize T ≡ true) (net : isNet T ≡ true) wher
         inputs-length = refl;
         outputs-length = refl;
         inputs-fit = λ i h. numbers-fit-at (T .inputs) (firstInput T i) (fieldsAt T i .inputs) (sound .inputs-in i h)
-            (inputWidth (fieldsAt T i)) (and-left (inputs-below i) (outputs-below i) (each-fits i h));
-        outputs-fit = λ i h. numbers-fit-at (T .outputs) (firstOutput T i) (fieldsAt T i .outputs) (sound .outputs-in i h)
-            (outputWidth (fieldsAt T i)) (and-right (inputs-below i) (outputs-below i) (each-fits i h));
+            (inputWidth (fieldsAt T i)) (input-part i h);
+        outputs-fit = λ i h. numbers-fit-at (T .outputs) (firstOutput T i) (fieldsAt T i .outputs)
+            (sound .outputs-in i h)
+            (outputWidth (fieldsAt T i)) (output-part i h);
         consts = λ i h e. const i e (each-held i h);
         current = names-sound n (currentList T) (clauses .current);
         following = names-sound n (followingList T) (clauses .following);
@@ -132,7 +215,7 @@ module _ (T : Tables) (full : fullSize T ≡ true) (net : isNet T ≡ true) wher
       }
     where
       const : (i : ℕ) → is Const (fieldsAt T i) ≡ true
-          → (not (is Const (fieldsAt T i)) || eqb (getD (T .outputs) (firstOutput T i) 0) (fieldsAt T i .parameter)) ≡ true
+          → (not (is Const (fieldsAt T i)) || holds (T .outputs) i) ≡ true
           → getD (T .outputs) (firstOutput T i) 0 ≡ fieldsAt T i .parameter
       const i e q = eqb-true (getD (T .outputs) (firstOutput T i) 0) (fieldsAt T i .parameter) (rw e at q)
 
@@ -156,13 +239,17 @@ module _ (T : Tables) (full : fullSize T ≡ true) (net : isNet T ≡ true) wher
           inputs = a .inputs-length;
           outputs = a .outputs-length;
           wires = refl;
-          current = overlay-length (s .current) (T .current) (omega (arith, short (s .current) (a .current), sizes .current));
-          following = overlay-length (s .following) (T .following) (omega (arith, short (s .following) (a .following), sizes .following));
-          standing = overlay-length (s .standing) (T .standing) (omega (arith, short (s .standing) (a .standing), sizes .standing));
+          current = overlay-length (s .current) (T .current)
+              (omega (arith, short (s .current) (a .current), sizes .current));
+          following = overlay-length (s .following) (T .following)
+              (omega (arith, short (s .following) (a .following), sizes .following));
+          standing = overlay-length (s .standing) (T .standing)
+              (omega (arith, short (s .standing) (a .standing), sizes .standing));
         }
 
-    pub fullSize-leave : fullSize (leave T s) ≡ true
-    fullSize-leave =
+    -- They have full size, and each clause of "the tables are a net" holds of them.
+    pub fullSize-kept : fullSize (leave T s) ≡ true
+    fullSize-kept =
         let l = leave-lengths in
         fullSize-complete (leave T s)
         (record {
@@ -175,9 +262,9 @@ module _ (T : Tables) (full : fullSize T ≡ true) (net : isNet T ≡ true) wher
           standing = omega (arith, sizes .standing, l .standing);
         })
 
-    pub countsWithin-leave : countsWithin (leave T s .counts) ≡ true
+    pub countsWithin-kept : countsWithin (leave T s .counts) ≡ true
     unfolding leave
-    countsWithin-leave =
+    countsWithin-kept =
         countsWithin-complete (leave T s .counts)
         (record {
           components = few .components;
@@ -189,32 +276,31 @@ module _ (T : Tables) (full : fullSize T ≡ true) (net : isNet T ≡ true) wher
           standing = short (s .standing) (a .standing);
         })
 
-    pub valuesFit-leave : valuesFit (leave T s) ≡ true
+    pub valuesFit-kept : valuesFit (leave T s) ≡ true
     unfolding leave valuesFit
-    valuesFit-leave =
-        every-complete (λ i. every (λ x. below x (inputWidth (fieldsAt T i))) (inputsAt T (s .inputs) i)
-        && every (λ x. below x (outputWidth (fieldsAt T i))) (outputsAt T (s .outputs) i)) (indexes T)
+    valuesFit-kept =
+        every-complete (λ i. inputs-below (s .inputs) i && outputs-below (s .outputs) i) (indexes T)
         (λ i m. each i (from0-sound n i m))
       where
-        each : (i : ℕ) → i < n → (every (λ x. below x (inputWidth (fieldsAt T i))) (inputsAt T (s .inputs) i)
-            && every (λ x. below x (outputWidth (fieldsAt T i))) (outputsAt T (s .outputs) i)) ≡ true
+        each : (i : ℕ) → i < n → (inputs-below (s .inputs) i && outputs-below (s .outputs) i) ≡ true
         each i h =
-            let p : every (λ x. below x (inputWidth (fieldsAt T i))) (inputsAt T (s .inputs) i) ≡ true
+            let p : inputs-below (s .inputs) i ≡ true
             = numbers-fit (s .inputs) (firstInput T i) (fieldsAt T i .inputs)
             (omega (arith, a .inputs-length, sound .inputs-in i h)) (inputWidth (fieldsAt T i)) (a .inputs-fit i h) in
-            let q : every (λ x. below x (outputWidth (fieldsAt T i))) (outputsAt T (s .outputs) i) ≡ true
+            let q : outputs-below (s .outputs) i ≡ true
             = numbers-fit (s .outputs) (firstOutput T i) (fieldsAt T i .outputs)
-            (omega (arith, a .outputs-length, sound .outputs-in i h)) (outputWidth (fieldsAt T i)) (a .outputs-fit i h) in
+            (omega (arith, a .outputs-length, sound .outputs-in i h)) (outputWidth (fieldsAt T i))
+            (a .outputs-fit i h) in
             rw (p, q)
 
-    pub constsHeld-leave : constsHeld (leave T s) ≡ true
+    pub constsHeld-kept : constsHeld (leave T s) ≡ true
     unfolding leave constsHeld
-    constsHeld-leave =
-        every-complete (λ i. not (is Const (fieldsAt T i)) || eqb (getD (s .outputs) (firstOutput T i) 0) (fieldsAt T i .parameter)) (indexes T)
+    constsHeld-kept =
+        every-complete (λ i. not (is Const (fieldsAt T i)) || holds (s .outputs) i) (indexes T)
         (λ i m. each i (from0-sound n i m) (is Const (fieldsAt T i)) refl)
       where
         each : (i : ℕ) → i < n → (b : Bool) → is Const (fieldsAt T i) ≡ b
-            → (not b || eqb (getD (s .outputs) (firstOutput T i) 0) (fieldsAt T i .parameter)) ≡ true
+            → (not b || holds (s .outputs) i) ≡ true
         each i h false e = refl
         each i h true e = eq-eqb (getD (s .outputs) (firstOutput T i) 0) (fieldsAt T i .parameter) (a .consts i h e)
 
@@ -222,29 +308,32 @@ module _ (T : Tables) (full : fullSize T ≡ true) (net : isNet T ≡ true) wher
     unfolding leave names
     named xs b ys e = rw e (names-complete n xs b)
 
-    pub current-leave : names (leave T s) (currentList (leave T s)) ≡ true
-    current-leave = named (s .current) (a .current) (currentList (leave T s)) (ap (λ (u : State). u .current) (stateOf-leave T s))
+    pub current-kept : names (leave T s) (currentList (leave T s)) ≡ true
+    current-kept = named (s .current) (a .current) (currentList (leave T s))
+        (ap (λ (u : State). u .current) (stateOf-leave T s))
 
-    pub following-leave : names (leave T s) (followingList (leave T s)) ≡ true
-    following-leave = named (s .following) (a .following) (followingList (leave T s)) (ap (λ (u : State). u .following) (stateOf-leave T s))
+    pub following-kept : names (leave T s) (followingList (leave T s)) ≡ true
+    following-kept = named (s .following) (a .following) (followingList (leave T s))
+        (ap (λ (u : State). u .following) (stateOf-leave T s))
 
-    pub standing-leave : names (leave T s) (standingList (leave T s)) ≡ true
-    standing-leave = named (s .standing) (a .standing) (standingList (leave T s)) (ap (λ (u : State). u .standing) (stateOf-leave T s))
+    pub standing-kept : names (leave T s) (standingList (leave T s)) ≡ true
+    standing-kept = named (s .standing) (a .standing) (standingList (leave T s))
+        (ap (λ (u : State). u .standing) (stateOf-leave T s))
 
     -- All clauses together: the tables are a net.
-    pub isNet-leave : isNet (leave T s) ≡ true
-    isNet-leave =
+    pub isNet-kept : isNet (leave T s) ≡ true
+    isNet-kept =
         isNet-complete (leave T s)
         (record {
-          counts = countsWithin-leave;
-          kinds = kindsObeyed-leave T s ∙ clauses .kinds;
-          ids = idsDistinct-leave T s ∙ clauses .ids;
-          ports = portsFollow-leave T s ∙ clauses .ports;
-          values = valuesFit-leave;
-          consts = constsHeld-leave;
-          wires = wiresFit-leave T s ∙ clauses .wires;
-          inputs = inputsOnce-leave T s ∙ clauses .inputs;
-          current = current-leave;
-          following = following-leave;
-          standing = standing-leave;
+          counts = countsWithin-kept;
+          kinds = kindsObeyed-kept T s ∙ clauses .kinds;
+          ids = idsDistinct-kept T s ∙ clauses .ids;
+          ports = portsFollow-kept T s ∙ clauses .ports;
+          values = valuesFit-kept;
+          consts = constsHeld-kept;
+          wires = wiresFit-kept T s ∙ clauses .wires;
+          inputs = inputsOnce-kept T s ∙ clauses .inputs;
+          current = current-kept;
+          following = following-kept;
+          standing = standing-kept;
         })

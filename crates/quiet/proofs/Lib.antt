@@ -8,3 +8,7 @@ pub mod Left
 pub mod Kept
 pub mod Invariant
 pub mod EditInvariant
+pub mod Since
+pub mod Obeyed
+pub mod Third
+pub mod Runs

@@ -1,17 +1,17 @@
 -- What the components and the wires of a net are: the part of "the tables are a net" that no round and no edit writes.
 --   Sound T   components obey the table of kinds, their ports stand apart, wires have ends that exist, no input has two
 -- Assumes nothing.
-use mathlib.Core.Path.{_≡_, refl, sym, ap, _∙_}
+use mathlib.Core.Path.{_≡_, refl, sym, ap}
 use mathlib.Core.Logic.{_⊎_, inl, inr}
-use mathlib.Core.Bool.{Bool, true, false, _&&_, true≢false}
-use mathlib.Core.List.{List, map}
+use mathlib.Core.Bool.{Bool, true, false, _&&_}
+use mathlib.Core.List.{map}
 use Prim.Native.Nat.{ℕ, _+_, _≤_, _<_}
 use native.Mathlib.Omega.{arith}
 use native.Mathlib.Decide.{decLt}
 use borrow.Author.Tests.{eqb-true, ltb-true}
 use lib.ListN.{length}
 use lib.Dec.{eqb, ltb}
-use Rattle.lists.specs.Lists.{from, every, total, distinct}
+use Rattle.lists.specs.Lists.{every}
 use Rattle.lists.proofs.ListsLaws.{and-left, and-right, every-from}
 use Rattle.lists.proofs.MembersLaws.{In, every-sound, distinct-sound}
 use Rattle.lists.proofs.NamesLaws.{distinct-key, total-below}
@@ -24,18 +24,33 @@ use Rattle.quiet.proofs.Ports.{Off}
 use Rattle.quiet.proofs.Evaluation.{clock-inputs}
 use Rattle.quiet.proofs.Clauses.{Sizes, fullSize-sound, Few, countsWithin-sound, Clauses, isNet-sound}
 
+-- Where the outputs of component i end in their table, and its inputs in theirs.
+abbrev pub outputsEnd : Tables → ℕ → ℕ
+outputsEnd T i = firstOutput T i + fieldsAt T i .outputs
+
+abbrev pub inputsEnd : Tables → ℕ → ℕ
+inputsEnd T i = firstInput T i + fieldsAt T i .inputs
+
+-- Outputs of two components stand apart; inputs do.
+abbrev pub OutputsBeside : Tables → ℕ → ℕ → Type 0
+OutputsBeside T i j = (outputsEnd T i ≤ firstOutput T j) ⊎ (outputsEnd T j ≤ firstOutput T i)
+
+abbrev pub InputsBeside : Tables → ℕ → ℕ → Type 0
+InputsBeside T i j = (inputsEnd T i ≤ firstInput T j) ⊎ (inputsEnd T j ≤ firstInput T i)
+
 pub record Sound (T : Tables) : Type 0 where
   pub few : T .counts .components ≤ 256
   pub obeyed : (i : ℕ) → i < T .counts .components → (primitive (fieldsAt T i) && obeys (fieldsAt T i)) ≡ true
-  pub inputs-apart : (i j : ℕ) → i < j → j < T .counts .components → firstInput T i + fieldsAt T i .inputs ≤ firstInput T j
-  pub outputs-apart : (i j : ℕ) → i < j → j < T .counts .components → firstOutput T i + fieldsAt T i .outputs ≤ firstOutput T j
-  pub inputs-in : (i : ℕ) → i < T .counts .components → firstInput T i + fieldsAt T i .inputs ≤ length (T .inputs)
-  pub outputs-in : (i : ℕ) → i < T .counts .components → firstOutput T i + fieldsAt T i .outputs ≤ length (T .outputs)
+  pub inputs-apart : (i j : ℕ) → i < j → j < T .counts .components → inputsEnd T i ≤ firstInput T j
+  pub outputs-apart : (i j : ℕ) → i < j → j < T .counts .components → outputsEnd T i ≤ firstOutput T j
+  pub inputs-in : (i : ℕ) → i < T .counts .components → inputsEnd T i ≤ length (T .inputs)
+  pub outputs-in : (i : ℕ) → i < T .counts .components → outputsEnd T i ≤ length (T .outputs)
   pub source : (w : Wire) → In w (wiresIn T) → w .src .comp < T .counts .components
   pub source-port : (w : Wire) → In w (wiresIn T) → w .src .port < fieldsAt T (w .src .comp) .outputs
   pub target : (w : Wire) → In w (wiresIn T) → w .dst .comp < T .counts .components
   pub target-port : (w : Wire) → In w (wiresIn T) → w .dst .port < fieldsAt T (w .dst .comp) .inputs
-  pub widths : (w : Wire) → In w (wiresIn T) → outputWidth (fieldsAt T (w .src .comp)) ≡ inputWidth (fieldsAt T (w .dst .comp))
+  pub widths : (w : Wire) → In w (wiresIn T)
+      → outputWidth (fieldsAt T (w .src .comp)) ≡ inputWidth (fieldsAt T (w .dst .comp))
   pub once : (w x : Wire) → In w (wiresIn T) → In x (wiresIn T) → inputPlace T (w .dst) ≡ inputPlace T (x .dst) → w ≡ x
 
 -- The tables of a net are sound.
@@ -89,21 +104,27 @@ module _ (T : Tables) (full : fullSize T ≡ true) (net : isNet T ≡ true) wher
       eqb-true (firstOutput T i) (outputsBelow T i)
       (and-right (eqb (firstInput T i) (inputsBelow T i)) (eqb (firstOutput T i) (outputsBelow T i)) (each-placed i h))
 
-  abbrev fit : Wire → Bool
-  fit w = isOutput T (w .src) && isInput T (w .dst) && eqb (outputWidth (fieldsAt T (w .src .comp))) (inputWidth (fieldsAt T (w .dst .comp)))
+  inputs-sum : (i j : ℕ) → i < j → inputsBelow T i + fieldsAt T i .inputs ≤ inputsBelow T j
+  inputs-sum = total-below (λ k. fieldsAt T k .inputs)
 
-  each-fit : (w : Wire) → In w (wiresIn T) → fit w ≡ true
-  unfolding wiresFit
-  each-fit w h = every-sound fit w (wiresIn T) (clauses .wires) h
+  outputs-sum : (i j : ℕ) → i < j → outputsBelow T i + fieldsAt T i .outputs ≤ outputsBelow T j
+  outputs-sum = total-below (λ k. fieldsAt T k .outputs)
 
   abbrev same : Wire → Bool
   same w = eqb (outputWidth (fieldsAt T (w .src .comp))) (inputWidth (fieldsAt T (w .dst .comp)))
 
+  each-fit : (w : Wire) → In w (wiresIn T) → (isOutput T (w .src) && isInput T (w .dst) && same w) ≡ true
+  unfolding wiresFit
+  each-fit w h =
+      every-sound (λ (v : Wire). isOutput T (v .src) && isInput T (v .dst) && same v) w (wiresIn T) (clauses .wires) h
+
   leaves : (w : Wire) → In w (wiresIn T) → isOutput T (w .src) ≡ true
-  leaves w h = and-left (isOutput T (w .src)) (isInput T (w .dst)) (and-left (isOutput T (w .src) && isInput T (w .dst)) (same w) (each-fit w h))
+  leaves w h = and-left (isOutput T (w .src)) (isInput T (w .dst))
+      (and-left (isOutput T (w .src) && isInput T (w .dst)) (same w) (each-fit w h))
 
   enters : (w : Wire) → In w (wiresIn T) → isInput T (w .dst) ≡ true
-  enters w h = and-right (isOutput T (w .src)) (isInput T (w .dst)) (and-left (isOutput T (w .src) && isInput T (w .dst)) (same w) (each-fit w h))
+  enters w h = and-right (isOutput T (w .src)) (isInput T (w .dst))
+      (and-left (isOutput T (w .src) && isInput T (w .dst)) (same w) (each-fit w h))
 
   pub isNet-wiring : Sound T
   unfolding kindsObeyed inputsOnce
@@ -111,37 +132,44 @@ module _ (T : Tables) (full : fullSize T ≡ true) (net : isNet T ≡ true) wher
       record {
         few = counts .components;
         obeyed = every-from (λ i. primitive (fieldsAt T i) && obeys (fieldsAt T i)) n (clauses .kinds);
-        inputs-apart = λ i j h l. omega (arith, input-start i (omega arith), input-start j l, total-below (λ k. fieldsAt T k .inputs) i j h);
-        outputs-apart = λ i j h l. omega (arith, output-start i (omega arith), output-start j l, total-below (λ k. fieldsAt T k .outputs) i j h);
-        inputs-in = λ i h. omega (arith, input-start i h, all-inputs, counts .inputs, sizes .inputs, total-below (λ k. fieldsAt T k .inputs) i n h);
-        outputs-in = λ i h. omega (arith, output-start i h, all-outputs, counts .outputs, sizes .outputs, total-below (λ k. fieldsAt T k .outputs) i n h);
-        source = λ w h. ltb-true (w .src .comp) n (and-left (ltb (w .src .comp) n) (ltb (w .src .port) (fieldsAt T (w .src .comp) .outputs)) (leaves w h));
-        source-port = λ w h. ltb-true (w .src .port) (fieldsAt T (w .src .comp) .outputs) (and-right (ltb (w .src .comp) n) (ltb (w .src .port) (fieldsAt T (w .src .comp) .outputs)) (leaves w h));
-        target = λ w h. ltb-true (w .dst .comp) n (and-left (ltb (w .dst .comp) n) (ltb (w .dst .port) (fieldsAt T (w .dst .comp) .inputs)) (enters w h));
-        target-port = λ w h. ltb-true (w .dst .port) (fieldsAt T (w .dst .comp) .inputs) (and-right (ltb (w .dst .comp) n) (ltb (w .dst .port) (fieldsAt T (w .dst .comp) .inputs)) (enters w h));
-        widths = λ w h. eqb-true (outputWidth (fieldsAt T (w .src .comp))) (inputWidth (fieldsAt T (w .dst .comp))) (and-right (isOutput T (w .src) && isInput T (w .dst)) (same w) (each-fit w h));
-        once = λ w x h l e. distinct-key (λ (v : Wire). inputPlace T (v .dst)) (wiresIn T) w x (distinct-sound (map (λ (v : Wire). inputPlace T (v .dst)) (wiresIn T)) (clauses .inputs)) h l e;
+        inputs-apart = λ i j h l. omega (arith, input-start i (omega arith), input-start j l, inputs-sum i j h);
+        outputs-apart = λ i j h l. omega (arith, output-start i (omega arith), output-start j l, outputs-sum i j h);
+        inputs-in = λ i h. omega (arith, input-start i h, all-inputs, counts .inputs, sizes .inputs, inputs-sum i n h);
+        outputs-in = λ i h.
+            omega (arith, output-start i h, all-outputs, counts .outputs, sizes .outputs, outputs-sum i n h);
+        source = λ w h. ltb-true (w .src .comp) n
+            (and-left (ltb (w .src .comp) n) (ltb (w .src .port) (fieldsAt T (w .src .comp) .outputs)) (leaves w h));
+        source-port = λ w h. ltb-true (w .src .port) (fieldsAt T (w .src .comp) .outputs)
+            (and-right (ltb (w .src .comp) n) (ltb (w .src .port) (fieldsAt T (w .src .comp) .outputs)) (leaves w h));
+        target = λ w h. ltb-true (w .dst .comp) n
+            (and-left (ltb (w .dst .comp) n) (ltb (w .dst .port) (fieldsAt T (w .dst .comp) .inputs)) (enters w h));
+        target-port = λ w h. ltb-true (w .dst .port) (fieldsAt T (w .dst .comp) .inputs)
+            (and-right (ltb (w .dst .comp) n) (ltb (w .dst .port) (fieldsAt T (w .dst .comp) .inputs)) (enters w h));
+        widths = λ w h. eqb-true (outputWidth (fieldsAt T (w .src .comp))) (inputWidth (fieldsAt T (w .dst .comp)))
+            (and-right (isOutput T (w .src) && isInput T (w .dst)) (same w) (each-fit w h));
+        once = λ w x h l e. distinct-key (λ (v : Wire). inputPlace T (v .dst)) (wiresIn T) w x
+            (distinct-sound (map (λ (v : Wire). inputPlace T (v .dst)) (wiresIn T)) (clauses .inputs)) h l e;
       }
 
 -- Where ports of two components stand.
 module _ (T : Tables) (g : Sound T) where
   -- The outputs of two components stand apart.
   pub outputs-beside : (i j : ℕ) → i < T .counts .components → j < T .counts .components → (j ≡ i → ⊥)
-      → (firstOutput T i + fieldsAt T i .outputs ≤ firstOutput T j) ⊎ (firstOutput T j + fieldsAt T j .outputs ≤ firstOutput T i)
+      → OutputsBeside T i j
   outputs-beside i j h l ne = by-order (decLt i j) (decLt j i)
     where
       by-order : Dec (i < j) → Dec (j < i)
-          → (firstOutput T i + fieldsAt T i .outputs ≤ firstOutput T j) ⊎ (firstOutput T j + fieldsAt T j .outputs ≤ firstOutput T i)
+          → OutputsBeside T i j
       by-order (yes a) b = inl (g .outputs-apart i j a l)
       by-order (no a) (yes b) = inr (g .outputs-apart j i b h)
       by-order (no a) (no b) = absurd (ne (omega arith))
 
   pub inputs-beside : (i j : ℕ) → i < T .counts .components → j < T .counts .components → (j ≡ i → ⊥)
-      → (firstInput T i + fieldsAt T i .inputs ≤ firstInput T j) ⊎ (firstInput T j + fieldsAt T j .inputs ≤ firstInput T i)
+      → InputsBeside T i j
   inputs-beside i j h l ne = by-order (decLt i j) (decLt j i)
     where
       by-order : Dec (i < j) → Dec (j < i)
-          → (firstInput T i + fieldsAt T i .inputs ≤ firstInput T j) ⊎ (firstInput T j + fieldsAt T j .inputs ≤ firstInput T i)
+          → InputsBeside T i j
       by-order (yes a) b = inl (g .inputs-apart i j a l)
       by-order (no a) (yes b) = inr (g .inputs-apart j i b h)
       by-order (no a) (no b) = absurd (ne (omega arith))
@@ -151,8 +179,7 @@ module _ (T : Tables) (g : Sound T) where
       → Off (firstOutput T i) (fieldsAt T i .outputs) (outputPlace T (w .src))
   outputs-off i w h m ne = by-side (outputs-beside i (w .src .comp) h (g .source w m) ne)
     where
-      by-side : (firstOutput T i + fieldsAt T i .outputs ≤ firstOutput T (w .src .comp))
-          ⊎ (firstOutput T (w .src .comp) + fieldsAt T (w .src .comp) .outputs ≤ firstOutput T i)
+      by-side : OutputsBeside T i (w .src .comp)
           → Off (firstOutput T i) (fieldsAt T i .outputs) (outputPlace T (w .src))
       by-side (inl a) = inr (omega arith)
       by-side (inr a) = inl (omega (arith, g .source-port w m))
@@ -162,8 +189,7 @@ module _ (T : Tables) (g : Sound T) where
       → Off (firstInput T i) (fieldsAt T i .inputs) (inputPlace T (w .dst))
   inputs-off i w h m ne = by-side (inputs-beside i (w .dst .comp) h (g .target w m) (λ e. ne (sym e)))
     where
-      by-side : (firstInput T i + fieldsAt T i .inputs ≤ firstInput T (w .dst .comp))
-          ⊎ (firstInput T (w .dst .comp) + fieldsAt T (w .dst .comp) .inputs ≤ firstInput T i)
+      by-side : InputsBeside T i (w .dst .comp)
           → Off (firstInput T i) (fieldsAt T i .inputs) (inputPlace T (w .dst))
       by-side (inl a) = inr (omega arith)
       by-side (inr a) = inl (omega (arith, g .target-port w m))
@@ -178,5 +204,6 @@ module _ (T : Tables) (g : Sound T) where
     where
       by-test : (b : Bool) → is Clock (fieldsAt T (w .dst .comp)) ≡ b → b ≡ false
       by-test true e =
-          absurd (omega (arith, g .target-port w m, clock-inputs (fieldsAt T (w .dst .comp)) (g .obeyed (w .dst .comp) (g .target w m)) e))
+          let none = clock-inputs (fieldsAt T (w .dst .comp)) (g .obeyed (w .dst .comp) (g .target w m)) e in
+          absurd (omega (arith, g .target-port w m, none))
       by-test false e = refl

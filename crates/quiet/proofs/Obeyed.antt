@@ -1,0 +1,164 @@
+-- Demand 3 on the tables' own wires and components, for any rounds and edits since a net as a load leaves it.
+-- docs/SPECIFICATION.md, "Flattening" (satisfied) and "Rounds".
+--   named T i       one of the three lists names component i
+--   Equal T w       the output and the input of the wire w hold the same number
+--   Follows T t i   the outputs of component i are its function of its inputs, at time t
+--   SatisfiedAt T t   each wire's ends are equal, and each component follows its function; a Switch's output is free
+--   ObeyedAt T ran t  the three parts of demand 3
+-- Assumes nothing.
+use mathlib.Core.Path.{_≡_, refl, sym, ap, _∙_}
+use mathlib.Core.Logic.{_⊎_, inl, inr}
+use mathlib.Core.Bool.{Bool, true, false, _&&_, _||_, true≢false}
+use mathlib.Core.List.{List, [], _∷_}
+use Prim.Native.Nat.{ℕ, suc, _+_, _≤_, _<_}
+use native.Mathlib.Omega.{arith}
+use lib.ListN.{length, getD}
+use lib.Seq.{slice, slice-cons, slice-empty}
+use Rattle.lists.specs.Lists.{has}
+use Rattle.lists.proofs.ListsLaws.{or-left}
+use Rattle.lists.proofs.MembersLaws.{In, has-complete}
+use Rattle.primitive.specs.declared.kinds.Kind.the-variants.{Switch, Clock, Const}
+use Rattle.primitive.specs.Kinds.{is}
+use Rattle.primitive.specs.Evaluate.{functionOf}
+use Rattle.flatten.specs.declared.Wire.{Wire}
+use Rattle.tables.specs.Tables.{Tables, fieldsAt, firstOutput, inputPlace, outputPlace, numbers, inputsAt, outputsAt, wiresIn, currentList, followingList, standingList}
+use Rattle.simulator.specs.Round.{stateOf}
+use Rattle.simulator.specs.Calls.{netNumber}
+use Rattle.quiet.proofs.Evaluation.{const-outputs, outputsAfter-function, functionOf-const}
+use Rattle.quiet.proofs.Clauses.{netNumber-full, netNumber-net}
+use Rattle.quiet.proofs.Sound.{Sound, isNet-wiring}
+use Rattle.quiet.proofs.Held.{Held, Agree}
+use Rattle.quiet.proofs.Left.{isNet-held}
+use Rattle.quiet.proofs.Invariant.{clocked, Fits, Named, now, next, later}
+use Rattle.quiet.proofs.Since.{Fresh, Since, Unbroken, since-net, since-unbroken}
+
+-- One of the three update lists names component i.
+abbrev pub named : Tables → ℕ → Bool
+named T i = has i (currentList T) || has i (followingList T) || has i (standingList T)
+
+-- The output and the input of a wire hold the same number.
+abbrev pub Equal : Tables → Wire → Type 0
+Equal T w = getD (T .outputs) (outputPlace T (w .src)) 0 ≡ getD (T .inputs) (inputPlace T (w .dst)) 0
+
+-- The outputs of component i are its function of its inputs, at time t.
+abbrev pub Follows : Tables → ℕ → ℕ → Type 0
+Follows T t i = outputsAt T (T .outputs) i ≡ functionOf (fieldsAt T i) (inputsAt T (T .inputs) i) t
+
+-- The net is satisfied at time t.
+pub record SatisfiedAt (T : Tables) (t : ℕ) : Type 0 where
+  pub equal : (w : Wire) → In w (wiresIn T) → Equal T w
+  pub follow : (i : ℕ) → i < T .counts .components → is Switch (fieldsAt T i) ≡ false → Follows T t i
+
+-- The three parts of demand 3 for tables in which a round has run or not, the last at time t.
+pub record ObeyedAt (T : Tables) (ran : Bool) (t : ℕ) : Type 0 where
+  -- Where the ends of a wire differ, a list names the component that it leaves.
+  pub differing : (w : Wire) → In w (wiresIn T) → (Equal T w → ⊥) → named T (w .src .comp) ≡ true
+  -- So is each component, Switches and Clocks aside, whose outputs are not its function of its inputs.
+  pub unfollowed : (i : ℕ) → i < T .counts .components → (is Switch (fieldsAt T i) || is Clock (fieldsAt T i)) ≡ false
+      → (Follows T t i → ⊥) → named T i ≡ true
+  -- After a round, if the lists name only Clocks, the net is satisfied, Clocks taken at the last round's time.
+  pub settled : ran ≡ true → ((i : ℕ) → i < T .counts .components → named T i ≡ true → is Clock (fieldsAt T i) ≡ true)
+      → SatisfiedAt T t
+
+or-one : (a b c : Bool) → a ≡ true → (a || b || c) ≡ true
+or-one a b c e = rw e
+
+or-two : (a b c : Bool) → b ≡ true → (a || b || c) ≡ true
+or-two true b c e = refl
+or-two false b c e = rw e
+
+or-three : (a b c : Bool) → c ≡ true → (a || b || c) ≡ true
+or-three true b c e = refl
+or-three false true c e = refl
+or-three false false c e = e
+
+named-test : (T : Tables) (i : ℕ) → Named (stateOf T) i → named T i ≡ true
+named-test T i (now m) =
+    or-one (has i (currentList T)) (has i (followingList T)) (has i (standingList T)) (has-complete i (currentList T) m)
+named-test T i (next m) =
+    or-two (has i (currentList T)) (has i (followingList T)) (has i (standingList T))
+    (has-complete i (followingList T) m)
+named-test T i (later m) =
+    or-three (has i (currentList T)) (has i (followingList T)) (has i (standingList T))
+    (has-complete i (standingList T) m)
+
+-- One port's numbers are its number.
+numbers-one : (l : List ℕ) (a k : ℕ) → k ≡ 1 → a + k ≤ length l → numbers l a k ≡ getD l a 0 ∷ []
+numbers-one l a k e h =
+    let p : a + k ≡ suc a = omega arith in
+    ap (λ (j : ℕ). slice a j l) p ∙ slice-cons a (suc a) l 0 (omega arith) (omega arith)
+    ∙ ap (λ (r : List ℕ). getD l a 0 ∷ r) (slice-empty (suc a) l)
+
+module _ (T : Tables) (ran : Bool) (t : ℕ) (e : netNumber T ≡ 0) (a : Unbroken T ran t) where
+  g : Sound T
+  g = isNet-wiring T (netNumber-full T e) (netNumber-net T e)
+
+  held : Held T (stateOf T)
+  held = isNet-held T (netNumber-full T e) (netNumber-net T e)
+
+  -- A component that an evaluation would leave as it is follows its function, a Switch aside.
+  fits-follows : (i : ℕ) → i < T .counts .components → is Switch (fieldsAt T i) ≡ false → Fits T t (stateOf T) i
+      → Follows T t i
+  fits-follows i h s f = by-const (is Const (fieldsAt T i)) refl
+    where
+      by-const : (b : Bool) → is Const (fieldsAt T i) ≡ b → Follows T t i
+      by-const true c =
+          numbers-one (T .outputs) (firstOutput T i) (fieldsAt T i .outputs)
+          (const-outputs (fieldsAt T i) (g .obeyed i h) c) (g .outputs-in i h)
+          ∙ ap (λ (x : ℕ). x ∷ []) (held .consts i h c)
+          ∙ sym (functionOf-const (fieldsAt T i) (inputsAt T (T .inputs) i) t c)
+      by-const false c =
+          sym f ∙ outputsAfter-function (fieldsAt T i) (inputsAt T (T .inputs) i) (outputsAt T (T .outputs) i) t s c
+
+  -- A net of which the invariant holds obeys demand 3.
+  pub unbroken-obeyed : ObeyedAt T ran t
+  unbroken-obeyed =
+      record {
+        differing = λ w m. differ w (a .wired w m);
+        unfollowed = λ i h k. unfollow i h (or-left (is Switch (fieldsAt T i)) (is Clock (fieldsAt T i)) k)
+            (a .fitted i h);
+        settled = settle;
+      }
+    where
+      differ : (w : Wire) → Agree T (stateOf T) w
+          ⊎ (((ran && clocked T (w .src .comp)) ≡ false) × Named (stateOf T) (w .src .comp))
+          → (Equal T w → ⊥) → named T (w .src .comp) ≡ true
+      differ w (inl q) ne = absurd (ne q)
+      differ w (inr q) ne = named-test T (w .src .comp) (q .1)
+
+      unfollow : (i : ℕ) → i < T .counts .components → is Switch (fieldsAt T i) ≡ false
+          → Fits T t (stateOf T) i ⊎ (((ran && clocked T i) ≡ false) × Named (stateOf T) i) → (Follows T t i → ⊥)
+          → named T i ≡ true
+      unfollow i h s (inl q) ne = absurd (ne (fits-follows i h s q))
+      unfollow i h s (inr q) ne = named-test T i (q .1)
+
+      settle : ran ≡ true → ((i : ℕ) → i < T .counts .components → named T i ≡ true → is Clock (fieldsAt T i) ≡ true)
+          → SatisfiedAt T t
+      settle r only =
+          record {
+            equal = λ w m. agree w m (a .wired w m);
+            follow = λ i h s. follow i h s (a .fitted i h);
+          }
+        where
+          clash : (i : ℕ) → i < T .counts .components → ((ran && clocked T i) ≡ false) × Named (stateOf T) i → ⊥
+          clash i h q =
+              true≢false (sym (only i h (named-test T i (q .1))) ∙ ap (λ (b : Bool). b && clocked T i) (sym r) ∙ q .0)
+
+          agree : (w : Wire) → In w (wiresIn T)
+              → Agree T (stateOf T) w
+              ⊎ (((ran && clocked T (w .src .comp)) ≡ false) × Named (stateOf T) (w .src .comp)) → Equal T w
+          agree w m (inl q) = q
+          agree w m (inr q) = absurd (clash (w .src .comp) (g .source w m) q)
+
+          follow : (i : ℕ) → i < T .counts .components → is Switch (fieldsAt T i) ≡ false
+              → Fits T t (stateOf T) i ⊎ (((ran && clocked T i) ≡ false) × Named (stateOf T) i) → Follows T t i
+          follow i h s (inl q) = fits-follows i h s q
+          follow i h s (inr q) = absurd (clash i h q)
+
+-- Demand 3 on the tables: take a net as a load leaves it, and any rounds at any times and any edits, refused ones too.
+-- Then wherever the two ends of a wire differ, and wherever a component other than a Switch or a Clock does not hold
+-- its function of its inputs, one of the three lists names the component. And once a round has run and the lists name
+-- only Clocks, every wire agrees and every component but a Switch holds its function, Clocks at the time of the last
+-- round.
+pub since-obeyed : (T₀ : Tables) → Fresh T₀ → {ran : Bool} {t : ℕ} {T : Tables} → Since T₀ ran t T → ObeyedAt T ran t
+since-obeyed T₀ f {ran} {t} {T} r = unbroken-obeyed T ran t (since-net T₀ f r) (since-unbroken T₀ f r)

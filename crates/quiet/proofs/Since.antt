@@ -1,0 +1,145 @@
+-- The invariant on tables: it holds as a load leaves them, and every call keeps it, refused ones too.
+--   Fresh T              a net as a load leaves it: all components current, every Clock standing, following a copy
+--   Since T₀ ran t T     rounds and edits lead from T₀ to T; whether a round has run, and the time of the last
+-- Assumes nothing.
+use mathlib.Core.Path.{_≡_, refl, sym, subst}
+use mathlib.Core.Bool.{Bool, true, false, cond, _||_}
+use mathlib.Core.List.{List}
+use Prim.Native.Nat.{ℕ, _<_}
+use borrow.Author.Tests.{eqb-true}
+use lib.Dec.{eqb}
+use Rattle.lists.specs.Lists.{from, has}
+use Rattle.lists.proofs.MembersLaws.{In, has-sound, from0-complete}
+use Rattle.primitive.specs.declared.kinds.Kind.the-variants.{Clock}
+use Rattle.primitive.specs.Kinds.{is}
+use Rattle.flatten.specs.declared.Wire.{Wire}
+use Rattle.tables.specs.Tables.{Tables, fieldsAt, wiresIn, currentList, followingList, standingList}
+use Rattle.simulator.specs.Round.{State, stateOf, leave, round, edited as editedState, roundOf}
+use Rattle.simulator.specs.Calls.{netNumber, roundTables, editNumber, editTables}
+use Rattle.quiet.proofs.Clauses.{netNumber-full, netNumber-net}
+use Rattle.quiet.proofs.Sound.{isNet-wiring}
+use Rattle.quiet.proofs.Held.{Order, stored-order}
+use Rattle.quiet.proofs.Edited.{editNumber-full, editNumber-net, editNumber-editable}
+use Rattle.quiet.proofs.Left.{SameWiring, SameLengths, sameWiring-none, sameWiring-more, sameLengths-none, sameLengths-more, stateOf-leave, isNet-held}
+use Rattle.quiet.proofs.Kept.{edited-leaves, roundTables-wiring, editTables-wiring, roundTables-lengths, editTables-lengths, roundTables-net, editTables-net}
+use Rattle.quiet.proofs.Invariant.{Inv, round-inv, start-inv}
+use Rattle.quiet.proofs.EditInvariant.{edited-inv}
+
+-- A net as a load leaves it.
+pub record Fresh (T : Tables) : Type 0 where
+  pub net : netNumber T ≡ 0
+  pub current : currentList T ≡ from 0 (T .counts .components)
+  pub following : followingList T ≡ standingList T
+  pub clocks : (i : ℕ) → i < T .counts .components → is Clock (fieldsAt T i) ≡ true → has i (standingList T) ≡ true
+
+-- Tables that rounds and edits reach from T₀, refused ones too; a refused round is none that has run.
+pub data Since (T₀ : Tables) : Bool → ℕ → Tables → Type 0 where
+  started : Since T₀ false 0 T₀
+  rounded : {ran : Bool} {t : ℕ} {T : Tables} (u : ℕ) → Since T₀ ran t T
+      → Since T₀ (ran || eqb (netNumber T) 0) (cond (eqb (netNumber T) 0) u t) (roundTables T u)
+  edited : {ran : Bool} {t : ℕ} {T : Tables} (i v : ℕ) → Since T₀ ran t T → Since T₀ ran t (editTables T i v)
+
+-- The invariant of a net's tables.
+abbrev pub Unbroken : Tables → Bool → ℕ → Type 0
+Unbroken T ran t = Inv T ran t (stateOf T)
+
+-- It speaks of nothing that a state left in the tables changes but that state;
+leave-inv : (T : Tables) (ran : Bool) (t : ℕ) (s : State) → Inv T ran t s → Inv (leave T s) ran t s
+unfolding leave
+leave-inv T ran t s a =
+    record {
+      wired = a .wired;
+      fitted = a .fitted;
+      clock-current = a .clock-current;
+      clock-following = a .clock-following;
+      clock-standing = a .clock-standing;
+    }
+
+-- so it is the invariant of the state that was left.
+pub leave-unbroken : (T : Tables) (ran : Bool) (t : ℕ) (s : State) → Inv T ran t s → Unbroken (leave T s) ran t
+leave-unbroken T ran t s a =
+    subst (λ (u : State). Inv (leave T s) ran t u) (sym (stateOf-leave T s)) (leave-inv T ran t s a)
+
+-- It holds as a load leaves the tables.
+pub fresh-unbroken : (T : Tables) → Fresh T → Unbroken T false 0
+fresh-unbroken T f =
+    start-inv T 0 (stateOf T) (isNet-wiring T (netNumber-full T (f .net)) (netNumber-net T (f .net)))
+    (λ i h. subst (λ (l : List ℕ). In i l) (sym (f .current)) (from0-complete (T .counts .components) i h))
+    (λ i h e. subst (λ (l : List ℕ). In i l) (sym (f .following)) (has-sound i (standingList T) (f .clocks i h e)))
+    (λ i h e. has-sound i (standingList T) (f .clocks i h e))
+
+-- A round of a net keeps it, its wires in any order.
+pub round-unbroken : (T : Tables) (ws : List Wire) → Order T ws → (ran : Bool) (t u : ℕ) → netNumber T ≡ 0
+    → Unbroken T ran t
+    → Unbroken (leave T (round T ws u (stateOf T))) true u
+round-unbroken T ws o ran t u e a =
+    let f = netNumber-full T e in
+    let n = netNumber-net T e in
+    leave-unbroken T true u (round T ws u (stateOf T))
+    (round-inv T (isNet-wiring T f n) ws o u ran t (stateOf T) (isNet-held T f n) a)
+
+or-true : (a : Bool) → (a || true) ≡ true
+or-true true = refl
+or-true false = refl
+
+or-false : (a : Bool) → (a || false) ≡ a
+or-false true = refl
+or-false false = refl
+
+-- A round as a call keeps it: refused, it is none that has run.
+pub roundTables-unbroken : (T : Tables) (ran : Bool) (t u : ℕ) → Unbroken T ran t
+    → Unbroken (roundTables T u) (ran || eqb (netNumber T) 0) (cond (eqb (netNumber T) 0) u t)
+unfolding roundTables roundOf
+roundTables-unbroken T ran t u a = by-number (eqb (netNumber T) 0) refl
+  where
+    by-number : (b : Bool) → eqb (netNumber T) 0 ≡ b → Unbroken (cond b (roundOf u T) T) (ran || b) (cond b u t)
+    by-number true e =
+        subst (λ (r : Bool). Unbroken (roundOf u T) r u) (sym (or-true ran))
+        (round-unbroken T (wiresIn T) (stored-order T) ran t u (eqb-true (netNumber T) 0 e) a)
+    by-number false e = subst (λ (r : Bool). Unbroken T r t) (sym (or-false ran)) a
+
+-- An edit as a call keeps it, refused or not.
+pub editTables-unbroken : (T : Tables) (ran : Bool) (t i v : ℕ) → Unbroken T ran t → Unbroken (editTables T i v) ran t
+unfolding editTables
+editTables-unbroken T ran t i v a = by-number (eqb (editNumber T i v) 0) refl
+  where
+    done : editNumber T i v ≡ 0 → Unbroken (leave T (editedState T i v (stateOf T))) ran t
+    done e =
+        let f = editNumber-full T i v e in
+        let n = editNumber-net T i v e in
+        let ok = editNumber-editable T i v e in
+        leave-unbroken T ran t (editedState T i v (stateOf T))
+        (edited-inv T (isNet-wiring T f n) ran t i v (ok .exists) (stateOf T) (isNet-held T f n) a ok
+        (edited-leaves T f n i v ok))
+
+    by-number : (b : Bool) → eqb (editNumber T i v) 0 ≡ b
+        → Unbroken (cond b (leave T (editedState T i v (stateOf T))) T) ran t
+    by-number true e = done (eqb-true (editNumber T i v) 0 e)
+    by-number false e = a
+
+-- Whatever rounds and edits reach from a net as a load leaves it is a net: no call on it is given 2 or 16.
+pub since-net : (T₀ : Tables) → Fresh T₀ → {ran : Bool} {t : ℕ} {T : Tables} → Since T₀ ran t T → netNumber T ≡ 0
+since-net T₀ f started = f .net
+since-net T₀ f (rounded {T = T} u r) = roundTables-net T u (since-net T₀ f r)
+since-net T₀ f (edited {T = T} i v r) = editTables-net T i v (since-net T₀ f r)
+
+-- Its components and wires are those of T₀, and so are their counts; no table has another length.
+pub since-wiring : (T₀ : Tables) {ran : Bool} {t : ℕ} {T : Tables} → Since T₀ ran t T → SameWiring T₀ T
+since-wiring T₀ started = sameWiring-none T₀
+since-wiring T₀ (rounded {T = T} u r) =
+    sameWiring-more T₀ T (roundTables T u) (since-wiring T₀ r) (roundTables-wiring T u)
+since-wiring T₀ (edited {T = T} i v r) =
+    sameWiring-more T₀ T (editTables T i v) (since-wiring T₀ r) (editTables-wiring T i v)
+
+pub since-lengths : (T₀ : Tables) {ran : Bool} {t : ℕ} {T : Tables} → Since T₀ ran t T → SameLengths T₀ T
+since-lengths T₀ started = sameLengths-none T₀
+since-lengths T₀ (rounded {T = T} u r) =
+    sameLengths-more T₀ T (roundTables T u) (since-lengths T₀ r) (roundTables-lengths T u)
+since-lengths T₀ (edited {T = T} i v r) =
+    sameLengths-more T₀ T (editTables T i v) (since-lengths T₀ r) (editTables-lengths T i v)
+
+-- And the invariant holds of it.
+pub since-unbroken : (T₀ : Tables) → Fresh T₀ → {ran : Bool} {t : ℕ} {T : Tables} → Since T₀ ran t T → Unbroken T ran t
+since-unbroken T₀ f started = fresh-unbroken T₀ f
+since-unbroken T₀ f (rounded {ran = ran} {t = t} {T = T} u r) = roundTables-unbroken T ran t u (since-unbroken T₀ f r)
+since-unbroken T₀ f (edited {ran = ran} {t = t} {T = T} i v r) = editTables-unbroken T ran t i v (since-unbroken T₀ f r)

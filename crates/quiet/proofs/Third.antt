@@ -1,0 +1,198 @@
+-- An edited component is evaluated no later than the third round after. docs/SPECIFICATION.md, "Rounds".
+-- A round evaluates what its current list names. A standing component that the round at hand does not evaluate stays
+-- standing, so the following list names it after, and what that list names the next round makes current.
+--   Edits T U   any edits lead from T to U, refused ones too
+-- Assumes nothing.
+use mathlib.Core.Path.{_≡_, refl, sym, ap, _∙_, subst}
+use mathlib.Core.Logic.{_⊎_, inl, inr, ⊎-elim}
+use mathlib.Core.Bool.{Bool, true, false, cond, _||_}
+use mathlib.Core.List.{List, [], _∷_, foldl}
+use Prim.Native.Nat.{ℕ}
+use native.Mathlib.Decide.{ℕ-discrete}
+use lib.Dec.{eqb}
+use Rattle.lists.specs.Lists.{has, strike}
+use Rattle.lists.proofs.MembersLaws.{In, has-complete}
+use Rattle.lists.proofs.NamesLaws.{appendNew-has, appendNew-kept, strike-kept}
+use Rattle.primitive.specs.declared.kinds.Kind.the-variants.{Clock}
+use Rattle.primitive.specs.Kinds.{is}
+use Rattle.flatten.specs.declared.Wire.{Wire}
+use Rattle.tables.specs.Tables.{Tables, fieldsAt, wiresIn, currentList, followingList, standingList}
+use Rattle.simulator.specs.Round.{State, stateOf, leave, wiresFrom, evaluated, send, visit, round, edited, roundOf}
+use Rattle.simulator.specs.Calls.{netNumber, roundTables, editNumber, editTables}
+use Rattle.quiet.proofs.Held.{written, SendCase, agrees, writes, send-case}
+use Rattle.quiet.proofs.Left.{stateOf-leave}
+use Rattle.quiet.proofs.Kept.{roundTables-done, editTables-done, editNumber-netNumber, roundTables-net, editTables-net}
+
+-- Within a round.
+module _ (T : Tables) (x : ℕ) where
+  send-following : (s : State) (w : Wire) → In x (s .following) → In x (send T s w .following)
+  unfolding written
+  send-following s w m = by-case (send-case T s w)
+    where
+      by-case : SendCase T s w → In x (send T s w .following)
+      by-case (agrees p e) = rw e m
+      by-case (writes p e) = rw e (appendNew-kept (w .dst .comp) x (s .following) m)
+
+  send-standing : (s : State) (w : Wire) → In x (s .standing) → In x (send T s w .standing)
+  unfolding written
+  send-standing s w m = by-case (send-case T s w)
+    where
+      by-case : SendCase T s w → In x (send T s w .standing)
+      by-case (agrees p e) = rw e m
+      by-case (writes p e) = rw e m
+
+  sends-following : (ws : List Wire) (s : State) → In x (s .following) → In x (foldl (send T) s ws .following)
+  sends-following [] s m = m
+  sends-following (w ∷ ws) s m = sends-following ws (send T s w) (send-following s w m)
+
+  sends-standing : (ws : List Wire) (s : State) → In x (s .standing) → In x (foldl (send T) s ws .standing)
+  sends-standing [] s m = m
+  sends-standing (w ∷ ws) s m = sends-standing ws (send T s w) (send-standing s w m)
+
+  module _ (ws : List Wire) (t : ℕ) where
+    visit-following : (s : State) (i : ℕ) → In x (s .following) → In x (visit T ws t s i .following)
+    unfolding visit evaluated
+    visit-following s i m = sends-following (wiresFrom i ws) (evaluated T t i s) m
+
+    visit-standing : (s : State) (i : ℕ) → (x ≡ i → ⊥) → In x (s .standing) → In x (visit T ws t s i .standing)
+    unfolding visit evaluated
+    visit-standing s i ne m = sends-standing (wiresFrom i ws) (evaluated T t i s) (by-clock (is Clock (fieldsAt T i)))
+      where
+        by-clock : (b : Bool) → In x (cond b (s .standing) (strike i (s .standing)))
+        by-clock true = m
+        by-clock false = strike-kept i x (s .standing) ne m
+
+    visits-following : (xs : List ℕ) (s : State) → In x (s .following) → In x (foldl (visit T ws t) s xs .following)
+    visits-following [] s m = m
+    visits-following (i ∷ xs) s m = visits-following xs (visit T ws t s i) (visit-following s i m)
+
+    visits-standing : (xs : List ℕ) (s : State) → In x (s .standing) → In x xs
+        ⊎ In x (foldl (visit T ws t) s xs .standing)
+    visits-standing [] s m = inr m
+    visits-standing (i ∷ xs) s m = by-name (ℕ-discrete x i) (λ k. visits-standing xs (visit T ws t s i) k)
+      where
+        Last : Type 0
+        Last = In x (foldl (visit T ws t) (visit T ws t s i) xs .standing)
+
+        by-name : Dec (x ≡ i) → (In x (visit T ws t s i .standing) → In x xs ⊎ Last) → In x (i ∷ xs) ⊎ Last
+        by-name (yes e) later = inl (inl e)
+        by-name (no ne) later = ⊎-elim (λ k. inl (inr k)) (λ k. inr k) (later (visit-standing s i ne m))
+
+    -- What stands is evaluated in this round, or is followed after it, whatever the order of the wires.
+    pub round-standing : (s : State) → In x (s .standing) → In x (s .current) ⊎ In x (round T ws t s .following)
+    unfolding round
+    round-standing s m = visits-standing (s .current) s m
+
+    -- What is followed is current after it.
+    pub round-following : (s : State) → In x (s .following) → In x (round T ws t s .current)
+    unfolding round
+    round-following s m = visits-following (s .current) s m
+
+-- The same of the tables after a round.
+module _ (T : Tables) (x t : ℕ) (e : netNumber T ≡ 0) where
+  after-state : stateOf (roundTables T t) ≡ round T (wiresIn T) t (stateOf T)
+  unfolding roundOf
+  after-state = ap stateOf (roundTables-done T t e) ∙ stateOf-leave T (round T (wiresIn T) t (stateOf T))
+
+  roundTables-standing : In x (standingList T) → In x (currentList T) ⊎ In x (followingList (roundTables T t))
+  roundTables-standing m =
+      ⊎-elim (λ k. inl k) (λ k. inr (subst (λ (s : State). In x (s .following)) (sym after-state) k))
+      (round-standing T x (wiresIn T) t (stateOf T) m)
+
+  roundTables-following : In x (followingList T) → In x (currentList (roundTables T t))
+  roundTables-following m =
+      subst (λ (s : State). In x (s .current)) (sym after-state) (round-following T x (wiresIn T) t (stateOf T) m)
+
+-- Any edits, refused ones too.
+pub data Edits (T : Tables) : Tables → Type 0 where
+  none : Edits T T
+  more : {U : Tables} (i v : ℕ) → Edits T U → Edits T (editTables U i v)
+
+pub edits-net : (T : Tables) {U : Tables} → netNumber T ≡ 0 → Edits T U → netNumber U ≡ 0
+edits-net T e none = e
+edits-net T e (more {U = U} i v r) = editTables-net U i v (edits-net T e r)
+
+-- An edit takes no name off a list.
+module _ (x i v : ℕ) (T : Tables) where
+  by-edit : (P : State → Type 0) → P (stateOf T) → P (edited T i v (stateOf T)) → P (stateOf (editTables T i v))
+  unfolding editTables
+  by-edit P old new = by-number (eqb (editNumber T i v) 0)
+    where
+      by-number : (b : Bool) → P (stateOf (cond b (leave T (edited T i v (stateOf T))) T))
+      by-number true = subst P (sym (stateOf-leave T (edited T i v (stateOf T)))) new
+      by-number false = old
+
+  edit-current : In x (currentList T) → In x (currentList (editTables T i v))
+  unfolding edited
+  edit-current m = by-edit (λ (s : State). In x (s .current)) m m
+
+  edit-following : In x (followingList T) → In x (followingList (editTables T i v))
+  unfolding edited
+  edit-following m = by-edit (λ (s : State). In x (s .following)) m m
+
+  edit-standing : In x (standingList T) → In x (standingList (editTables T i v))
+  unfolding edited
+  edit-standing m = by-edit (λ (s : State). In x (s .standing)) m (appendNew-kept i x (standingList T) m)
+
+module _ (x : ℕ) (T : Tables) where
+  edits-current : {U : Tables} → In x (currentList T) → Edits T U → In x (currentList U)
+  edits-current m none = m
+  edits-current m (more {U = U} i v r) = edit-current x i v U (edits-current m r)
+
+  edits-following : {U : Tables} → In x (followingList T) → Edits T U → In x (followingList U)
+  edits-following m none = m
+  edits-following m (more {U = U} i v r) = edit-following x i v U (edits-following m r)
+
+  edits-standing : {U : Tables} → In x (standingList T) → Edits T U → In x (standingList U)
+  edits-standing m none = m
+  edits-standing m (more {U = U} i v r) = edit-standing x i v U (edits-standing m r)
+
+-- An edit that is not refused names its component in the standing list.
+pub editTables-stands : (T : Tables) (i v : ℕ) → editNumber T i v ≡ 0 → In i (standingList (editTables T i v))
+unfolding edited
+editTables-stands T i v e =
+    let p : stateOf (editTables T i v) ≡ edited T i v (stateOf T)
+    = ap stateOf (editTables-done T i v e) ∙ stateOf-leave T (edited T i v (stateOf T)) in
+    subst (λ (s : State). In i (s .standing)) (sym p) (appendNew-has i (standingList T))
+
+-- After an edit of component i that is not refused, one of the next three rounds evaluates it: with U₁, U₂ and U₃ the
+-- tables on which those rounds are called, the current list of one of them names i. Any edits may come before each.
+pub edit-third : (T : Tables) (i v : ℕ) → editNumber T i v ≡ 0 → (t₁ t₂ : ℕ) {U₁ U₂ U₃ : Tables}
+    → Edits (editTables T i v) U₁
+    → Edits (roundTables U₁ t₁) U₂ → Edits (roundTables U₂ t₂) U₃
+    → (has i (currentList U₁) || has i (currentList U₂) || has i (currentList U₃)) ≡ true
+edit-third T i v e t₁ t₂ {U₁} {U₂} {U₃} a b c = by-round (roundTables-standing U₁ i t₁ net₁ stands)
+  where
+    net₁ : netNumber U₁ ≡ 0
+    net₁ = edits-net (editTables T i v) (editTables-net T i v (editNumber-netNumber T i v e)) a
+
+    net₂ : netNumber U₂ ≡ 0
+    net₂ = edits-net (roundTables U₁ t₁) (roundTables-net U₁ t₁ net₁) b
+
+    stands : In i (standingList U₁)
+    stands = edits-standing i (editTables T i v) (editTables-stands T i v e) a
+
+    first : (x y z : Bool) → x ≡ true → (x || y || z) ≡ true
+    first x y z q = rw q
+
+    third : (x y z : Bool) → z ≡ true → (x || y || z) ≡ true
+    third true y z q = refl
+    third false true z q = refl
+    third false false z q = q
+
+    by-round : In i (currentList U₁) ⊎ In i (followingList (roundTables U₁ t₁))
+        → (has i (currentList U₁) || has i (currentList U₂) || has i (currentList U₃)) ≡ true
+    by-round (inl m) =
+        first (has i (currentList U₁)) (has i (currentList U₂)) (has i (currentList U₃))
+        (has-complete i (currentList U₁) m)
+    by-round (inr m) =
+        let f : In i (followingList U₂) = edits-following i (roundTables U₁ t₁) m b in
+        let k : In i (currentList U₃) = edits-current i (roundTables U₂ t₂) (roundTables-following U₂ i t₂ net₂ f) c in
+        third (has i (currentList U₁)) (has i (currentList U₂)) (has i (currentList U₃))
+        (has-complete i (currentList U₃) k)
+
+-- With no edits between: the edit, then three rounds, the first two at any times.
+pub edit-evaluated : (T : Tables) (i v : ℕ) → editNumber T i v ≡ 0 → (t₁ t₂ : ℕ)
+    → (has i (currentList (editTables T i v)) || has i (currentList (roundTables (editTables T i v) t₁))
+    || has i (currentList (roundTables (roundTables (editTables T i v) t₁) t₂))) ≡ true
+edit-evaluated T i v e t₁ t₂ = edit-third T i v e t₁ t₂ none none none
