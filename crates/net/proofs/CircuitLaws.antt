@@ -1,10 +1,9 @@
--- The tests of components, ports and wires, each on the tables that it is handed, together: the outcome after each of them.
+-- The tests of components, ports and wires together, each on the tables that it is handed: the outcome after each.
 -- Assumes nothing.
-use mathlib.Core.Path.{_≡_, refl, sym, _∙_}
-use mathlib.Core.Bool.{Bool, true, false, _&&_}
+use mathlib.Core.Path.{_≡_, refl, sym}
+use mathlib.Core.Bool.{true, false, _&&_}
 use mathlib.Core.List.{List, []}
 use Prim.Native.Nat.{ℕ}
-use Rattle.lists.proofs.ListsLaws.{and-left, and-right}
 use Rattle.tables.specs.declared.Counts.{Counts}
 use Rattle.tables.specs.Tables.{Tables}
 use Rattle.net.specs.Net.{countsWithin, lent, kindsObeyed, idsDistinct, portsFollow, valuesFit, constsHeld, wiresFit, inputsOnce, isCircuit}
@@ -50,15 +49,20 @@ module _ (cs is os ws : List ℕ) (m : Counts) where
     circuit-kinds e = rw (few, kinds-lent, e)
 
     module _ (kinds : kindsObeyed (lent cs [] [] [] m) ≡ true) where
-      pub circuit-rows : (idsDistinct (lent cs [] [] [] m) && portsFollow (lent cs [] [] [] m)) ≡ false → false ≡ isCircuit T
+      pub circuit-rows : (idsDistinct (lent cs [] [] [] m) && portsFollow (lent cs [] [] [] m)) ≡ false → false
+          ≡ isCircuit T
       circuit-rows e = rw (few, kinds-lent, kinds, ids-lent, follow-lent, e)
 
       module _ (rows : (idsDistinct (lent cs [] [] [] m) && portsFollow (lent cs [] [] [] m)) ≡ true) where
-        pub circuit-ports : (valuesFit (lent cs is os [] m) && constsHeld (lent cs [] os [] m) && wiresFit (lent cs [] [] ws m)) ≡ false
+        pub circuit-ports : (valuesFit (lent cs is os [] m) && constsHeld (lent cs [] os [] m)
+            && wiresFit (lent cs [] [] ws m)) ≡ false
             → false ≡ isCircuit T
-        circuit-ports e = rw (few, kinds-lent, kinds, ids-lent, follow-lent, rows, values-lent, consts-lent, wires-lent, e)
+        circuit-ports e =
+            rw (few, kinds-lent, kinds, ids-lent, follow-lent, rows, values-lent, consts-lent, wires-lent, e)
 
-        pub circuit-once : (valuesFit (lent cs is os [] m) && constsHeld (lent cs [] os [] m) && wiresFit (lent cs [] [] ws m)) ≡ true
+        pub circuit-once : (valuesFit (lent cs is os [] m) && constsHeld (lent cs [] os [] m)
+            && wiresFit (lent cs [] [] ws m)) ≡ true
             → inputsOnce (lent cs [] [] ws m) ≡ isCircuit T
         circuit-once e =
-            rw (few, kinds-lent, kinds, ids-lent, follow-lent, rows, values-lent, consts-lent, wires-lent, e) (sym once-lent)
+            rw (few, kinds-lent, kinds, ids-lent, follow-lent, rows, values-lent, consts-lent, wires-lent, e)
+            (sym once-lent)

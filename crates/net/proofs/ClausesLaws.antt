@@ -70,12 +70,14 @@ unfolding portsFollow
 portsFollow-fails cs m e = let z : every (followAt cs) (from 0 (m .components)) ≡ false = sym e in rw z
 
 pub portsFollow-end : (cs : List ℕ) (m : Counts) (i ins outs : ℕ) → i ≡ m .components → ins ≡ inputSum cs i
-    → outs ≡ outputSum cs i → every (followAt cs) (from i (m .components - i)) ≡ every (followAt cs) (from 0 (m .components))
+    → outs ≡ outputSum cs i → every (followAt cs) (from i (m .components - i))
+    ≡ every (followAt cs) (from 0 (m .components))
     → (eqb (m .inputs) ins && eqb (m .outputs) outs) ≡ portsFollow (lent cs [] [] [] m)
 unfolding portsFollow
 portsFollow-end cs m i ins outs e p q so-far =
     let z : every (followAt cs) (from 0 (m .components)) ≡ true =
-    sym (every-end (followAt cs) i (m .components) (every (followAt cs) (from 0 (m .components))) (omega arith) so-far) in
+    sym (every-end (followAt cs) i (m .components) (every (followAt cs) (from 0 (m .components)))
+    (omega arith) so-far) in
     rw (p, q, e, z)
 
 -- What it says of component i: where its ports start, and that they end within the counts.
@@ -86,10 +88,12 @@ module _ (T : Tables) (e : portsFollow T ≡ true) where
   abbrev n : ℕ
   n = T .counts .components
 
-  follow-parts : AllTrue (every (followAt cs) (from 0 n) ∷ eqb (T .counts .inputs) (inputsBelow T n) ∷ eqb (T .counts .outputs) (outputsBelow T n) ∷ [])
+  follow-parts : AllTrue (every (followAt cs) (from 0 n) ∷ eqb (T .counts .inputs) (inputsBelow T n)
+      ∷ eqb (T .counts .outputs) (outputsBelow T n) ∷ [])
   unfolding portsFollow
   follow-parts =
-      parts-sound (every (followAt cs) (from 0 n)) (eqb (T .counts .inputs) (inputsBelow T n) ∷ eqb (T .counts .outputs) (outputsBelow T n) ∷ []) e
+      parts-sound (every (followAt cs) (from 0 n))
+      (eqb (T .counts .inputs) (inputsBelow T n) ∷ eqb (T .counts .outputs) (outputsBelow T n) ∷ []) e
 
   pub portsFollow-inputCount : T .counts .inputs ≡ inputsBelow T n
   portsFollow-inputCount = eqb-true (T .counts .inputs) (inputsBelow T n) (follow-parts .1 .0)
@@ -101,12 +105,14 @@ module _ (T : Tables) (e : portsFollow T ≡ true) where
     pub portsFollow-firstInput : firstInput T i ≡ inputsBelow T i
     portsFollow-firstInput =
         eqb-true (firstInput T i) (inputsBelow T i)
-        (and-left (eqb (firstInput T i) (inputsBelow T i)) (eqb (firstOutput T i) (outputsBelow T i)) (every-from (followAt cs) n (follow-parts .0) i h))
+        (and-left (eqb (firstInput T i) (inputsBelow T i)) (eqb (firstOutput T i) (outputsBelow T i))
+        (every-from (followAt cs) n (follow-parts .0) i h))
 
     pub portsFollow-firstOutput : firstOutput T i ≡ outputsBelow T i
     portsFollow-firstOutput =
         eqb-true (firstOutput T i) (outputsBelow T i)
-        (and-right (eqb (firstInput T i) (inputsBelow T i)) (eqb (firstOutput T i) (outputsBelow T i)) (every-from (followAt cs) n (follow-parts .0) i h))
+        (and-right (eqb (firstInput T i) (inputsBelow T i)) (eqb (firstOutput T i) (outputsBelow T i))
+        (every-from (followAt cs) n (follow-parts .0) i h))
 
     pub portsFollow-inputs : firstInput T i + fieldsAt T i .inputs ≤ T .counts .inputs
     portsFollow-inputs =
@@ -120,11 +126,21 @@ module _ (T : Tables) (e : portsFollow T ≡ true) where
   module _ (i j : ℕ) (l : i < j) (h : j < n) where
     pub portsFollow-inputsApart : firstInput T i + fieldsAt T i .inputs ≤ firstInput T j
     portsFollow-inputsApart =
-        omega (arith, portsFollow-firstInput i (omega arith), portsFollow-firstInput j h, total-room (λ k. fieldsAt T k .inputs) i j l)
+        omega (
+          arith,
+          portsFollow-firstInput i (omega arith),
+          portsFollow-firstInput j h,
+          total-room (λ k. fieldsAt T k .inputs) i j l,
+        )
 
     pub portsFollow-outputsApart : firstOutput T i + fieldsAt T i .outputs ≤ firstOutput T j
     portsFollow-outputsApart =
-        omega (arith, portsFollow-firstOutput i (omega arith), portsFollow-firstOutput j h, total-room (λ k. fieldsAt T k .outputs) i j l)
+        omega (
+          arith,
+          portsFollow-firstOutput i (omega arith),
+          portsFollow-firstOutput j h,
+          total-room (λ k. fieldsAt T k .outputs) i j l,
+        )
 
 -- "wires have ends that exist and equal widths": where a component of wire k does not exist, and where both do.
 module _ (cs ws : List ℕ) (n k : ℕ) where
@@ -133,7 +149,8 @@ module _ (cs ws : List ℕ) (n k : ℕ) where
 
   pub wireRight-none : ends ≡ false → false ≡ wireRight cs ws n k
   wireRight-none e =
-      none (ltb (getD ws (4 * k) 0) n) (ltb (targetIn ws k) n) (ltb (getD ws (4 * k + 1) 0) (wordIn cs (getD ws (4 * k) 0) 5))
+      none (ltb (getD ws (4 * k) 0) n) (ltb (targetIn ws k) n)
+      (ltb (getD ws (4 * k + 1) 0) (wordIn cs (getD ws (4 * k) 0) 5))
       (ltb (getD ws (4 * k + 3) 0) (wordIn cs (targetIn ws k) 4))
       (eqb (outputWidth (fieldsIn cs (getD ws (4 * k) 0))) (inputWidth (fieldsIn cs (targetIn ws k)))) e
     where
@@ -144,8 +161,10 @@ module _ (cs ws : List ℕ) (n k : ℕ) where
       none false b x y z e = refl
 
   pub wireRight-both : ends ≡ true
-      → (ltb (getD ws (4 * k + 1) 0) (wordIn cs (getD ws (4 * k) 0) 5) && ltb (getD ws (4 * k + 3) 0) (wordIn cs (targetIn ws k) 4)
-      && eqb (outputWidth (fieldsIn cs (getD ws (4 * k) 0))) (inputWidth (fieldsIn cs (targetIn ws k)))) ≡ wireRight cs ws n k
+      → (ltb (getD ws (4 * k + 1) 0) (wordIn cs (getD ws (4 * k) 0) 5)
+      && ltb (getD ws (4 * k + 3) 0) (wordIn cs (targetIn ws k) 4)
+      && eqb (outputWidth (fieldsIn cs (getD ws (4 * k) 0))) (inputWidth (fieldsIn cs (targetIn ws k))))
+      ≡ wireRight cs ws n k
   wireRight-both e =
       let a = and-left (ltb (getD ws (4 * k) 0) n) (ltb (targetIn ws k) n) e in
       let b = and-right (ltb (getD ws (4 * k) 0) n) (ltb (targetIn ws k) n) e in
@@ -156,7 +175,9 @@ module _ (cs ws : List ℕ) (m : Counts) where
   T = lent cs [] [] ws m
 
   abbrev right : Wire → Bool
-  right w = isOutput T (w .src) && isInput T (w .dst) && eqb (outputWidth (fieldsAt T (w .src .comp))) (inputWidth (fieldsAt T (w .dst .comp)))
+  right w =
+      isOutput T (w .src) && isInput T (w .dst)
+      && eqb (outputWidth (fieldsAt T (w .src .comp))) (inputWidth (fieldsAt T (w .dst .comp)))
 
   -- All wires, by their places in the table.
   pub wiresFit-every : every (wireRight cs ws (m .components)) (from 0 (m .wires)) ≡ wiresFit T
@@ -177,18 +198,22 @@ module _ (cs ws : List ℕ) (m : Counts) where
         ∷ eqb (outputWidth (fieldsAt T (wireAt T k .src .comp))) (inputWidth (fieldsAt T (wireAt T k .dst .comp))) ∷ [])
     wire-parts =
         parts-sound (isOutput T (wireAt T k .src)) (isInput T (wireAt T k .dst)
-        ∷ eqb (outputWidth (fieldsAt T (wireAt T k .src .comp))) (inputWidth (fieldsAt T (wireAt T k .dst .comp))) ∷ []) wiresFit-right
+        ∷ eqb (outputWidth (fieldsAt T (wireAt T k .src .comp))) (inputWidth (fieldsAt T (wireAt T k .dst .comp)))
+        ∷ []) wiresFit-right
 
     pub wiresFit-target : targetIn ws k < m .components
     wiresFit-target =
-        ltb-true _ _ (and-left (ltb (targetIn ws k) (m .components)) (ltb (getD ws (4 * k + 3) 0) (wordIn cs (targetIn ws k) 4)) (wire-parts .1 .0))
+        ltb-true _ _ (and-left (ltb (targetIn ws k) (m .components))
+        (ltb (getD ws (4 * k + 3) 0) (wordIn cs (targetIn ws k) 4)) (wire-parts .1 .0))
 
     pub wiresFit-port : getD ws (4 * k + 3) 0 < wordIn cs (targetIn ws k) 4
     wiresFit-port =
-        ltb-true _ _ (and-right (ltb (targetIn ws k) (m .components)) (ltb (getD ws (4 * k + 3) 0) (wordIn cs (targetIn ws k) 4)) (wire-parts .1 .0))
+        ltb-true _ _ (and-right (ltb (targetIn ws k) (m .components))
+        (ltb (getD ws (4 * k + 3) 0) (wordIn cs (targetIn ws k) 4)) (wire-parts .1 .0))
 
 -- What the clauses before it give the tests of values and of inputs.
-module _ (cs : List ℕ) (m : Counts) (few : countsWithin m ≡ true) (follow : portsFollow (lent cs [] [] [] m) ≡ true) where
+module _ (cs : List ℕ) (m : Counts) (few : countsWithin m ≡ true)
+    (follow : portsFollow (lent cs [] [] [] m) ≡ true) where
   pub portsInside : (is os : List ℕ) → 1024 ≤ length is → 1024 ≤ length os → PortsInside cs is os (m .components)
   portsInside is os a b i h =
       let w = countsWithin-sound m few in (

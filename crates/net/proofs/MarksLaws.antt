@@ -5,13 +5,12 @@
 use mathlib.Core.Path.{_≡_, refl, sym, ap, _∙_}
 use mathlib.Core.Bool.{Bool, true, false, not, _&&_, _||_}
 use mathlib.Core.List.{List, [], _∷_, map}
-use mathlib.Core.Logic.{⊎-elim}
-use Prim.Native.Nat.{ℕ, zero, suc, _+_, _-_, _≤_, _<_}
+use Prim.Native.Nat.{ℕ, suc, _+_, _-_, _≤_, _<_}
 use native.Mathlib.Numerals.{add-one}
 use native.Mathlib.Decide.{decLt}
 use native.Mathlib.Omega.{arith}
-use borrow.Author.Tests.{eq-eqb, ne-eqb, eqb-true, eqb-false, lt-ltb, le-ltb}
-use lib.ListN.{length, getD, take, set, replicate, length-replicate, getD-replicate, List·getD-eq-default}
+use borrow.Author.Tests.{ne-eqb, eqb-true, eqb-false, lt-ltb, le-ltb}
+use lib.ListN.{length, getD, set, replicate, length-replicate, getD-replicate, List·getD-eq-default}
 use lib.Seq.{slice, slice-cons, slice-empty, getD-set-same, getD-set-other}
 use lib.Dec.{eqb, ltb}
 use Rattle.lists.specs.Lists.{from, every, has, distinct}
@@ -48,12 +47,14 @@ pub fresh-again : (seen : List ℕ) (x : ℕ) (xs : List ℕ) → (getD seen x 0
 fresh-again seen x xs h = rw (ne-eqb (getD seen x 0) 0 h)
 
 -- With one mark more, the others are unmarked exactly if they were and are another number.
-mark-one : (seen : List ℕ) (x : ℕ) → x < length seen → (y : ℕ) → unmarked (set seen x 1) y ≡ (unmarked seen y && not (eqb x y))
+mark-one : (seen : List ℕ) (x : ℕ) → x < length seen → (y : ℕ) → unmarked (set seen x 1) y
+    ≡ (unmarked seen y && not (eqb x y))
 mark-one seen x h y = by-test (eqb x y) refl
   where
     by-test : (b : Bool) → eqb x y ≡ b → unmarked (set seen x 1) y ≡ (unmarked seen y && not (eqb x y))
     by-test true e =
-        let z : getD (set seen x 1) y 0 ≡ 1 = ap (λ (k : ℕ). getD (set seen x 1) k 0) (sym (eqb-true x y e)) ∙ getD-set-same seen x 1 0 h in
+        let z : getD (set seen x 1) y 0 ≡ 1 =
+        ap (λ (k : ℕ). getD (set seen x 1) k 0) (sym (eqb-true x y e)) ∙ getD-set-same seen x 1 0 h in
         rw (e, z) (sym (and-false (unmarked seen y)))
     by-test false e =
         let z : getD (set seen x 1) y 0 ≡ getD seen y 0 = getD-set-other seen x y 1 0 (λ q. eqb-false x y e (sym q)) in
@@ -67,7 +68,8 @@ mark-every : (seen : List ℕ) (x : ℕ) → x < length seen → (xs : List ℕ)
     → every (unmarked (set seen x 1)) xs ≡ (every (unmarked seen) xs && not (has x xs))
 mark-every seen x h [] = refl
 mark-every seen x h (y ∷ ys) =
-    rw (mark-one seen x h y, mark-every seen x h ys) (shuffled (unmarked seen y) (eqb x y) (every (unmarked seen) ys) (has x ys))
+    rw (mark-one seen x h y, mark-every seen x h ys)
+    (shuffled (unmarked seen y) (eqb x y) (every (unmarked seen) ys) (has x ys))
   where
     shuffled : (a b c d : Bool) → ((a && not b) && (c && not d)) ≡ ((a && c) && not (b || d))
     shuffled true true c d = sym (and-false c)
@@ -77,7 +79,8 @@ mark-every seen x h (y ∷ ys) =
 -- A number that is not: it is marked, and the rest is as fresh as before.
 pub fresh-step : (seen : List ℕ) (x : ℕ) (xs : List ℕ) → x < length seen → getD seen x 0 ≡ 0
     → fresh seen (x ∷ xs) ≡ fresh (set seen x 1) xs
-fresh-step seen x xs h e = rw (mark-every seen x h xs, e) (grouped (every (unmarked seen) xs) (not (has x xs)) (distinct xs))
+fresh-step seen x xs h e =
+    rw (mark-every seen x h xs, e) (grouped (every (unmarked seen) xs) (not (has x xs)) (distinct xs))
   where
     grouped : (a b c : Bool) → (a && (b && c)) ≡ ((a && b) && c)
     grouped true b c = refl
@@ -112,7 +115,8 @@ naming-past n seen x xs h = rw (le-ltb x n h)
 
 naming-again : (n : ℕ) (seen : List ℕ) (x : ℕ) (xs : List ℕ) → (getD seen x 0 ≡ 0 → ⊥) → naming n seen (x ∷ xs) ≡ false
 naming-again n seen x xs e =
-    ap (λ (b : Bool). every (λ y. ltb y n) (x ∷ xs) && b) (fresh-again seen x xs e) ∙ and-false (every (λ y. ltb y n) (x ∷ xs))
+    ap (λ (b : Bool). every (λ y. ltb y n) (x ∷ xs) && b) (fresh-again seen x xs e)
+    ∙ and-false (every (λ y. ltb y n) (x ∷ xs))
 
 naming-step : (n : ℕ) (seen : List ℕ) (x : ℕ) (xs : List ℕ) → x < n → x < length seen → getD seen x 0 ≡ 0
     → naming n seen (x ∷ xs) ≡ naming n (set seen x 1) xs
@@ -123,7 +127,8 @@ naming-step n seen x xs h l e =
 pub naming-start : (n m : ℕ) (xs : List ℕ) → naming n (replicate m 0) xs ≡ (every (λ x. ltb x n) xs && distinct xs)
 naming-start n m xs = ap (λ (b : Bool). every (λ x. ltb x n) xs && b) (fresh-start m xs)
 
-module _ (n : ℕ) (seen t : List ℕ) (q k : ℕ) (b : Bool) (long : k ≤ length t) (so-far : naming n seen (slice q k t) ≡ b) where
+module _ (n : ℕ) (seen t : List ℕ) (q k : ℕ) (b : Bool) (long : k ≤ length t)
+    (so-far : naming n seen (slice q k t) ≡ b) where
   pub namingSlice-past : q < k → n ≤ getD t q 0 → false ≡ b
   namingSlice-past h e =
       let z : naming n seen (slice q k t) ≡ false =

@@ -1,33 +1,33 @@
--- What a net is, clause by clause: `isNet-sound` takes the test apart, `isNet-complete` puts it together, and a law for each
--- clause says what it gives of a component, a port, a wire or a list. Then the number of a call that checks 2 and 16.
+-- What a net is, clause by clause: `isNet-sound` takes the test apart, `isNet-complete` puts it together, and a law for
+-- each clause says what it gives of a component, a port, a wire or a list. Then the number of a call: 2, 16 or 0.
 --   Net T      the tables T pass every clause
 -- Not here: laws of countsWithin, kindsObeyed and portsFollow (ClausesLaws).
 -- Assumes nothing.
-use mathlib.Core.Path.{_≡_, refl, sym, ap, _∙_, subst}
-use mathlib.Core.Bool.{Bool, true, false, not, _&&_, _||_, false≢true}
+use mathlib.Core.Path.{_≡_, refl, ap, _∙_}
+use mathlib.Core.Bool.{Bool, true, false, not, _&&_, _||_}
 use mathlib.Core.List.{List, [], _∷_, map}
-use mathlib.Core.Logic.{_⊎_, inl, inr, ⊎-elim}
-use Prim.Native.Nat.{ℕ, _+_, _*_, _≤_, _<_}
+use Prim.Native.Nat.{ℕ, _+_, _≤_, _<_}
 use native.Mathlib.Decide.{decLt}
 use native.Mathlib.Omega.{arith}
-use borrow.Author.Tests.{leb-true, ltb-true, eqb-true, not-false}
-use lib.ListN.{length, getD, take}
+use borrow.Author.Tests.{ltb-true, eqb-true, not-false}
+use lib.ListN.{length, getD}
+use lib.Seq.{length-slice}
 use lib.Dec.{eqb, ltb}
 use Rattle.lists.specs.Lists.{from, every, distinct}
 use Rattle.lists.proofs.ListsLaws.{and-left, and-right, every-from, refusal-first, refusal-rest}
-use Rattle.lists.proofs.MembersLaws.{In, Distinct, every-sound, distinct-sound, distinct-place, distinct-bound, from-length, from0-complete, in-getD, map-sound}
+use Rattle.lists.proofs.MembersLaws.{In, Distinct, every-sound, distinct-sound, distinct-bound, from-length, from0-complete}
 use Rattle.value.specs.Value.{below}
 use Rattle.primitive.specs.declared.kinds.Kind.the-variants.{Const}
 use Rattle.primitive.specs.Kinds.{is, inputWidth, outputWidth}
+use Rattle.primitive.specs.Evaluate.{Own}
 use Rattle.flatten.specs.declared.Pin.{Pin}
 use Rattle.flatten.specs.declared.Wire.{Wire}
-use Rattle.tables.specs.declared.Counts.{Counts}
-use Rattle.tables.specs.Tables.{Tables, fullSize, fieldsAt, idAt, firstInput, firstOutput, inputPlace, outputPlace, inputsAt, outputsAt, indexes, wiresIn, wireAt, currentList, followingList, standingList}
+use Rattle.tables.specs.Tables.{Tables, fullSize, fieldsAt, idAt, firstInput, firstOutput, inputPlace, outputPlace, inputsAt, outputsAt, indexes, wiresIn, currentList, followingList, standingList}
 use Rattle.tables.proofs.PartsLaws.{AllTrue, parts-sound, parts-complete}
 use Rattle.tables.proofs.SizesLaws.{Full, fullSize-sound}
 use Rattle.net.specs.Net.{countsWithin, lent, kindsObeyed, idsDistinct, portsFollow, valuesFit, constsHeld, isOutput, isInput, wiresFit, inputsOnce, names, isCircuit, isNet, netNumber}
 use Rattle.net.specs.Parts.{fitAt, heldAt}
-use Rattle.net.proofs.ClausesLaws.{Within, countsWithin-sound, portsFollow-inputsApart, portsFollow-outputsApart, portsFollow-inputs}
+use Rattle.net.proofs.ClausesLaws.{Within, countsWithin-sound, portsFollow-inputsApart, portsFollow-outputsApart, portsFollow-inputs, portsFollow-outputs, kindsObeyed-at}
 
 -- The clauses.
 pub record Net (T : Tables) : Type 0 where
@@ -46,7 +46,8 @@ pub record Net (T : Tables) : Type 0 where
 module _ (T : Tables) where
   abbrev after-counts : List Bool
   after-counts =
-      kindsObeyed T ∷ idsDistinct T ∷ portsFollow T ∷ valuesFit T ∷ constsHeld T ∷ wiresFit T ∷ inputsOnce T ∷ names T (currentList T)
+      kindsObeyed T ∷ idsDistinct T ∷ portsFollow T ∷ valuesFit T ∷ constsHeld T ∷ wiresFit T ∷ inputsOnce T
+      ∷ names T (currentList T)
       ∷ names T (followingList T) ∷ names T (standingList T) ∷ []
 
   pub isNet-sound : isNet T ≡ true → Net T
@@ -70,7 +71,37 @@ module _ (T : Tables) where
   pub isNet-complete : Net T → isNet T ≡ true
   unfolding isNet
   isNet-complete w =
-      rw (w .counts, w .kinds, w .ids, w .ports, w .values, w .consts, w .wires, w .once, w .current, w .following, w .standing)
+      parts-complete (countsWithin (T .counts)) after-counts (
+        w .counts,
+        (
+          w .kinds,
+          (
+            w .ids,
+            (
+              w .ports,
+              (
+                w .values,
+                (
+                  w .consts,
+                  (
+                    w .wires,
+                    (
+                      w .once,
+                      (
+                        w .current,
+                        (
+                          w .following,
+                          (w .standing, tt),
+                        ),
+                      ),
+                    ),
+                  ),
+                ),
+              ),
+            ),
+          ),
+        ),
+      )
 
 -- "distinct ids"
 module _ (T : Tables) (e : idsDistinct T ≡ true) where
@@ -100,12 +131,27 @@ module _ (T : Tables) (e : valuesFit T ≡ true) (i : ℕ) (h : i < T .counts .c
       and-right (every (λ x. below x (inputWidth (fieldsAt T i))) (inputsAt T (T .inputs) i))
       (every (λ x. below x (outputWidth (fieldsAt T i))) (outputsAt T (T .outputs) i)) fit-at
 
+-- In tables of ports of full size, a component of a net has its own inputs and outputs and no others.
+pub net-own : (T : Tables) → Net T → (xs ys : List ℕ) → 1024 ≤ length xs → 1024 ≤ length ys → (i : ℕ)
+    → i < T .counts .components → Own (fieldsAt T i) (inputsAt T xs i) (outputsAt T ys i)
+net-own T w xs ys a b i h =
+    let few = countsWithin-sound (T .counts) (w .counts) in
+    let p : firstInput T i + fieldsAt T i .inputs ≤ length xs = omega (arith, portsFollow-inputs T (w .ports) i h) in
+    let q : firstOutput T i + fieldsAt T i .outputs ≤ length ys = omega (arith, portsFollow-outputs T (w .ports) i h) in
+    record {
+      obeyed = kindsObeyed-at T (w .kinds) i h;
+      all-inputs = length-slice (firstInput T i) (firstInput T i + fieldsAt T i .inputs) xs p ∙ omega arith;
+      all-outputs = length-slice (firstOutput T i) (firstOutput T i + fieldsAt T i .outputs) ys q ∙ omega arith;
+    }
+
 -- "each Const's output is its value"
-pub constsHeld-at : (T : Tables) → constsHeld T ≡ true → (i : ℕ) → i < T .counts .components → is Const (fieldsAt T i) ≡ true
+pub constsHeld-at : (T : Tables) → constsHeld T ≡ true → (i : ℕ) → i < T .counts .components → is Const (fieldsAt T i)
+    ≡ true
     → getD (T .outputs) (firstOutput T i) 0 ≡ fieldsAt T i .parameter
 unfolding constsHeld
 constsHeld-at T e i h k =
-    let p : (not (is Const (fieldsAt T i)) || eqb (getD (T .outputs) (firstOutput T i) 0) (fieldsAt T i .parameter)) ≡ true =
+    let p : (not (is Const (fieldsAt T i)) || eqb (getD (T .outputs) (firstOutput T i) 0) (fieldsAt T i .parameter))
+    ≡ true =
     every-from (heldAt (T .components) (T .outputs)) (T .counts .components) e i h in
     eqb-true (getD (T .outputs) (firstOutput T i) 0) (fieldsAt T i .parameter) (rw k at p)
 
@@ -128,7 +174,8 @@ module _ (T : Tables) where
       ltb-true _ _ (and-right (ltb (t .comp) (T .counts .components)) (ltb (t .port) (fieldsAt T (t .comp) .inputs)) e)
 
   -- Of ports a and b of components i and j, where ports start at f and component i has g i of them.
-  place-inj : (f g : ℕ → ℕ) (n : ℕ) → ((i j : ℕ) → i < j → j < n → f i + g i ≤ f j) → (i j a b : ℕ) → i < n → j < n → a < g i
+  place-inj : (f g : ℕ → ℕ) (n : ℕ) → ((i j : ℕ) → i < j → j < n → f i + g i ≤ f j) → (i j a b : ℕ) → i < n → j < n
+      → a < g i
       → b < g j → f i + a ≡ f j + b → i ≡ j
   place-inj f g n apart i j a b hi hj ha hb e = by-order (decLt i j) (decLt j i)
     where
@@ -140,31 +187,38 @@ module _ (T : Tables) where
   module _ (e : portsFollow T ≡ true) (s t : Pin) where
     pub inputPlace-comp : isInput T s ≡ true → isInput T t ≡ true → inputPlace T s ≡ inputPlace T t → s .comp ≡ t .comp
     inputPlace-comp a b q =
-        place-inj (firstInput T) (λ i. fieldsAt T i .inputs) (T .counts .components) (portsFollow-inputsApart T e) (s .comp) (t .comp)
+        place-inj (firstInput T) (λ i. fieldsAt T i .inputs) (T .counts .components) (portsFollow-inputsApart T e)
+        (s .comp) (t .comp)
         (s .port) (t .port) (isInput-comp s a) (isInput-comp t b) (isInput-port s a) (isInput-port t b) q
 
     pub inputPlace-port : isInput T s ≡ true → isInput T t ≡ true → inputPlace T s ≡ inputPlace T t → s .port ≡ t .port
     inputPlace-port a b q = omega (arith, q, ap (firstInput T) (inputPlace-comp a b q))
 
-    pub outputPlace-comp : isOutput T s ≡ true → isOutput T t ≡ true → outputPlace T s ≡ outputPlace T t → s .comp ≡ t .comp
+    pub outputPlace-comp : isOutput T s ≡ true → isOutput T t ≡ true → outputPlace T s ≡ outputPlace T t → s .comp
+        ≡ t .comp
     outputPlace-comp a b q =
-        place-inj (firstOutput T) (λ i. fieldsAt T i .outputs) (T .counts .components) (portsFollow-outputsApart T e) (s .comp) (t .comp)
+        place-inj (firstOutput T) (λ i. fieldsAt T i .outputs) (T .counts .components) (portsFollow-outputsApart T e)
+        (s .comp) (t .comp)
         (s .port) (t .port) (isOutput-comp s a) (isOutput-comp t b) (isOutput-port s a) (isOutput-port t b) q
 
-    pub outputPlace-port : isOutput T s ≡ true → isOutput T t ≡ true → outputPlace T s ≡ outputPlace T t → s .port ≡ t .port
+    pub outputPlace-port : isOutput T s ≡ true → isOutput T t ≡ true → outputPlace T s ≡ outputPlace T t → s .port
+        ≡ t .port
     outputPlace-port a b q = omega (arith, q, ap (firstOutput T) (outputPlace-comp a b q))
 
 -- "wires have ends that exist and equal widths"
 module _ (T : Tables) (e : wiresFit T ≡ true) (w : Wire) (h : In w (wiresIn T)) where
   abbrev right : Wire → Bool
-  right w = isOutput T (w .src) && isInput T (w .dst) && eqb (outputWidth (fieldsAt T (w .src .comp))) (inputWidth (fieldsAt T (w .dst .comp)))
+  right w =
+      isOutput T (w .src) && isInput T (w .dst)
+      && eqb (outputWidth (fieldsAt T (w .src .comp))) (inputWidth (fieldsAt T (w .dst .comp)))
 
   wire-parts : AllTrue (isOutput T (w .src) ∷ isInput T (w .dst)
       ∷ eqb (outputWidth (fieldsAt T (w .src .comp))) (inputWidth (fieldsAt T (w .dst .comp))) ∷ [])
   unfolding wiresFit
   wire-parts =
       parts-sound (isOutput T (w .src)) (isInput T (w .dst)
-      ∷ eqb (outputWidth (fieldsAt T (w .src .comp))) (inputWidth (fieldsAt T (w .dst .comp))) ∷ []) (every-sound right w (wiresIn T) e h)
+      ∷ eqb (outputWidth (fieldsAt T (w .src .comp))) (inputWidth (fieldsAt T (w .dst .comp))) ∷ [])
+      (every-sound right w (wiresIn T) e h)
 
   pub wiresFit-source : isOutput T (w .src) ≡ true
   wiresFit-source = wire-parts .0
@@ -176,7 +230,8 @@ module _ (T : Tables) (e : wiresFit T ≡ true) (w : Wire) (h : In w (wiresIn T)
   wiresFit-widths = eqb-true _ _ (wire-parts .1 .1 .0)
 
 -- "no input has two wires"
-pub inputsOnce-sound : (T : Tables) → inputsOnce T ≡ true → Distinct (map (λ (w : Wire). inputPlace T (w .dst)) (wiresIn T))
+pub inputsOnce-sound : (T : Tables) → inputsOnce T ≡ true
+    → Distinct (map (λ (w : Wire). inputPlace T (w .dst)) (wiresIn T))
 unfolding inputsOnce
 inputsOnce-sound T e = distinct-sound (map (λ (w : Wire). inputPlace T (w .dst)) (wiresIn T)) e
 
@@ -187,7 +242,8 @@ module _ (T : Tables) (xs : List ℕ) (e : names T xs ≡ true) where
   names-parts = parts-sound (every (λ i. ltb i (T .counts .components)) xs) (distinct xs ∷ []) e
 
   pub names-existing : (i : ℕ) → In i xs → i < T .counts .components
-  names-existing i h = ltb-true i (T .counts .components) (every-sound (λ j. ltb j (T .counts .components)) i xs (names-parts .0) h)
+  names-existing i h =
+      ltb-true i (T .counts .components) (every-sound (λ j. ltb j (T .counts .components)) i xs (names-parts .0) h)
 
   pub names-distinct : Distinct xs
   names-distinct = distinct-sound xs (names-parts .1 .0)
@@ -211,14 +267,16 @@ module _ (T : Tables) where
   unfolding names
   names-lent xs = refl
 
-  pub net-circuit : isCircuit (lent (T .components) (T .inputs) (T .outputs) (T .wires) (T .counts)) ≡ false → false ≡ isNet T
+  pub net-circuit : isCircuit (lent (T .components) (T .inputs) (T .outputs) (T .wires) (T .counts)) ≡ false → false
+      ≡ isNet T
   unfolding isNet
   net-circuit e =
       let z : isCircuit T ≡ false = whole-lent ∙ e in
       rw z
 
   module _ (e : isCircuit (lent (T .components) (T .inputs) (T .outputs) (T .wires) (T .counts)) ≡ true) where
-    pub net-lists : (names (lent [] [] [] [] (T .counts)) (currentList T) && names (lent [] [] [] [] (T .counts)) (followingList T)
+    pub net-lists : (names (lent [] [] [] [] (T .counts)) (currentList T)
+        && names (lent [] [] [] [] (T .counts)) (followingList T)
         && names (lent [] [] [] [] (T .counts)) (standingList T)) ≡ isNet T
     unfolding isNet
     net-lists =
@@ -229,7 +287,8 @@ module _ (T : Tables) where
     circuit-within =
         countsWithin-sound (T .counts)
         (parts-sound (countsWithin (T .counts))
-        (kindsObeyed T ∷ idsDistinct T ∷ portsFollow T ∷ valuesFit T ∷ constsHeld T ∷ wiresFit T ∷ inputsOnce T ∷ []) (whole-lent ∙ e) .0)
+        (kindsObeyed T ∷ idsDistinct T ∷ portsFollow T ∷ valuesFit T ∷ constsHeld T ∷ wiresFit T ∷ inputsOnce T ∷ [])
+        (whole-lent ∙ e) .0)
 
 -- The number of a call: 2, 16, or 0 for a net of full size.
 module _ (T : Tables) where

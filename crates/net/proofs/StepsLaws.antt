@@ -1,17 +1,16 @@
--- Loops over what is still to come: a search for a number, a test that none stands twice, a test of a part of a table, a sum.
+-- Loops over what is still to come: a search for a number, a test that none stands twice, a part of a table, a sum.
 -- Not here: a loop for one that does not pass a test (ListsLaws: every-fails, every-next, every-end).
 -- Assumes nothing.
 use mathlib.Core.Path.{_≡_, refl, sym, ap, _∙_}
-use mathlib.Core.Bool.{Bool, true, false, not, _&&_, _||_}
-use mathlib.Core.List.{List, [], _∷_, _++_, map}
-use Prim.Native.Nat.{ℕ, suc, _+_, _-_, _≤_, _<_}
+use mathlib.Core.Bool.{Bool, true, false, _&&_}
+use mathlib.Core.List.{List, [], _∷_, map}
+use Prim.Native.Nat.{ℕ, _+_, _-_, _≤_, _<_}
 use native.Mathlib.Nat.{sub-zero}
 use native.Mathlib.Numerals.{add-one}
 use native.Mathlib.Omega.{arith}
 use borrow.Author.Tests.{eq-eqb, ne-eqb}
 use lib.ListN.{length, getD}
 use lib.Seq.{slice, slice-cons, slice-empty}
-use lib.Dec.{eqb}
 use Rattle.lists.specs.Lists.{from, every, total, has, distinct}
 use Rattle.lists.proofs.ListsLaws.{from-step, from-end}
 use Rattle.lists.proofs.MembersLaws.{from-last, from-append, total-append}
@@ -55,14 +54,16 @@ module _ (g : ℕ → ℕ) (q n : ℕ) (b : Bool) (so-far : distinct (map g (fro
   pub distinctFrom-next : q < n → has (g q) (map g (from (q + 1) (n - (q + 1)))) ≡ false
       → distinct (map g (from (q + 1) (n - (q + 1)))) ≡ b
   distinctFrom-next h e =
-      let z : distinct (map g (from q (n - q))) ≡ distinct (map g (from (q + 1) (n - (q + 1)))) = rw (from-step q n h, e) in
+      let z : distinct (map g (from q (n - q))) ≡ distinct (map g (from (q + 1) (n - (q + 1)))) =
+      rw (from-step q n h, e) in
       sym z ∙ so-far
 
   pub distinctFrom-end : n ≤ q → true ≡ b
   distinctFrom-end h = ap (λ (l : List ℕ). distinct (map g l)) (sym (from-end q n h)) ∙ so-far
 
 -- A test of the entries of a table from q on, up to n.
-module _ (f : ℕ → Bool) (t : List ℕ) (q n : ℕ) (b : Bool) (long : n ≤ length t) (so-far : every f (slice q n t) ≡ b) where
+module _ (f : ℕ → Bool) (t : List ℕ) (q n : ℕ) (b : Bool) (long : n ≤ length t)
+    (so-far : every f (slice q n t) ≡ b) where
   pub everySlice-fails : q < n → f (getD t q 0) ≡ false → false ≡ b
   everySlice-fails h e =
       let z : every f (slice q n t) ≡ false = rw (slice-cons q n t 0 h long, e) in
@@ -90,7 +91,8 @@ pub total-mono : (g : ℕ → ℕ) (i n : ℕ) → i ≤ n → total g (from 0 i
 total-mono g i n h =
     let e : n ≡ i + (n - i) = omega arith in
     let a : total g (from 0 n) ≡ total g (from 0 i) + total g (from (0 + i) (n - i)) =
-    ap (λ (k : ℕ). total g (from 0 k)) e ∙ ap (total g) (from-append 0 i (n - i)) ∙ total-append g (from 0 i) (from (0 + i) (n - i)) in
+    ap (λ (k : ℕ). total g (from 0 k)) e ∙ ap (total g) (from-append 0 i (n - i))
+    ∙ total-append g (from 0 i) (from (0 + i) (n - i)) in
     omega (arith, a)
 
 -- What stands below i, with what i gives, is no more than what stands below a later j.

@@ -1,8 +1,9 @@
--- What the clauses of a net ask of one component, on the lists of words that a function is handed. The clauses of Net.antt are
--- these at every index, by computation; only contracts of functions inside this crate cite them.
+-- What the clauses of a net ask of one component or one wire, on the lists of words that a function is handed. The clauses
+-- of Net.antt are these at every index, by computation; only contracts of functions inside this crate cite them.
 --   idIn, obeyedAt, fitAt, heldAt   a component's id; it obeys the table of kinds; its values fit; it holds its value
 --   followAt                        its ports start where those before it end
 --   InputsInside, OutputsInside     its ports stand in the lent tables
+--   wireRight, placeIn              the ends of a wire exist and have equal widths; where its input stands
 -- Assumes nothing.
 use Prim.Native.Nat.{ℕ, _+_, _*_, _<_, _≤_}
 use mathlib.Core.Bool.{Bool, not, _&&_, _||_}

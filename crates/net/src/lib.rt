@@ -1,5 +1,5 @@
-// Whether lent tables are a net. Rule: docs/SPECIFICATION.md, "Numbers given back", check 16: a function for each clause.
-// A clause is handed only the tables that it looks at; where a later clause rests on an earlier one, its `requires` says how.
+// Whether lent tables are a net: a function for each clause. Rule: docs/SPECIFICATION.md, "Numbers given back", 16.
+// A clause is handed only the tables that it looks at, and its `requires` says how it rests on clauses before it.
 mod ids;
 mod limits;
 mod naming;

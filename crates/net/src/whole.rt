@@ -1,7 +1,6 @@
 // All clauses of a net, in the order of the definition, and the numbers 2 and 16.
 ghost use mathlib.Core.Path.{_≡_};
 ghost use mathlib.Core.Bool.{true};
-ghost use mathlib.Core.List.{[]};
 ghost use Prim.Native.Nat.{_≤_};
 ghost use lib.ListN.{length};
 ghost use Rattle.tables.specs.Tables.{tablesOf, fullSize};
@@ -17,7 +16,7 @@ use crate::wires::inputs_once;
 use crate::wires::wires_fit;
 use tables::Counts;
 
-// Whether components, ports and wires are those of a net. Each test rests on those before it: they are made in this order.
+// Whether components, ports and wires are those of a net. Later tests rest on earlier ones: the order matters.
 fn is_circuit(
     components: &[u64],
     inputs: &[u64],
@@ -67,8 +66,8 @@ fn is_net(
         & names(standing, counts.standing, counts)
 }
 
-// What every call on tables checks first, on any tables and counts: 2 where a table is shorter than full size, 16 where the
-// tables are not a net, else 0.
+// What every call on tables checks first, on any tables and counts: 2 where a table is shorter than full size, 16 where
+// the tables are not a net, else 0.
 pub fn net_number(
     components: &[u64],
     inputs: &[u64],

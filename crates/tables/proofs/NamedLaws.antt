@@ -1,8 +1,9 @@
--- Laws of a list that stands in a table and a count: looking through it, one entry more, one struck, and laid over another.
+-- Laws of a list that stands in a table and a count: looking through it, one entry more, one struck, and laid over
+-- another.
 -- Not here: laws of length, getD, take, drop and set (lib.ListN, lib.Seq).
 -- Assumes nothing.
-use mathlib.Core.Path.{_≡_, refl, sym, ap, _∙_, subst}
-use mathlib.Core.Bool.{Bool, true, false, cond, not, _||_}
+use mathlib.Core.Path.{_≡_, refl, sym, _∙_}
+use mathlib.Core.Bool.{Bool, true, false, not, _||_}
 use mathlib.Core.List.{List, [], _∷_, _++_, append-nil}
 use Prim.Native.Nat.{ℕ, suc, _+_, _≤_, _<_}
 use native.Mathlib.Nat.{le-refl}
@@ -12,7 +13,7 @@ use borrow.Author.Tests.{eq-eqb, ne-eqb}
 use lib.ListN.{length, getD, take, drop, set, length-append, length-take, take-append-drop}
 use lib.Seq.{take-suc, take-suc-set, set-split, append-snoc, getD-take, getD-set-other, length-take-le, take-append-seam, drop-cons, set-at}
 use lib.Dec.{eqb}
-use Rattle.lists.specs.Lists.{keep, any, has, appendNew, strike, overlay}
+use Rattle.lists.specs.Lists.{has, appendNew, strike, overlay}
 use Rattle.lists.proofs.MembersLaws.{in-getD, keep-append, has-complete}
 
 -- A list in two parts.

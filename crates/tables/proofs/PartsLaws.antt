@@ -1,8 +1,8 @@
 -- A test of several parts, a && b && c && ..: it holds exactly if each part does.
 --   AllTrue bs     each of these parts holds
 -- Assumes nothing.
-use mathlib.Core.Path.{_≡_, refl}
-use mathlib.Core.Bool.{Bool, true, false, _&&_}
+use mathlib.Core.Path.{_≡_}
+use mathlib.Core.Bool.{Bool, true, _&&_}
 use mathlib.Core.List.{List, [], _∷_, foldl}
 use Rattle.lists.proofs.ListsLaws.{and-left, and-right}
 

@@ -1,12 +1,12 @@
--- Laws of a component's words: those that fit the fields of a component, and that a component that obeys the table of kinds has
+-- Laws of a component's words: those that fit the fields of a component, and that a component that obeys the table of
+-- kinds has
 -- no others.
 -- Assumes nothing.
 use mathlib.Core.Path.{_≡_, refl, sym, _∙_}
 use mathlib.Core.Bool.{Bool, true, false, _&&_, true≢false}
-use Prim.Native.Nat.{ℕ, _<_}
+use Prim.Native.Nat.{_<_}
 use native.Mathlib.Omega.{arith}
 use borrow.Author.Tests.{lt-ltb, ltb-true}
-use lib.Dec.{ltb}
 use Rattle.lists.proofs.ListsLaws.{and-left, and-right, within-most}
 use Rattle.value.specs.Value.{below}
 use Rattle.primitive.specs.declared.kinds.Kind.{Kind}
@@ -41,7 +41,8 @@ module _ (f : Fields) (e : fieldsFit f ≡ true) where
   pub fieldsFit-width : f .width < 65536
   unfolding fieldsFit
   fieldsFit-width =
-      ltb-true _ _ (and-right (below (f .kind) 8 && below (f .inputs) 16 && below (f .outputs) 16) (below (f .width) 16) e)
+      ltb-true _ _ (and-right (below (f .kind) 8 && below (f .inputs) 16 && below (f .outputs) 16)
+      (below (f .width) 16) e)
 
 -- The table of kinds allows no more.
 pub record Small (f : Fields) : Type 0 where
@@ -70,7 +71,13 @@ unfolding fieldsFit
 obeyed-fit f o =
     let s = row-small f (kindOf (f .kind)) (obeys-row f (and-right (primitive f) (obeys f) o)) in
     let k : f .kind < 256 = omega (arith, within-most 1 13 (f .kind) (and-left (primitive f) (obeys f) o)) in
-    rw (lt-ltb (f .kind) 256 k, lt-ltb (f .inputs) 65536 (s .inputs), lt-ltb (f .outputs) 65536 (s .outputs), lt-ltb (f .width) 65536 (s .width))
+    rw (
+      lt-ltb (f .kind) 256 k,
+      lt-ltb (f .inputs) 65536 (s .inputs),
+      lt-ltb (f .outputs) 65536 (s .outputs),
+      lt-ltb
+          (f .width) 65536 (s .width),
+    )
 
 -- Where a word does not fit, the component does not obey the table.
 pub unfit-obeys : (f : Fields) → fieldsFit f ≡ false → (primitive f && obeys f) ≡ false

@@ -24,7 +24,8 @@ unfolding fullSize
 fullSize-sound T e =
     let p =
     parts-sound (leb 2048 (length (T .components)))
-    (leb 1024 (length (T .inputs)) ∷ leb 1024 (length (T .outputs)) ∷ leb 4096 (length (T .wires)) ∷ leb 256 (length (T .current))
+    (leb 1024 (length (T .inputs)) ∷ leb 1024 (length (T .outputs)) ∷ leb 4096 (length (T .wires)) ∷ leb 256
+    (length (T .current))
     ∷ leb 256 (length (T .following)) ∷ leb 256 (length (T .standing)) ∷ []) e in
     record {
       components = leb-true _ _ (p .0);

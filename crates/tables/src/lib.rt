@@ -1,4 +1,4 @@
-// The lent tables, their layout and their counts, and the lists in them. Rules: docs/SPECIFICATION.md, "Numbers given back".
+// The lent tables, their layout and counts, and the lists in them. Rules: docs/SPECIFICATION.md, "Numbers given back".
 // Components are 8 words each, wires 4, ports and the entries of lists 1; an index of a component is a 16-bit number.
 mod named;
 mod rows;

@@ -1,4 +1,4 @@
-// Lists of components by index, each a lent table and how many of its entries are in use. Rule: docs/SPECIFICATION.md, "Rounds".
+// Lists of components by index, each a lent table and a count of entries in use. Rule: docs/SPECIFICATION.md, "Rounds".
 // Crate simulator calls these for the three lists of a net, whose counts are within the tables.
 ghost use mathlib.Core.Path.{_≡_};
 ghost use Prim.Native.Nat.{_≤_};

@@ -1,5 +1,5 @@
-// The fields of a component, out of its row in the table of components. Rule: docs/SPECIFICATION.md, "Numbers given back": words
-// are compared whole, so a kind word of 263 is no Switch.
+// The fields of a component, out of its row in the table. Rule: docs/SPECIFICATION.md, "Numbers given back".
+// Words are compared whole, so a kind word of 263 is no Switch.
 ghost use mathlib.Core.Path.{_≡_};
 ghost use mathlib.Core.Bool.{true};
 ghost use Prim.Native.Nat.{_<_};
@@ -7,7 +7,7 @@ ghost use Rattle.tables.specs.Tables.{fieldsIn, fieldsFit};
 use crate::words::word_of;
 use primitive::Fields;
 
-// Whether the words of component i are no larger than the fields of a component can be. Crate net calls it below the count.
+// Whether the words of component i are no larger than fields of a component can be. Crate net calls it below the count.
 pub fn fields_fit(components: &[u64], i: usize) -> bool
     requires { ⌜ i < 65536 ⌝ }
     ensures { λ r. ⌜ r ≡ fieldsFit (fieldsIn (now (components .entry)) i) ⌝ }

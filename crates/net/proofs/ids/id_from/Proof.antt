@@ -12,7 +12,9 @@ use Rattle.net.proofs.ids.id_from.Statement.{statement}
 use Rattle.net.proofs.ids.id_from.Tie as tie
 
 abbrev Inv-loop : tie.InvT-loop
-Inv-loop components id start count i₀ i = (i ≤ count) × (has id (map (idIn components) (from i (count - i))) ≡ has id (map (idIn components) (from start (count - start))))
+Inv-loop components id start count i₀ i =
+    (i ≤ count) × (has id (map (idIn components) (from i (count - i))) ≡ has id
+    (map (idIn components) (from start (count - start))))
 
 abbrev μ-loop : tie.MeasureT-loop
 μ-loop components id start count i₀ i = count - i
@@ -27,7 +29,8 @@ returns : tie.Need-returns Inv-loop μ-loop
 returns c =
     let a = c .before .before .before .before .before .args in
     let l = c .before .before .before .loop in
-    hasFrom-found (idIn (a .components .now)) (a .id) (l .i) (a .count) _ (l .inv .1) (omega arith) (c .if1 .taken ∙ c .before .word-of .ensures)
+    hasFrom-found (idIn (a .components .now)) (a .id) (l .i) (a .count) _ (l .inv .1) (omega arith)
+    (c .if1 .taken ∙ c .before .word-of .ensures)
 
 add-i : tie.Need-add-i Inv-loop μ-loop
 add-i c = search needs
@@ -40,13 +43,15 @@ loop-again c =
     let a = c .before .before .before .before .before .args in
     let l = c .before .before .before .loop in (
       omega arith,
-      hasFrom-next (idIn (a .components .now)) (a .id) (l .i) (a .count) _ (l .inv .1) (omega arith) (λ e. c .if1 .left (e ∙ sym (c .before .word-of .ensures))),
+      hasFrom-next (idIn (a .components .now)) (a .id) (l .i) (a .count) _ (l .inv .1) (omega arith)
+          (λ e. c .if1 .left (e ∙ sym (c .before .word-of .ensures))),
     )
 
 returns-2 : tie.Need-returns-2 Inv-loop μ-loop
 returns-2 c =
     let a = c .before .before .before .args in
-    hasFrom-end (idIn (a .components .now)) (a .id) (c .before .loop .i) (a .count) _ (c .before .loop .inv .1) (omega arith)
+    hasFrom-end (idIn (a .components .now)) (a .id) (c .before .loop .i) (a .count) _ (c .before .loop .inv .1)
+    (omega arith)
 
 pub id-from-spec : {M : Type 1} → statement M
 id-from-spec =

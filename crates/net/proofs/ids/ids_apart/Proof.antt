@@ -13,13 +13,17 @@ use Rattle.net.proofs.ids.ids_apart.Statement.{statement}
 use Rattle.net.proofs.ids.ids_apart.Tie as tie
 
 abbrev Inv-loop : tie.InvT-loop
-Inv-loop components count i₀ i = (i ≤ count) × (distinct (map (idIn components) (from i (count - i))) ≡ distinct (map (idIn components) (from 0 count)))
+Inv-loop components count i₀ i =
+    (i ≤ count) × (distinct (map (idIn components) (from i (count - i))) ≡ distinct
+    (map (idIn components) (from 0 count)))
 
 abbrev μ-loop : tie.MeasureT-loop
 μ-loop components count i₀ i = count - i
 
 loop-holds : tie.Need-loop-holds Inv-loop μ-loop
-loop-holds c = let a = c .before .args in (omega arith, ap (λ (l : List ℕ). distinct (map (idIn (a .components .now)) l)) (from-start (a .count)))
+loop-holds c =
+    let a = c .before .args in
+    (omega arith, ap (λ (l : List ℕ). distinct (map (idIn (a .components .now)) l)) (from-start (a .count)))
 
 word-of-requires : tie.Need-word-of-requires Inv-loop μ-loop
 word-of-requires c κs = search needs
@@ -34,7 +38,8 @@ returns : tie.Need-returns Inv-loop μ-loop
 returns c =
     let a = c .before .before .before .before .before .before .args in
     let l = c .before .before .before .before .loop in
-    let e : has (idIn (a .components .now) (l .i)) (map (idIn (a .components .now)) (from (l .i + 1) (a .count - (l .i + 1)))) ≡ true =
+    let e : has (idIn (a .components .now) (l .i))
+    (map (idIn (a .components .now)) (from (l .i + 1) (a .count - (l .i + 1)))) ≡ true =
     rw (← c .before .before .word-of .ensures) (sym (c .before .id-from .ensures) ∙ c .if1 .taken) in
     distinctFrom-again (idIn (a .components .now)) (l .i) (a .count) _ (l .inv .1) (omega arith) e
 
@@ -48,14 +53,16 @@ loop-again : tie.Need-loop-again Inv-loop μ-loop
 loop-again c =
     let a = c .before .before .before .before .before .before .args in
     let l = c .before .before .before .before .loop in
-    let e : has (idIn (a .components .now) (l .i)) (map (idIn (a .components .now)) (from (l .i + 1) (a .count - (l .i + 1)))) ≡ false =
+    let e : has (idIn (a .components .now) (l .i))
+    (map (idIn (a .components .now)) (from (l .i + 1) (a .count - (l .i + 1)))) ≡ false =
     rw (← c .before .before .word-of .ensures) (sym (c .before .id-from .ensures) ∙ c .if1 .left) in
     (omega arith, distinctFrom-next (idIn (a .components .now)) (l .i) (a .count) _ (l .inv .1) (omega arith) e)
 
 returns-2 : tie.Need-returns-2 Inv-loop μ-loop
 returns-2 c =
     let a = c .before .before .before .args in
-    distinctFrom-end (idIn (a .components .now)) (c .before .loop .i) (a .count) _ (c .before .loop .inv .1) (omega arith)
+    distinctFrom-end (idIn (a .components .now)) (c .before .loop .i) (a .count) _ (c .before .loop .inv .1)
+    (omega arith)
 
 pub ids-apart-spec : {M : Type 1} → statement M
 ids-apart-spec =

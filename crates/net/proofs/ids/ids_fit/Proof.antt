@@ -20,13 +20,15 @@ abbrev idFits : List ℕ → ℕ → Bool
 idFits cs i = below (idIn cs i) 32
 
 abbrev Inv-loop : tie.InvT-loop
-Inv-loop components count i₀ i = (i ≤ count) × (every (idFits components) (from i (count - i)) ≡ every (idFits components) (from 0 count))
+Inv-loop components count i₀ i =
+    (i ≤ count) × (every (idFits components) (from i (count - i)) ≡ every (idFits components) (from 0 count))
 
 abbrev μ-loop : tie.MeasureT-loop
 μ-loop components count i₀ i = count - i
 
 loop-holds : tie.Need-loop-holds Inv-loop μ-loop
-loop-holds c = let a = c .before .args in (omega arith, ap (every (idFits (a .components .now))) (from-start (a .count)))
+loop-holds c =
+    let a = c .before .args in (omega arith, ap (every (idFits (a .components .now))) (from-start (a .count)))
 
 word-of-requires : tie.Need-word-of-requires Inv-loop μ-loop
 word-of-requires c κs = search needs
@@ -39,7 +41,8 @@ returns c =
     let a = c .before .before .before .before .before .before .args in
     let l = c .before .before .before .before .loop in
     let e : idFits (a .components .now) (l .i) ≡ false =
-    ap (λ (x : ℕ). below x 32) (sym (c .before .before .word-of .ensures)) ∙ sym (c .before .lies-below .ensures) ∙ not-true _ (c .if1 .taken) in
+    ap (λ (x : ℕ). below x 32) (sym (c .before .before .word-of .ensures)) ∙ sym (c .before .lies-below .ensures)
+    ∙ not-true _ (c .if1 .taken) in
     every-fails (idFits (a .components .now)) (l .i) (a .count) _ (omega arith) e (l .inv .1)
 
 add-i : tie.Need-add-i Inv-loop μ-loop
@@ -53,7 +56,8 @@ loop-again c =
     let a = c .before .before .before .before .before .before .args in
     let l = c .before .before .before .before .loop in
     let e : idFits (a .components .now) (l .i) ≡ true =
-    ap (λ (x : ℕ). below x 32) (sym (c .before .before .word-of .ensures)) ∙ sym (c .before .lies-below .ensures) ∙ not-false _ (c .if1 .left) in
+    ap (λ (x : ℕ). below x 32) (sym (c .before .before .word-of .ensures)) ∙ sym (c .before .lies-below .ensures)
+    ∙ not-false _ (c .if1 .left) in
     (omega arith, every-next (idFits (a .components .now)) (l .i) (a .count) _ (omega arith) e (l .inv .1))
 
 returns-2 : tie.Need-returns-2 Inv-loop μ-loop

@@ -2,7 +2,6 @@
 -- Assumes nothing.
 use mathlib.Core.Path.{refl}
 use Rattle.net.specs.Net.{countsWithin}
-use borrow.Author.Needs.{needs}
 use Rattle.net.proofs.limits.counts_within.Statement.{statement}
 use Rattle.net.proofs.limits.counts_within.Tie as tie
 

@@ -1,6 +1,7 @@
--- `names`: the entries still to come name components that are fresh exactly if all name components and none stands twice.
+-- `names`: the entries still to come name components that are fresh exactly if all name components and none stands
+-- twice.
 -- Assumes nothing.
-use mathlib.Core.Path.{_≡_, refl, sym, ap, _∙_}
+use mathlib.Core.Path.{_≡_, refl}
 use mathlib.Core.Bool.{_&&_}
 use Prim.Native.Nat.{_-_, _≤_}
 use native.Mathlib.Omega.{arith}
@@ -23,7 +24,9 @@ abbrev μ-loop : tie.MeasureT-loop
 μ-loop list count n seen₀ i₀ seen i = count - i
 
 loop-holds : tie.Need-loop-holds Inv-loop μ-loop
-loop-holds c = let a = c .before .args in (omega arith, refl, naming-start (a .counts .components) 256 (take (a .count) (a .list .now)))
+loop-holds c =
+    let a = c .before .args in
+    (omega arith, refl, naming-start (a .counts .components) 256 (take (a .count) (a .list .now)))
 
 entry-requires : tie.Need-entry-requires Inv-loop μ-loop
 entry-requires c κs = search needs
@@ -34,7 +37,8 @@ returns c =
     let a = c .before .before .before .before .before .args in
     let l = c .before .before .before .loop in
     let e = c .before .entry .ensures in
-    namingSlice-past (a .counts .components) (l .seen) (a .list .now) (l .i) (a .count) _ (omega arith) (l .inv .2) (omega arith) (omega (arith, e))
+    namingSlice-past (a .counts .components) (l .seen) (a .list .now) (l .i) (a .count) _ (omega arith) (l .inv .2)
+    (omega arith) (omega (arith, e))
 
 array-read-if2 : tie.Need-array-read-if2 Inv-loop μ-loop
 array-read-if2 c = search needs
@@ -45,7 +49,8 @@ returns-2 c =
     let a = c .before .before .before .before .before .before .args in
     let l = c .before .before .before .before .loop in
     let e = c .before .before .entry .ensures in
-    namingSlice-again (a .counts .components) (l .seen) (a .list .now) (l .i) (a .count) _ (omega arith) (l .inv .2) (omega arith)
+    namingSlice-again (a .counts .components) (l .seen) (a .list .now) (l .i) (a .count) _ (omega arith) (l .inv .2)
+    (omega arith)
     (λ z. c .if2 .taken (rw e z))
 
 array-write-seen : tie.Need-array-write-seen Inv-loop μ-loop
@@ -64,10 +69,12 @@ loop-again c =
     let l = c .before .before .before .before .loop in
     let e = c .before .before .entry .ensures in (
       omega arith,
-      length-set (l .seen) (c .before .before .entry .result) 1 ∙ l .inv .1,
+      simp length-set (l .inv .1),
       rw e
-          (namingSlice-next (a .counts .components) (l .seen) (a .list .now) (l .i) (a .count) _ (omega arith) (l .inv .2) (omega arith)
-          (omega (arith, e, c .before .if1 .left)) (omega (arith, e, c .before .if1 .left, l .inv .1, s .pre .0)) (rw e at (c .if2 .left))),
+          (namingSlice-next (a .counts .components) (l .seen) (a .list .now) (l .i) (a .count) _ (omega arith)
+          (l .inv .2) (omega arith)
+          (omega (arith, e, c .before .if1 .left)) (omega (arith, e, c .before .if1 .left, l .inv .1, s .pre .0))
+          (rw e at (c .if2 .left))),
     )
 
 returns-3 : tie.Need-returns-3 Inv-loop μ-loop
@@ -75,7 +82,8 @@ unfolding names
 returns-3 c =
     let a = c .before .before .before .args in
     let l = c .before .loop in
-    namingSlice-end (a .counts .components) (l .seen) (a .list .now) (l .i) (a .count) _ (omega arith) (l .inv .2) (omega arith)
+    namingSlice-end (a .counts .components) (l .seen) (a .list .now) (l .i) (a .count) _ (omega arith) (l .inv .2)
+    (omega arith)
 
 pub names-spec : {M : Type 1} → statement M
 names-spec =

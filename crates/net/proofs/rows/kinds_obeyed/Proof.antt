@@ -14,13 +14,16 @@ use Rattle.net.proofs.rows.kinds_obeyed.Statement.{statement}
 use Rattle.net.proofs.rows.kinds_obeyed.Tie as tie
 
 abbrev Inv-loop : tie.InvT-loop
-Inv-loop components n i₀ i = (i ≤ n) × (every (obeyedAt components) (from i (n - i)) ≡ every (obeyedAt components) (from 0 n))
+Inv-loop components n i₀ i =
+    (i ≤ n) × (every (obeyedAt components) (from i (n - i)) ≡ every (obeyedAt components) (from 0 n))
 
 abbrev μ-loop : tie.MeasureT-loop
 μ-loop components n i₀ i = n - i
 
 loop-holds : tie.Need-loop-holds Inv-loop μ-loop
-loop-holds c = let a = c .before .args in (omega arith, ap (every (obeyedAt (a .components .now))) (from-start (a .counts .components)))
+loop-holds c =
+    let a = c .before .args in
+    (omega arith, ap (every (obeyedAt (a .components .now))) (from-start (a .counts .components)))
 
 row-obeyed-requires : tie.Need-row-obeyed-requires Inv-loop μ-loop
 row-obeyed-requires c κs = search needs
@@ -30,7 +33,8 @@ unfolding kindsObeyed
 returns c =
     let a = c .before .before .before .before .before .args in
     let l = c .before .before .before .loop in
-    every-fails (obeyedAt (a .components .now)) (l .i) (a .counts .components) _ (omega arith) (sym (c .before .row-obeyed .ensures) ∙ not-true _ (c .if1 .taken)) (l .inv .1)
+    every-fails (obeyedAt (a .components .now)) (l .i) (a .counts .components) _ (omega arith)
+    (sym (c .before .row-obeyed .ensures) ∙ not-true _ (c .if1 .taken)) (l .inv .1)
 
 add-i : tie.Need-add-i Inv-loop μ-loop
 add-i c = search needs
@@ -43,14 +47,16 @@ loop-again c =
     let a = c .before .before .before .before .before .args in
     let l = c .before .before .before .loop in (
       omega arith,
-      every-next (obeyedAt (a .components .now)) (l .i) (a .counts .components) _ (omega arith) (sym (c .before .row-obeyed .ensures) ∙ not-false _ (c .if1 .left)) (l .inv .1),
+      every-next (obeyedAt (a .components .now)) (l .i) (a .counts .components) _ (omega arith)
+          (sym (c .before .row-obeyed .ensures) ∙ not-false _ (c .if1 .left)) (l .inv .1),
     )
 
 returns-2 : tie.Need-returns-2 Inv-loop μ-loop
 unfolding kindsObeyed
 returns-2 c =
     let a = c .before .before .before .args in
-    every-end (obeyedAt (a .components .now)) (c .before .loop .i) (a .counts .components) _ (omega arith) (c .before .loop .inv .1)
+    every-end (obeyedAt (a .components .now)) (c .before .loop .i) (a .counts .components) _ (omega arith)
+    (c .before .loop .inv .1)
 
 pub kinds-obeyed-spec : {M : Type 1} → statement M
 kinds-obeyed-spec =

@@ -1,4 +1,5 @@
--- `ports_follow`: the ports of the components still to come follow exactly if all do; the sums are those of the components passed,
+-- `ports_follow`: the ports of the components still to come follow exactly if all do; the sums are those of the
+-- components passed,
 -- and are small, since each component obeys the table of kinds.
 -- Assumes nothing.
 use borrow.Author.Tests.{not-true, not-false}
@@ -21,7 +22,8 @@ use Rattle.net.proofs.rows.ports_follow.Tie as tie
 
 abbrev Inv-loop : tie.InvT-loop
 Inv-loop components counts n inputs₀ outputs₀ i₀ inputs outputs i =
-    (i ≤ n) × (inputs ≡ inputSum components i) × (outputs ≡ outputSum components i) × (inputs ≤ 65536 * i) × (outputs ≤ 65536 * i)
+    (i ≤ n) × (inputs ≡ inputSum components i) × (outputs ≡ outputSum components i) × (inputs ≤ 65536 * i) ×
+    (outputs ≤ 65536 * i)
     × (every (followAt components) (from i (n - i)) ≡ every (followAt components) (from 0 n))
 
 abbrev μ-loop : tie.MeasureT-loop
@@ -29,7 +31,8 @@ abbrev μ-loop : tie.MeasureT-loop
 
 -- What the test of a turn says.
 tested : (c : tie.After-word-of2 Inv-loop μ-loop) →
-    (eqb (c .before .word-of .result) (c .before .before .before .loop .inputs) && eqb (c .word-of2 .result) (c .before .before .before .loop .outputs))
+    (eqb (c .before .word-of .result) (c .before .before .before .loop .inputs) && eqb (c .word-of2 .result)
+    (c .before .before .before .loop .outputs))
     ≡ followAt (c .before .before .before .before .before .args .components .now) (c .before .before .before .loop .i)
 tested c =
     let l = c .before .before .before .loop in
@@ -37,8 +40,15 @@ tested c =
 
 loop-holds : tie.Need-loop-holds Inv-loop μ-loop
 loop-holds c =
-    let a = c .before .args in
-    (omega arith, refl, refl, omega arith, omega arith, ap (every (followAt (a .components .now))) (from-start (a .counts .components)))
+    let a = c .before .args in (
+      omega arith,
+      refl,
+      refl,
+      omega arith,
+      omega arith,
+      ap (every (followAt (a .components .now)))
+          (from-start (a .counts .components)),
+    )
 
 word-of-requires : tie.Need-word-of-requires Inv-loop μ-loop
 word-of-requires c κs = search needs
@@ -99,10 +109,23 @@ loop-again c =
     let cs = s .args .components .now in
     let h : l .i < s .args .counts .components = omega arith in (
       omega arith,
-      total-step (λ j. wordIn cs j 4) (l .inputs) (c .before .word-of3 .result) (l .i) (l .inv .1) (c .before .word-of3 .ensures),
+      total-step (λ j. wordIn cs j 4) (l .inputs) (c .before .word-of3 .result) (l .i) (l .inv .1)
+          (c .before .word-of3 .ensures),
       total-step (λ j. wordIn cs j 5) (l .outputs) (c .word-of4 .result) (l .i) (l .inv .2) (c .word-of4 .ensures),
-      omega (arith, l .inv .3, c .before .word-of3 .ensures, kindsObeyed-inputs (lent cs [] [] [] (s .args .counts)) (s .pre .1) (l .i) h),
-      omega (arith, l .inv .4, c .word-of4 .ensures, kindsObeyed-outputs (lent cs [] [] [] (s .args .counts)) (s .pre .1) (l .i) h),
+      omega (
+        arith,
+        l .inv .3,
+        c .before .word-of3 .ensures,
+        kindsObeyed-inputs (lent cs [] [] [] (s .args .counts))
+            (s .pre .1) (l .i) h,
+      ),
+      omega (
+        arith,
+        l .inv .4,
+        c .word-of4 .ensures,
+        kindsObeyed-outputs (lent cs [] [] [] (s .args .counts))
+            (s .pre .1) (l .i) h,
+      ),
       every-next (followAt cs) (l .i) (s .args .counts .components) _ h
           (sym (tested (c .before .before .before)) ∙ not-false _ (c .before .before .if1 .left)) (l .inv .5),
     )
@@ -111,7 +134,8 @@ returns-2 : tie.Need-returns-2 Inv-loop μ-loop
 returns-2 c =
     let a = c .before .before .before .args in
     let l = c .before .loop in
-    portsFollow-end (a .components .now) (a .counts) (l .i) (l .inputs) (l .outputs) (omega arith) (l .inv .1) (l .inv .2) (l .inv .5)
+    portsFollow-end (a .components .now) (a .counts) (l .i) (l .inputs) (l .outputs) (omega arith) (l .inv .1)
+    (l .inv .2) (l .inv .5)
 
 pub ports-follow-spec : {M : Type 1} → statement M
 ports-follow-spec =

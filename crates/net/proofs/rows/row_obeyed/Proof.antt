@@ -2,7 +2,6 @@
 -- Assumes nothing.
 use borrow.Author.Tests.{not-true, not-false}
 use mathlib.Core.Path.{sym, _∙_}
-use native.Mathlib.Omega.{arith}
 use Rattle.tables.proofs.RowsLaws.{unfit-obeys}
 use borrow.Author.Needs.{needs}
 use Rattle.net.proofs.rows.row_obeyed.Statement.{statement}
@@ -15,7 +14,8 @@ returns : tie.Need-returns
 returns c = sym (unfit-obeys _ (sym (c .before .fields-fit .ensures) ∙ not-true _ (c .if1 .taken)))
 
 fields-at-requires : tie.Need-fields-at-requires
-fields-at-requires c κs = (c .before .before .before .pre, sym (c .before .fields-fit .ensures) ∙ not-false _ (c .if1 .left))
+fields-at-requires c κs =
+    (c .before .before .before .pre, sym (c .before .fields-fit .ensures) ∙ not-false _ (c .if1 .left))
 
 is-primitive-requires : tie.Need-is-primitive-requires
 is-primitive-requires c κs = search needs

@@ -8,7 +8,6 @@ use native.Mathlib.Omega.{arith}
 use lib.Seq.{slice}
 use Rattle.lists.specs.Lists.{every}
 use Rattle.value.specs.Value.{below}
-use Rattle.tables.specs.Tables.{numbers}
 use Rattle.net.proofs.StepsLaws.{everySlice-fails, everySlice-next, everySlice-end}
 use borrow.Author.Needs.{needs}
 use Rattle.net.proofs.values.all_below.Statement.{statement}
@@ -19,7 +18,8 @@ abbrev fitsBits : ℕ → ℕ → Bool
 fitsBits w x = below x w
 
 abbrev Inv-loop : tie.InvT-loop
-Inv-loop ports start count width end i₀ i = (i ≤ end) × (every (fitsBits width) (slice i end ports) ≡ every (fitsBits width) (slice start end ports))
+Inv-loop ports start count width end i₀ i =
+    (i ≤ end) × (every (fitsBits width) (slice i end ports) ≡ every (fitsBits width) (slice start end ports))
 
 abbrev μ-loop : tie.MeasureT-loop
 μ-loop ports start count width end i₀ i = end - i
@@ -43,7 +43,8 @@ returns : tie.Need-returns Inv-loop μ-loop
 returns c =
     let a = c .before .before .before .before .before .before .args in
     let l = c .before .before .before .before .loop in
-    everySlice-fails (fitsBits (a .width)) (a .ports .now) (l .i) (a .start + a .count) _ (omega arith) (l .inv .1) (omega arith)
+    everySlice-fails (fitsBits (a .width)) (a .ports .now) (l .i) (a .start + a .count) _ (omega arith) (l .inv .1)
+    (omega arith)
     (sym (c .before .lies-below .ensures) ∙ not-true _ (c .if1 .taken))
 
 add-i : tie.Need-add-i Inv-loop μ-loop
@@ -57,14 +58,16 @@ loop-again c =
     let a = c .before .before .before .before .before .before .args in
     let l = c .before .before .before .before .loop in (
       omega arith,
-      everySlice-next (fitsBits (a .width)) (a .ports .now) (l .i) (a .start + a .count) _ (omega arith) (l .inv .1) (omega arith)
+      everySlice-next (fitsBits (a .width)) (a .ports .now) (l .i) (a .start + a .count) _ (omega arith) (l .inv .1)
+          (omega arith)
           (sym (c .before .lies-below .ensures) ∙ not-false _ (c .if1 .left)),
     )
 
 returns-2 : tie.Need-returns-2 Inv-loop μ-loop
 returns-2 c =
     let a = c .before .before .before .args in
-    everySlice-end (fitsBits (a .width)) (a .ports .now) (c .before .loop .i) (a .start + a .count) _ (omega arith) (c .before .loop .inv .1) (omega arith)
+    everySlice-end (fitsBits (a .width)) (a .ports .now) (c .before .loop .i) (a .start + a .count) _ (omega arith)
+    (c .before .loop .inv .1) (omega arith)
 
 pub all-below-spec : {M : Type 1} → statement M
 all-below-spec =

@@ -14,13 +14,16 @@ use Rattle.net.proofs.values.consts_held.Statement.{statement}
 use Rattle.net.proofs.values.consts_held.Tie as tie
 
 abbrev Inv-loop : tie.InvT-loop
-Inv-loop components outputs n i₀ i = (i ≤ n) × (every (heldAt components outputs) (from i (n - i)) ≡ every (heldAt components outputs) (from 0 n))
+Inv-loop components outputs n i₀ i =
+    (i ≤ n) × (every (heldAt components outputs) (from i (n - i)) ≡ every (heldAt components outputs) (from 0 n))
 
 abbrev μ-loop : tie.MeasureT-loop
 μ-loop components outputs n i₀ i = n - i
 
 loop-holds : tie.Need-loop-holds Inv-loop μ-loop
-loop-holds c = let a = c .before .before .args in (omega arith, ap (every (heldAt (a .components .now) (a .outputs .now))) (from-start (a .counts .components)))
+loop-holds c =
+    let a = c .before .before .args in
+    (omega arith, ap (every (heldAt (a .components .now) (a .outputs .now))) (from-start (a .counts .components)))
 
 row-held-requires : tie.Need-row-held-requires Inv-loop μ-loop
 row-held-requires c κs = search needs
@@ -30,7 +33,8 @@ unfolding constsHeld
 returns c =
     let a = c .before .before .before .before .before .before .args in
     let l = c .before .before .before .loop in
-    every-fails (heldAt (a .components .now) (a .outputs .now)) (l .i) (a .counts .components) _ (omega arith) (sym (c .before .row-held .ensures) ∙ not-true _ (c .if1 .taken)) (l .inv .1)
+    every-fails (heldAt (a .components .now) (a .outputs .now)) (l .i) (a .counts .components) _ (omega arith)
+    (sym (c .before .row-held .ensures) ∙ not-true _ (c .if1 .taken)) (l .inv .1)
 
 add-i : tie.Need-add-i Inv-loop μ-loop
 add-i c = search needs
@@ -43,14 +47,16 @@ loop-again c =
     let a = c .before .before .before .before .before .before .args in
     let l = c .before .before .before .loop in (
       omega arith,
-      every-next (heldAt (a .components .now) (a .outputs .now)) (l .i) (a .counts .components) _ (omega arith) (sym (c .before .row-held .ensures) ∙ not-false _ (c .if1 .left)) (l .inv .1),
+      every-next (heldAt (a .components .now) (a .outputs .now)) (l .i) (a .counts .components) _ (omega arith)
+          (sym (c .before .row-held .ensures) ∙ not-false _ (c .if1 .left)) (l .inv .1),
     )
 
 returns-2 : tie.Need-returns-2 Inv-loop μ-loop
 unfolding constsHeld
 returns-2 c =
     let a = c .before .before .before .before .args in
-    every-end (heldAt (a .components .now) (a .outputs .now)) (c .before .loop .i) (a .counts .components) _ (omega arith) (c .before .loop .inv .1)
+    every-end (heldAt (a .components .now) (a .outputs .now)) (c .before .loop .i) (a .counts .components) _
+    (omega arith) (c .before .loop .inv .1)
 
 pub consts-held-spec : {M : Type 1} → statement M
 consts-held-spec =

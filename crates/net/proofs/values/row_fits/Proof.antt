@@ -1,7 +1,6 @@
 -- `row_fits`: the numbers of its ports, each side against its width.
 -- Assumes nothing.
-use mathlib.Core.Path.{_≡_, ap, _∙_}
-use Prim.Native.Nat.{ℕ}
+use mathlib.Core.Path.{ap}
 use native.Mathlib.Omega.{arith}
 use Rattle.primitive.specs.declared.table.Fields.{Fields}
 use borrow.Author.Needs.{needs}
@@ -30,7 +29,13 @@ all-below-requires : tie.Need-all-below-requires
 all-below-requires c κs =
     let s = c .before .before .before .before .before .before .before .before .before in
     let f = c .before .before .before .before .before .fields-at in
-    omega (arith, s .pre .2, c .before .before .before .before .word-of .ensures, ap (λ (f : Fields). f .inputs) (f .ensures))
+    omega (
+      arith,
+      s .pre .2,
+      c .before .before .before .before .word-of .ensures,
+      ap (λ (f : Fields). f .inputs)
+          (f .ensures),
+    )
 
 cast-all-below-2 : tie.Need-cast-all-below-2
 cast-all-below-2 c = search needs
@@ -39,7 +44,13 @@ all-below-requires-2 : tie.Need-all-below-requires-2
 all-below-requires-2 c κs =
     let s = c .before .before .before .before .before .before .before .before .before .before .before in
     let f = c .before .before .before .before .before .before .before .fields-at in
-    omega (arith, s .pre .3, c .before .before .before .before .before .word-of2 .ensures, ap (λ (f : Fields). f .outputs) (f .ensures))
+    omega (
+      arith,
+      s .pre .3,
+      c .before .before .before .before .before .word-of2 .ensures,
+      ap
+          (λ (f : Fields). f .outputs) (f .ensures),
+    )
 
 returns : tie.Need-returns
 returns c =

@@ -17,7 +17,13 @@ word-requires : tie.Need-word-requires
 word-requires c κs = search needs
 
 returns : tie.Need-returns
-returns c = rw (c .word .ensures, c .before .word-of3 .ensures, c .before .before .word-of2 .ensures, c .before .before .before .word-of .ensures)
+returns c =
+    rw (
+      c .word .ensures,
+      c .before .word-of3 .ensures,
+      c .before .before .word-of2 .ensures,
+      c .before .before .before .word-of .ensures,
+    )
 
 pub row-held-spec : {M : Type 1} → statement M
 row-held-spec =

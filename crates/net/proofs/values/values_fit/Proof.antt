@@ -16,13 +16,20 @@ use Rattle.net.proofs.values.values_fit.Statement.{statement}
 use Rattle.net.proofs.values.values_fit.Tie as tie
 
 abbrev Inv-loop : tie.InvT-loop
-Inv-loop components inputs outputs n i₀ i = (i ≤ n) × (every (fitAt components inputs outputs) (from i (n - i)) ≡ every (fitAt components inputs outputs) (from 0 n))
+Inv-loop components inputs outputs n i₀ i =
+    (i ≤ n) × (every (fitAt components inputs outputs) (from i (n - i)) ≡ every (fitAt components inputs outputs)
+    (from 0 n))
 
 abbrev μ-loop : tie.MeasureT-loop
 μ-loop components inputs outputs n i₀ i = n - i
 
 loop-holds : tie.Need-loop-holds Inv-loop μ-loop
-loop-holds c = let a = c .before .before .before .args in (omega arith, ap (every (fitAt (a .components .now) (a .inputs .now) (a .outputs .now))) (from-start (a .counts .components)))
+loop-holds c =
+    let a = c .before .before .before .args in (
+      omega arith,
+      ap (every (fitAt (a .components .now) (a .inputs .now) (a .outputs .now)))
+          (from-start (a .counts .components)),
+    )
 
 row-fits-requires : tie.Need-row-fits-requires Inv-loop μ-loop
 row-fits-requires c κs =
@@ -39,7 +46,8 @@ unfolding valuesFit
 returns c =
     let a = c .before .before .before .before .before .before .before .args in
     let l = c .before .before .before .loop in
-    every-fails (fitAt (a .components .now) (a .inputs .now) (a .outputs .now)) (l .i) (a .counts .components) _ (omega arith) (sym (c .before .row-fits .ensures) ∙ not-true _ (c .if1 .taken)) (l .inv .1)
+    every-fails (fitAt (a .components .now) (a .inputs .now) (a .outputs .now)) (l .i) (a .counts .components) _
+    (omega arith) (sym (c .before .row-fits .ensures) ∙ not-true _ (c .if1 .taken)) (l .inv .1)
 
 add-i : tie.Need-add-i Inv-loop μ-loop
 add-i c = search needs
@@ -52,14 +60,16 @@ loop-again c =
     let a = c .before .before .before .before .before .before .before .args in
     let l = c .before .before .before .loop in (
       omega arith,
-      every-next (fitAt (a .components .now) (a .inputs .now) (a .outputs .now)) (l .i) (a .counts .components) _ (omega arith) (sym (c .before .row-fits .ensures) ∙ not-false _ (c .if1 .left)) (l .inv .1),
+      every-next (fitAt (a .components .now) (a .inputs .now) (a .outputs .now)) (l .i) (a .counts .components) _
+          (omega arith) (sym (c .before .row-fits .ensures) ∙ not-false _ (c .if1 .left)) (l .inv .1),
     )
 
 returns-2 : tie.Need-returns-2 Inv-loop μ-loop
 unfolding valuesFit
 returns-2 c =
     let a = c .before .before .before .before .before .args in
-    every-end (fitAt (a .components .now) (a .inputs .now) (a .outputs .now)) (c .before .loop .i) (a .counts .components) _ (omega arith) (c .before .loop .inv .1)
+    every-end (fitAt (a .components .now) (a .inputs .now) (a .outputs .now)) (c .before .loop .i)
+    (a .counts .components) _ (omega arith) (c .before .loop .inv .1)
 
 pub values-fit-spec : {M : Type 1} → statement M
 values-fit-spec =

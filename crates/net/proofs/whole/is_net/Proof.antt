@@ -9,42 +9,63 @@ use Rattle.tables.proofs.SizesLaws.{Full, fullSize-sound}
 use Rattle.net.specs.Net.{lent, isCircuit}
 use Rattle.net.proofs.ClausesLaws.{Within}
 use Rattle.net.proofs.NetLaws.{net-circuit, net-lists, circuit-within}
-use borrow.Author.Needs.{needs}
 use Rattle.net.proofs.whole.is_net.Statement.{statement}
 use Rattle.net.proofs.whole.is_net.Tie as tie
 
 -- The tables as they came, and what is known of them.
 abbrev came : tie.Start → Tables
-came c = (tablesOf (c .args .components .now) (c .args .inputs .now) (c .args .outputs .now) (c .args .wires .now) (c .args .current .now) (c .args .following .now) (c .args .standing .now) (c .args .counts))
+came s =
+    tablesOf (s .args .components .now) (s .args .inputs .now) (s .args .outputs .now) (s .args .wires .now)
+    (s .args .current .now) (s .args .following .now) (s .args .standing .now) (s .args .counts)
 
-full : (c : tie.Start) → Full (came c)
-full c = fullSize-sound (came c) (c .pre)
+abbrev circuitOf : tie.Start → Tables
+circuitOf s =
+    lent (s .args .components .now) (s .args .inputs .now) (s .args .outputs .now) (s .args .wires .now)
+    (s .args .counts)
 
-circuit : (c : tie.Else1) → isCircuit (lent (c .before .before .before .before .before .before .before .before .before .args .components .now) (c .before .before .before .before .before .before .before .before .before .args .inputs .now) (c .before .before .before .before .before .before .before .before .before .args .outputs .now) (c .before .before .before .before .before .before .before .before .before .args .wires .now) (c .before .before .before .before .before .before .before .before .before .args .counts)) ≡ true
+abbrev entry : tie.Else1 → tie.Start
+entry c = c .before .before .before .before .before .before .before .before .before
+
+full : (s : tie.Start) → Full (came s)
+full s = fullSize-sound (came s) (s .pre)
+
+circuit : (c : tie.Else1) → isCircuit (circuitOf (entry c)) ≡ true
 circuit c = sym (c .before .is-circuit .ensures) ∙ not-false _ (c .if1 .left)
 
-within : (c : tie.Else1) → Within (c .before .before .before .before .before .before .before .before .before .args .counts)
-within c = circuit-within (came (c .before .before .before .before .before .before .before .before .before)) (circuit c)
+within : (c : tie.Else1) → Within (entry c .args .counts)
+within c = circuit-within (came (entry c)) (circuit c)
 
 is-circuit-requires : tie.Need-is-circuit-requires
-is-circuit-requires c κs = let f = full (c .before .before .before .before .before .before .before) in (f .inputs, f .outputs)
+is-circuit-requires c κs =
+    let f = full (c .before .before .before .before .before .before .before) in (f .inputs, f .outputs)
 
 returns : tie.Need-returns
-returns c = net-circuit (came (c .before .before .before .before .before .before .before .before .before)) (sym (c .before .is-circuit .ensures) ∙ not-true _ (c .if1 .taken))
+returns c =
+    net-circuit (came (c .before .before .before .before .before .before .before .before .before))
+    (sym (c .before .is-circuit .ensures) ∙ not-true _ (c .if1 .taken))
 
 names-requires : tie.Need-names-requires
-names-requires c κs = let w = within c in (w .components, omega (arith, w .current, full (c .before .before .before .before .before .before .before .before .before) .current))
+names-requires c κs =
+    let w = within c in
+    (w .components, omega (arith, w .current, full (entry c) .current))
 
 names-requires-2 : tie.Need-names-requires-2
-names-requires-2 c κs = let w = within (c .before) in (w .components, omega (arith, w .following, full (c .before .before .before .before .before .before .before .before .before .before) .following))
+names-requires-2 c κs =
+    let e = c .before in
+    let w = within e in
+    (w .components, omega (arith, w .following, full (entry e) .following))
 
 names-requires-3 : tie.Need-names-requires-3
-names-requires-3 c κs = let w = within (c .before .before) in (w .components, omega (arith, w .standing, full (c .before .before .before .before .before .before .before .before .before .before .before) .standing))
+names-requires-3 c κs =
+    let e = c .before .before in
+    let w = within e in
+    (w .components, omega (arith, w .standing, full (entry e) .standing))
 
 returns-2 : tie.Need-returns-2
 returns-2 c =
+    let e = c .before .before .before in
     rw (c .names3 .ensures, c .before .names2 .ensures, c .before .before .names .ensures)
-    (net-lists (came (c .before .before .before .before .before .before .before .before .before .before .before .before)) (circuit (c .before .before .before)))
+    (net-lists (came (entry e)) (circuit e))
 
 pub is-net-spec : {M : Type 1} → statement M
 is-net-spec =

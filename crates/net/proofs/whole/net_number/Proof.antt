@@ -11,25 +11,36 @@ use Rattle.net.proofs.whole.net_number.Tie as tie
 
 -- The tables as they came, and that they are of full size once check 2 is passed.
 abbrev came : tie.Start → Tables
-came c = (tablesOf (c .args .components .now) (c .args .inputs .now) (c .args .outputs .now) (c .args .wires .now) (c .args .current .now) (c .args .following .now) (c .args .standing .now) (c .args .counts))
+came s =
+    tablesOf (s .args .components .now) (s .args .inputs .now) (s .args .outputs .now) (s .args .wires .now)
+    (s .args .current .now) (s .args .following .now) (s .args .standing .now) (s .args .counts)
 
-full : (c : tie.Else1) → fullSize (came (c .before .before .before .before .before .before .before .before .before)) ≡ true
+abbrev entry : tie.Else1 → tie.Start
+entry c = c .before .before .before .before .before .before .before .before .before
+
+full : (c : tie.Else1) → fullSize (came (entry c)) ≡ true
 full c = sym (c .before .full-size .ensures) ∙ not-false _ (c .if1 .left)
 
 full-size-requires : tie.Need-full-size-requires
 full-size-requires c κs = search needs
 
 returns : tie.Need-returns
-returns c = netNumber-2 (came (c .before .before .before .before .before .before .before .before .before)) (sym (c .before .full-size .ensures) ∙ not-true _ (c .if1 .taken))
+returns c =
+    netNumber-2 (came (c .before .before .before .before .before .before .before .before .before))
+    (sym (c .before .full-size .ensures) ∙ not-true _ (c .if1 .taken))
 
 is-net-requires : tie.Need-is-net-requires
 is-net-requires c κs = full c
 
 returns-2 : tie.Need-returns-2
-returns-2 c = netNumber-16 (came (c .before .before .before .before .before .before .before .before .before .before .before)) (full (c .before .before)) (sym (c .before .is-net .ensures) ∙ not-true _ (c .if2 .taken))
+returns-2 c =
+    let e = c .before .before in
+    netNumber-16 (came (entry e)) (full e) (sym (c .before .is-net .ensures) ∙ not-true _ (c .if2 .taken))
 
 returns-3 : tie.Need-returns-3
-returns-3 c = netNumber-0 (came (c .before .before .before .before .before .before .before .before .before .before .before)) (full (c .before .before)) (sym (c .before .is-net .ensures) ∙ not-false _ (c .if2 .left))
+returns-3 c =
+    let e = c .before .before in
+    netNumber-0 (came (entry e)) (full e) (sym (c .before .is-net .ensures) ∙ not-false _ (c .if2 .left))
 
 pub net-number-spec : {M : Type 1} → statement M
 net-number-spec =

@@ -2,7 +2,7 @@
 -- Assumes nothing.
 use Prim.Native.Nat.{ℕ, _-_, _≤_, _<_}
 use mathlib.Core.List.{List, map}
-use mathlib.Core.Path.{_≡_, refl, sym, ap, _∙_}
+use mathlib.Core.Path.{_≡_, refl, ap, _∙_}
 use native.Mathlib.Omega.{arith}
 use lib.ListN.{length, length-set}
 use Rattle.lists.specs.Lists.{from, distinct}
@@ -17,7 +17,8 @@ use Rattle.net.proofs.wires.inputs_once.Tie as tie
 abbrev Inv-loop : tie.InvT-loop
 Inv-loop components wires n seen₀ k₀ seen k =
     (k ≤ n) × (length seen ≡ 1024)
-    × (fresh seen (map (placeIn components wires) (from k (n - k))) ≡ distinct (map (placeIn components wires) (from 0 n)))
+    × (fresh seen (map (placeIn components wires) (from k (n - k))) ≡ distinct
+    (map (placeIn components wires) (from 0 n)))
 
 abbrev μ-loop : tie.MeasureT-loop
 μ-loop components wires n seen₀ k₀ seen k = n - k
@@ -34,7 +35,8 @@ loop-holds c =
     let places = placeIn (a .components .now) (a .wires .now) in (
       omega arith,
       refl,
-      fresh-start 1024 (map places (from 0 (a .counts .wires - 0))) ∙ ap (λ (l : List ℕ). distinct (map places l)) (from-start (a .counts .wires)),
+      fresh-start 1024 (map places (from 0 (a .counts .wires - 0))) ∙ ap (λ (l : List ℕ). distinct (map places l))
+          (from-start (a .counts .wires)),
     )
 
 place-of-requires : tie.Need-place-of-requires Inv-loop μ-loop
@@ -51,7 +53,8 @@ returns c =
     let a = c .before .before .before .before .before .before .args in
     let l = c .before .before .before .loop in
     let e = c .before .place-of .ensures in
-    freshFrom-again (placeIn (a .components .now) (a .wires .now)) (l .seen) (l .k) (a .counts .wires) _ (l .inv .2) (omega arith)
+    freshFrom-again (placeIn (a .components .now) (a .wires .now)) (l .seen) (l .k) (a .counts .wires) _ (l .inv .2)
+    (omega arith)
     (λ z. c .if1 .taken (rw e z))
     ∙ inputsOnce-places (a .components .now) (a .wires .now) (a .counts)
 
@@ -70,9 +73,10 @@ loop-again c =
     let l = c .before .before .before .loop in
     let e = c .before .place-of .ensures in (
       omega arith,
-      length-set (l .seen) (c .before .place-of .result) 1 ∙ l .inv .1,
+      simp length-set (l .inv .1),
       rw e
-          (freshFrom-next (placeIn (a .components .now) (a .wires .now)) (l .seen) (l .k) (a .counts .wires) _ (l .inv .2) (omega arith)
+          (freshFrom-next (placeIn (a .components .now) (a .wires .now)) (l .seen) (l .k) (a .counts .wires) _
+          (l .inv .2) (omega arith)
           (omega (arith, e, l .inv .1, place-small (c .before))) (rw e at (c .if1 .left))),
     )
 
@@ -80,7 +84,8 @@ returns-2 : tie.Need-returns-2 Inv-loop μ-loop
 returns-2 c =
     let a = c .before .before .before .before .args in
     let l = c .before .loop in
-    freshFrom-end (placeIn (a .components .now) (a .wires .now)) (l .seen) (l .k) (a .counts .wires) _ (l .inv .2) (omega arith)
+    freshFrom-end (placeIn (a .components .now) (a .wires .now)) (l .seen) (l .k) (a .counts .wires) _ (l .inv .2)
+    (omega arith)
     ∙ inputsOnce-places (a .components .now) (a .wires .now) (a .counts)
 
 pub inputs-once-spec : {M : Type 1} → statement M

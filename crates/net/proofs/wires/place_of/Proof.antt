@@ -1,7 +1,7 @@
 -- `place_of`: the sum is that of the definition, and small.
 -- Assumes nothing.
 use native.Mathlib.Omega.{arith}
-use mathlib.Core.Path.{_≡_, ap, _∙_}
+use mathlib.Core.Path.{ap, _∙_}
 use Prim.Native.Nat.{ℕ}
 use Rattle.tables.specs.Tables.{wordIn}
 use borrow.Author.Needs.{needs}
@@ -33,7 +33,13 @@ add-result : tie.Need-add-result
 add-result c =
     let s = c .before .before .before .before .before in
     let cs = s .args .components .now in
-    omega (arith, s .pre .2, c .entry2 .ensures, c .before .word-of .ensures ∙ ap (λ (i : ℕ). wordIn cs i 6) (c .before .before .entry .ensures))
+    omega (
+      arith,
+      s .pre .2,
+      c .entry2 .ensures,
+      c .before .word-of .ensures ∙ ap (λ (i : ℕ). wordIn cs i 6)
+          (c .before .before .entry .ensures),
+    )
 
 returns : tie.Need-returns
 returns c = rw (c .entry2 .ensures, c .before .word-of .ensures, c .before .before .entry .ensures)

@@ -2,9 +2,9 @@
 -- Assumes nothing.
 use borrow.Author.Tests.{not-true, not-false, ltb-true}
 use mathlib.Core.Path.{_≡_, sym, _∙_}
-use mathlib.Core.Bool.{_&&_}
+use mathlib.Core.Bool.{Bool, _&&_}
 use mathlib.Core.List.{[]}
-use Prim.Native.Nat.{_+_, _*_, _<_}
+use Prim.Native.Nat.{ℕ, _*_, _<_}
 use native.Mathlib.Omega.{arith}
 use lib.ListN.{getD}
 use lib.Dec.{ltb}
@@ -16,22 +16,37 @@ use borrow.Author.Needs.{needs}
 use Rattle.net.proofs.wires.wire_right.Statement.{statement}
 use Rattle.net.proofs.wires.wire_right.Tie as tie
 
+-- The function's entry, and how many components there are.
+abbrev entry-of : tie.After-entry2 → tie.Start
+entry-of c = c .before .before .before .before
+
+abbrev count : tie.After-entry2 → ℕ
+count c = entry-of c .args .counts .components
+
 -- What the test of the two components says.
-tested : (c : tie.After-entry2) →
-    (ltb (c .before .entry .result) (c .before .before .before .before .args .counts .components)
-    && ltb (c .entry2 .result) (c .before .before .before .before .args .counts .components))
-    ≡ (ltb (getD (c .before .before .before .before .args .wires .now) (4 * c .before .before .before .before .args .k) 0)
-    (c .before .before .before .before .args .counts .components)
-    && ltb (targetIn (c .before .before .before .before .args .wires .now) (c .before .before .before .before .args .k))
-    (c .before .before .before .before .args .counts .components))
-tested c = rw (c .before .entry .ensures, c .entry2 .ensures)
+abbrev exist : (c : tie.After-entry2) → Bool
+exist c = ltb (c .before .entry .result) (count c) && ltb (c .entry2 .result) (count c)
+
+tested : (c : tie.After-entry2) → exist c
+    ≡ (ltb (getD (entry-of c .args .wires .now) (4 * entry-of c .args .k) 0) (count c)
+    && ltb (targetIn (entry-of c .args .wires .now) (entry-of c .args .k)) (count c))
+tested c = same _ _ _ _ (count c) (c .before .entry .ensures) (c .entry2 .ensures)
+  where
+    same : (x y a b n : ℕ) → x ≡ a → y ≡ b → (ltb x n && ltb y n) ≡ (ltb a n && ltb b n)
+    same x y a b n p q = rw (p, q)
 
 -- Both components exist.
-source-exists : (c : tie.Else1) → c .before .before .entry .result < c .before .before .before .before .before .args .counts .components
-source-exists c = ltb-true _ _ (and-left (ltb (c .before .before .entry .result) (c .before .before .before .before .before .args .counts .components)) (ltb (c .before .entry2 .result) (c .before .before .before .before .before .args .counts .components)) (not-false _ (c .if1 .left)))
+source-exists : (c : tie.Else1) → c .before .before .entry .result < count (c .before)
+source-exists c =
+    let e = c .before in
+    ltb-true _ _ (and-left (ltb (e .before .entry .result) (count e)) (ltb (e .entry2 .result) (count e))
+    (not-false _ (c .if1 .left)))
 
-target-exists : (c : tie.Else1) → c .before .entry2 .result < c .before .before .before .before .before .args .counts .components
-target-exists c = ltb-true _ _ (and-right (ltb (c .before .before .entry .result) (c .before .before .before .before .before .args .counts .components)) (ltb (c .before .entry2 .result) (c .before .before .before .before .before .args .counts .components)) (not-false _ (c .if1 .left)))
+target-exists : (c : tie.Else1) → c .before .entry2 .result < count (c .before)
+target-exists c =
+    let e = c .before in
+    ltb-true _ _ (and-right (ltb (e .before .entry .result) (count e)) (ltb (e .entry2 .result) (count e))
+    (not-false _ (c .if1 .left)))
 
 mul-entry : tie.Need-mul-entry
 mul-entry c = search needs
@@ -51,19 +66,26 @@ entry-requires-2 c κs = search needs
 returns : tie.Need-returns
 returns c =
     let a = c .before .before .before .before .before .args in
-    wireRight-none (a .components .now) (a .wires .now) (a .counts .components) (a .k) (sym (tested (c .before)) ∙ not-true _ (c .if1 .taken))
+    wireRight-none (a .components .now) (a .wires .now) (a .counts .components) (a .k)
+    (sym (tested (c .before)) ∙ not-true _ (c .if1 .taken))
 
 fields-at-requires : tie.Need-fields-at-requires
 fields-at-requires c κs =
     let s = c .before .before .before .before .before in
-    let h = source-exists c in
-    (omega (arith, s .pre .1), kindsObeyed-fit (lent (s .args .components .now) [] [] [] (s .args .counts)) (s .pre .2) (c .before .before .entry .result) h)
+    let h = source-exists c in (
+      omega (arith, s .pre .1),
+      kindsObeyed-fit (lent (s .args .components .now) [] [] [] (s .args .counts))
+          (s .pre .2) (c .before .before .entry .result) h,
+    )
 
 fields-at-requires-2 : tie.Need-fields-at-requires-2
 fields-at-requires-2 c κs =
     let s = c .before .before .before .before .before .before in
-    let h = target-exists (c .before) in
-    (omega (arith, s .pre .1), kindsObeyed-fit (lent (s .args .components .now) [] [] [] (s .args .counts)) (s .pre .2) (c .before .before .entry2 .result) h)
+    let h = target-exists (c .before) in (
+      omega (arith, s .pre .1),
+      kindsObeyed-fit (lent (s .args .components .now) [] [] [] (s .args .counts))
+          (s .pre .2) (c .before .before .entry2 .result) h,
+    )
 
 mul-entry-3 : tie.Need-mul-entry-3
 mul-entry-3 c = search needs
@@ -97,8 +119,8 @@ cast-result-2 c = search needs
 
 returns-2 : tie.Need-returns-2
 returns-2 c =
-    let a = c .before .before .before .before .before .before .before .before .before .before .before .before .before .args in
     let e = c .before .before .before .before .before .before .before .before in
+    let a = e .before .before .before .before .before .args in
     rw (
       c .before .before .input-width .ensures,
       c .before .before .before .output-width .ensures,
@@ -109,7 +131,8 @@ returns-2 c =
       e .before .entry2 .ensures,
       e .before .before .entry .ensures,
     )
-    (wireRight-both (a .components .now) (a .wires .now) (a .counts .components) (a .k) (sym (tested (e .before)) ∙ not-false _ (e .if1 .left)))
+    (wireRight-both (a .components .now) (a .wires .now) (a .counts .components) (a .k)
+    (sym (tested (e .before)) ∙ not-false _ (e .if1 .left)))
 
 pub wire-right-spec : {M : Type 1} → statement M
 wire-right-spec =

@@ -14,13 +14,20 @@ use Rattle.net.proofs.wires.wires_fit.Statement.{statement}
 use Rattle.net.proofs.wires.wires_fit.Tie as tie
 
 abbrev Inv-loop : tie.InvT-loop
-Inv-loop components wires counts n k₀ k = (k ≤ n) × (every (wireRight components wires (counts .components)) (from k (n - k)) ≡ every (wireRight components wires (counts .components)) (from 0 n))
+Inv-loop components wires counts n k₀ k =
+    (k ≤ n) × (every (wireRight components wires (counts .components)) (from k (n - k)) ≡ every
+    (wireRight components wires (counts .components)) (from 0 n))
 
 abbrev μ-loop : tie.MeasureT-loop
 μ-loop components wires counts n k₀ k = n - k
 
 loop-holds : tie.Need-loop-holds Inv-loop μ-loop
-loop-holds c = let a = c .before .before .args in (omega arith, ap (every (wireRight (a .components .now) (a .wires .now) (a .counts .components))) (from-start (a .counts .wires)))
+loop-holds c =
+    let a = c .before .before .args in (
+      omega arith,
+      ap (every (wireRight (a .components .now) (a .wires .now) (a .counts .components)))
+          (from-start (a .counts .wires)),
+    )
 
 wire-right-requires : tie.Need-wire-right-requires Inv-loop μ-loop
 wire-right-requires c κs = search needs
@@ -29,7 +36,8 @@ returns : tie.Need-returns Inv-loop μ-loop
 returns c =
     let a = c .before .before .before .before .before .before .args in
     let l = c .before .before .before .loop in
-    every-fails (wireRight (a .components .now) (a .wires .now) (a .counts .components)) (l .k) (a .counts .wires) _ (omega arith) (sym (c .before .wire-right .ensures) ∙ not-true _ (c .if1 .taken)) (l .inv .1)
+    every-fails (wireRight (a .components .now) (a .wires .now) (a .counts .components)) (l .k) (a .counts .wires) _
+    (omega arith) (sym (c .before .wire-right .ensures) ∙ not-true _ (c .if1 .taken)) (l .inv .1)
     ∙ wiresFit-every (a .components .now) (a .wires .now) (a .counts)
 
 add-k : tie.Need-add-k Inv-loop μ-loop
@@ -43,13 +51,15 @@ loop-again c =
     let a = c .before .before .before .before .before .before .args in
     let l = c .before .before .before .loop in (
       omega arith,
-      every-next (wireRight (a .components .now) (a .wires .now) (a .counts .components)) (l .k) (a .counts .wires) _ (omega arith) (sym (c .before .wire-right .ensures) ∙ not-false _ (c .if1 .left)) (l .inv .1),
+      every-next (wireRight (a .components .now) (a .wires .now) (a .counts .components)) (l .k) (a .counts .wires) _
+          (omega arith) (sym (c .before .wire-right .ensures) ∙ not-false _ (c .if1 .left)) (l .inv .1),
     )
 
 returns-2 : tie.Need-returns-2 Inv-loop μ-loop
 returns-2 c =
     let a = c .before .before .before .before .args in
-    every-end (wireRight (a .components .now) (a .wires .now) (a .counts .components)) (c .before .loop .k) (a .counts .wires) _ (omega arith) (c .before .loop .inv .1)
+    every-end (wireRight (a .components .now) (a .wires .now) (a .counts .components)) (c .before .loop .k)
+    (a .counts .wires) _ (omega arith) (c .before .loop .inv .1)
     ∙ wiresFit-every (a .components .now) (a .wires .now) (a .counts)
 
 pub wires-fit-spec : {M : Type 1} → statement M

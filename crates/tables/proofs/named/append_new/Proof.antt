@@ -14,13 +14,19 @@ same-length : tie.Need-same-length
 same-length c = search needs
 
 returns : tie.Need-returns
-returns c = append-there _ _ _ (c .before .before .before .before .pre .0) (sym (c .before .contains .ensures) ∙ c .if1 .taken)
+returns c =
+    append-there _ _ _ (c .before .before .before .before .pre .0) (sym (c .before .contains .ensures) ∙ c .if1 .taken)
 
 mul-list : tie.Need-mul-list
 mul-list c = search needs
 
 slice-write-list : tie.Need-slice-write-list
-slice-write-list c = omega (arith, append-length _ _ _ (c .before .before .before .before .pre .0) (sym (c .before .contains .ensures) ∙ c .if1 .left))
+slice-write-list c =
+    omega (
+      arith,
+      append-length _ _ _ (c .before .before .before .before .pre .0)
+          (sym (c .before .contains .ensures) ∙ c .if1 .left),
+    )
 
 add-result : tie.Need-add-result
 add-result c = search needs
@@ -29,7 +35,9 @@ same-length-2 : tie.Need-same-length-2
 same-length-2 c = search needs
 
 returns-2 : tie.Need-returns-2
-returns-2 c = append-more _ _ _ (c .before .before .before .before .pre .0) (sym (c .before .contains .ensures) ∙ c .if1 .left) (slice-write-list c)
+returns-2 c =
+    append-more _ _ _ (c .before .before .before .before .pre .0) (sym (c .before .contains .ensures) ∙ c .if1 .left)
+    (slice-write-list c)
 
 pub append-new-spec : {M : Type 1} → statement M
 append-new-spec =

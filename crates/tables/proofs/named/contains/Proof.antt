@@ -29,7 +29,8 @@ shared-slice-read-if1 c = search needs
 returns : tie.Need-returns Inv-loop μ-loop
 returns c =
     let a = c .before .before .before .before .args in
-    has-found (a .list .now) (a .count) (c .before .before .before .loop .i) (a .x) (omega arith) (omega arith) (c .if1 .taken)
+    has-found (a .list .now) (a .count) (c .before .before .before .loop .i) (a .x) (omega arith) (omega arith)
+    (c .if1 .taken)
 
 add-i : tie.Need-add-i Inv-loop μ-loop
 add-i c = search needs
@@ -40,8 +41,11 @@ loop-less c = search needs
 loop-again : tie.Need-loop-again Inv-loop μ-loop
 loop-again c =
     let a = c .before .before .before .before .args in
-    let l = c .before .before .before .loop in
-    (omega arith, has-passed (a .list .now) (a .count) (l .i) (a .x) (omega arith) (omega arith) (c .if1 .left) (l .inv .1))
+    let l = c .before .before .before .loop in (
+      omega arith,
+      has-passed (a .list .now) (a .count) (l .i) (a .x) (omega arith) (omega arith) (c .if1 .left)
+          (l .inv .1),
+    )
 
 returns-2 : tie.Need-returns-2 Inv-loop μ-loop
 returns-2 c =

@@ -55,14 +55,16 @@ loop-again c =
       omega arith,
       omega arith,
       simp length-set (l .inv .2),
-      strike-left (a .list .now) (l .list) (l .i) (l .left) (a .x) b (l .inv .1) (l .inv .2) (l .inv .3) (l .inv .4) (w .0 .taken),
+      strike-left (a .list .now) (l .list) (l .i) (l .left) (a .x) b (l .inv .1) (l .inv .2) (l .inv .3) (l .inv .4)
+          (w .0 .taken),
       strike-rest (a .list .now) (l .list) (l .i) (l .left) (a .x) b (l .inv .1) (l .inv .2) (l .inv .3) (l .inv .4),
     ))
     (λ w. rw (w .1, w .2) (
       omega arith,
       omega arith,
       l .inv .2,
-      strike-gone (a .list .now) (l .list) (l .i) (l .left) (a .x) b (l .inv .1) (l .inv .2) (l .inv .3) (l .inv .4) (w .0 .left),
+      strike-gone (a .list .now) (l .list) (l .i) (l .left) (a .x) b (l .inv .1) (l .inv .2) (l .inv .3) (l .inv .4)
+          (w .0 .left),
       λ k h. l .inv .4 k (omega arith),
     ))
     (c .if1 .came)

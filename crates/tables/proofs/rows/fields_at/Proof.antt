@@ -11,31 +11,51 @@ word-of-requires : tie.Need-word-of-requires
 word-of-requires c κs = search needs
 
 cast-t4 : tie.Need-cast-t4
-cast-t4 c = let s = c .before .before in omega (arith, c .word-of .ensures, fieldsFit-kind (fieldsIn (s .args .components .now) (s .args .i)) (s .pre .1))
+cast-t4 c =
+    let s = c .before .before in
+    omega (arith, c .word-of .ensures, fieldsFit-kind (fieldsIn (s .args .components .now) (s .args .i)) (s .pre .1))
 
 word-of-requires-2 : tie.Need-word-of-requires-2
 word-of-requires-2 c κs = search needs
 
 cast-t6 : tie.Need-cast-t6
-cast-t6 c = let s = c .before .before .before in omega (arith, c .word-of2 .ensures, fieldsFit-inputs (fieldsIn (s .args .components .now) (s .args .i)) (s .pre .1))
+cast-t6 c =
+    let s = c .before .before .before in
+    omega (arith, c .word-of2 .ensures, fieldsFit-inputs (fieldsIn (s .args .components .now) (s .args .i)) (s .pre .1))
 
 word-of-requires-3 : tie.Need-word-of-requires-3
 word-of-requires-3 c κs = search needs
 
 cast-t8 : tie.Need-cast-t8
-cast-t8 c = let s = c .before .before .before .before in omega (arith, c .word-of3 .ensures, fieldsFit-outputs (fieldsIn (s .args .components .now) (s .args .i)) (s .pre .1))
+cast-t8 c =
+    let s = c .before .before .before .before in
+    omega (
+      arith,
+      c .word-of3 .ensures,
+      fieldsFit-outputs (fieldsIn (s .args .components .now) (s .args .i))
+          (s .pre .1),
+    )
 
 word-of-requires-4 : tie.Need-word-of-requires-4
 word-of-requires-4 c κs = search needs
 
 cast-t10 : tie.Need-cast-t10
-cast-t10 c = let s = c .before .before .before .before .before in omega (arith, c .word-of4 .ensures, fieldsFit-width (fieldsIn (s .args .components .now) (s .args .i)) (s .pre .1))
+cast-t10 c =
+    let s = c .before .before .before .before .before in
+    omega (arith, c .word-of4 .ensures, fieldsFit-width (fieldsIn (s .args .components .now) (s .args .i)) (s .pre .1))
 
 word-of-requires-5 : tie.Need-word-of-requires-5
 word-of-requires-5 c κs = search needs
 
 returns : tie.Need-returns
-returns c = rw (c .word-of5 .ensures, c .before .word-of4 .ensures, c .before .before .word-of3 .ensures, c .before .before .before .word-of2 .ensures, c .before .before .before .before .word-of .ensures)
+returns c =
+    rw (
+      c .word-of5 .ensures,
+      c .before .word-of4 .ensures,
+      c .before .before .word-of3 .ensures,
+      c .before .before .before .word-of2 .ensures,
+      c .before .before .before .before .word-of .ensures,
+    )
 
 pub fields-at-spec : {M : Type 1} → statement M
 fields-at-spec =

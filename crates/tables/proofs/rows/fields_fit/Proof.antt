@@ -19,7 +19,13 @@ word-of-requires-4 c κs = search needs
 
 returns : tie.Need-returns
 unfolding fieldsFit
-returns c = rw (c .word-of4 .ensures, c .before .word-of3 .ensures, c .before .before .word-of2 .ensures, c .before .before .before .word-of .ensures)
+returns c =
+    rw (
+      c .word-of4 .ensures,
+      c .before .word-of3 .ensures,
+      c .before .before .word-of2 .ensures,
+      c .before .before .before .word-of .ensures,
+    )
 
 pub fields-fit-spec : {M : Type 1} → statement M
 fields-fit-spec =

@@ -2,7 +2,6 @@
 -- Assumes nothing.
 use mathlib.Core.Path.{refl}
 use Rattle.tables.specs.Tables.{fullSize}
-use borrow.Author.Needs.{needs}
 use Rattle.tables.proofs.sizes.full_size.Statement.{statement}
 use Rattle.tables.proofs.sizes.full_size.Tie as tie
 
