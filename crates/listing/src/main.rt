@@ -123,17 +123,33 @@ fn step(
     standing: &mut [u16],
     counts: Counts,
     round: u64,
-    out: &mut [u8]
+    out: &mut [u8],
 ) -> Step {
     let answer = simulator::round(
-        components, inputs, outputs, wires, current, following, standing, counts, 0,
+        components,
+        inputs,
+        outputs,
+        wires,
+        current,
+        following,
+        standing,
+        counts,
+        0,
     );
     let Answer::Done(new) = answer else {
         return Step::Stopped;
     };
     round_line(out, round, current, new.current);
-    let asked =
-        simulator::is_calm(components, inputs, outputs, wires, current, following, standing, new);
+    let asked = simulator::is_calm(
+        components,
+        inputs,
+        outputs,
+        wires,
+        current,
+        following,
+        standing,
+        new,
+    );
     if let Calm::Is(calm) = asked {
         if calm {
             return Step::Calm;
@@ -152,13 +168,22 @@ fn run(
     following: &mut [u16],
     standing: &mut [u16],
     counts: Counts,
-    out: &mut [u8]
+    out: &mut [u8],
 ) {
     let mut now = counts;
     let mut round: u64 = 1;
     while round <= ROUNDS {
         let left = step(
-            components, inputs, outputs, wires, current, following, standing, now, round, out,
+            components,
+            inputs,
+            outputs,
+            wires,
+            current,
+            following,
+            standing,
+            now,
+            round,
+            out,
         );
         match left {
             Step::Calm => {
@@ -191,15 +216,31 @@ fn list(
     current: &mut [u16],
     following: &mut [u16],
     standing: &mut [u16],
-    out: &mut [u8]
+    out: &mut [u8],
 ) {
-    let answer =
-        load::load(file, components, inputs, outputs, wires, current, following, standing);
+    let answer = load::load(
+        file,
+        components,
+        inputs,
+        outputs,
+        wires,
+        current,
+        following,
+        standing,
+    );
     match answer {
         Answer::Done(counts) => {
             show(out, components, wires, counts);
             run(
-                components, inputs, outputs, wires, current, following, standing, counts, out,
+                components,
+                inputs,
+                outputs,
+                wires,
+                current,
+                following,
+                standing,
+                counts,
+                out,
             );
         }
         Answer::Refused(refusal) => refused(out, refusal.number, refusal.position),

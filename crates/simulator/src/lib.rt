@@ -1,6 +1,7 @@
 // Rounds, edits and questions over lent tables. Rules: docs/SPECIFICATION.md, "Rounds" and "Numbers given back". Source: simulator.rs.
 mod edits;
 mod questions;
+mod rounds;
 
 use component::FlatIdx;
 pub use edits::edit;
@@ -10,6 +11,7 @@ pub use questions::is_calm;
 pub use questions::sources_of;
 pub use questions::targets_of;
 pub use questions::value_of;
+pub use rounds::round;
 use tables::Counts;
 use value::Value;
 

@@ -16,7 +16,11 @@ use tables::Counts;
 
 // A count that the program keeps.
 fn count_at(counts: &[u64], which: usize) -> usize {
-    if which < counts.len() { counts[which] as usize } else { 0 }
+    if which < counts.len() {
+        counts[which] as usize
+    } else {
+        0
+    }
 }
 
 // The counts, as a call takes them.
@@ -67,7 +71,7 @@ pub(crate) fn load_file(
     standing: &mut [u16],
     counts: &mut [u64],
     file: &mut [u8],
-    out: &mut [u8]
+    out: &mut [u8],
 ) -> bool {
     let Got::Bytes(count) = files::read_file(file) else {
         return false;
@@ -75,8 +79,16 @@ pub(crate) fn load_file(
     if file.len() < count {
         return false;
     }
-    let answer =
-        load::load(&file[..count], components, inputs, outputs, wires, current, following, standing);
+    let answer = load::load(
+        &file[..count],
+        components,
+        inputs,
+        outputs,
+        wires,
+        current,
+        following,
+        standing,
+    );
     done(out, b"load", answer, counts);
     true
 }
@@ -91,7 +103,7 @@ pub(crate) fn run_round(
     following: &mut [u16],
     standing: &mut [u16],
     counts: &mut [u64],
-    out: &mut [u8]
+    out: &mut [u8],
 ) -> bool {
     let mut bytes = [0u8; 8];
     if !input::fill(&mut bytes) {
@@ -100,7 +112,15 @@ pub(crate) fn run_round(
     let time = input::number(&bytes, 0, 8);
     let before = counts_in(counts);
     let answer = simulator::round(
-        components, inputs, outputs, wires, current, following, standing, before, time,
+        components,
+        inputs,
+        outputs,
+        wires,
+        current,
+        following,
+        standing,
+        before,
+        time,
     );
     done(out, b"round", answer, counts);
     true
@@ -116,7 +136,7 @@ pub(crate) fn edit_one(
     following: &[u16],
     standing: &mut [u16],
     counts: &mut [u64],
-    out: &mut [u8]
+    out: &mut [u8],
 ) -> bool {
     let mut bytes = [0u8; 10];
     if !input::fill(&mut bytes) {
@@ -126,7 +146,16 @@ pub(crate) fn edit_one(
     let number = input::number(&bytes, 2, 8);
     let before = counts_in(counts);
     let answer = simulator::edit(
-        components, inputs, outputs, wires, current, following, standing, before, index, number,
+        components,
+        inputs,
+        outputs,
+        wires,
+        current,
+        following,
+        standing,
+        before,
+        index,
+        number,
     );
     done(out, b"edit", answer, counts);
     true
@@ -142,7 +171,7 @@ pub(crate) fn run_calm(
     following: &mut [u16],
     standing: &mut [u16],
     counts: &mut [u64],
-    out: &mut [u8]
+    out: &mut [u8],
 ) -> bool {
     let mut bytes = [0u8; 10];
     if !input::fill(&mut bytes) {
@@ -152,7 +181,16 @@ pub(crate) fn run_calm(
     let limit = (input::number(&bytes, 8, 2) % 65536) as u16;
     let before = counts_in(counts);
     let answer = simulator::run_until_calm(
-        components, inputs, outputs, wires, current, following, standing, before, time, limit,
+        components,
+        inputs,
+        outputs,
+        wires,
+        current,
+        following,
+        standing,
+        before,
+        time,
+        limit,
     );
     match answer {
         Ran::Done {
@@ -178,10 +216,17 @@ pub(crate) fn ask_calm(
     following: &[u16],
     standing: &[u16],
     counts: &[u64],
-    out: &mut [u8]
+    out: &mut [u8],
 ) -> bool {
     let answer = simulator::is_calm(
-        components, inputs, outputs, wires, current, following, standing, counts_in(counts),
+        components,
+        inputs,
+        outputs,
+        wires,
+        current,
+        following,
+        standing,
+        counts_in(counts),
     );
     match answer {
         Calm::Is(calm) => lines::pair(out, b"calm", 0, if calm { 1 } else { 0 }),
@@ -200,7 +245,7 @@ pub(crate) fn ask_index(
     following: &[u16],
     standing: &[u16],
     counts: &[u64],
-    out: &mut [u8]
+    out: &mut [u8],
 ) -> bool {
     let mut bytes = [0u8; 4];
     if !input::fill(&mut bytes) {
@@ -208,7 +253,15 @@ pub(crate) fn ask_index(
     }
     let id = Id((input::number(&bytes, 0, 4) % 4294967296) as u32);
     let answer = simulator::index_of(
-        components, inputs, outputs, wires, current, following, standing, counts_in(counts), id,
+        components,
+        inputs,
+        outputs,
+        wires,
+        current,
+        following,
+        standing,
+        counts_in(counts),
+        id,
     );
     match answer {
         Index::Is(index) => lines::pair(out, b"index", 0, index.0 as u64),
@@ -227,17 +280,31 @@ pub(crate) fn ask_value(
     following: &[u16],
     standing: &[u16],
     counts: &[u64],
-    out: &mut [u8]
+    out: &mut [u8],
 ) -> bool {
     let mut bytes = [0u8; 5];
     if !input::fill(&mut bytes) {
         return false;
     }
-    let side = if input::number(&bytes, 0, 1) == 0 { Side::Inputs } else { Side::Outputs };
+    let side = if input::number(&bytes, 0, 1) == 0 {
+        Side::Inputs
+    } else {
+        Side::Outputs
+    };
     let index = FlatIdx(input::number(&bytes, 1, 2) as usize);
     let port = input::number(&bytes, 3, 2) as usize;
     let answer = simulator::value_of(
-        components, inputs, outputs, wires, current, following, standing, counts_in(counts), side, index, port,
+        components,
+        inputs,
+        outputs,
+        wires,
+        current,
+        following,
+        standing,
+        counts_in(counts),
+        side,
+        index,
+        port,
     );
     match answer {
         Port::Is(value) => lines::triple(out, b"value", 0, value.number, value.width),
@@ -269,7 +336,7 @@ pub(crate) fn ask_sources(
     standing: &[u16],
     counts: &[u64],
     list: &mut [u16],
-    out: &mut [u8]
+    out: &mut [u8],
 ) -> bool {
     let mut bytes = [0u8; 2];
     if !input::fill(&mut bytes) {
@@ -277,7 +344,16 @@ pub(crate) fn ask_sources(
     }
     let index = FlatIdx(input::number(&bytes, 0, 2) as usize);
     let answer = simulator::sources_of(
-        components, inputs, outputs, wires, current, following, standing, counts_in(counts), index, list,
+        components,
+        inputs,
+        outputs,
+        wires,
+        current,
+        following,
+        standing,
+        counts_in(counts),
+        index,
+        list,
     );
     listed(out, b"sources", answer, list);
     true
@@ -294,7 +370,7 @@ pub(crate) fn ask_targets(
     standing: &[u16],
     counts: &[u64],
     list: &mut [u16],
-    out: &mut [u8]
+    out: &mut [u8],
 ) -> bool {
     let mut bytes = [0u8; 2];
     if !input::fill(&mut bytes) {
@@ -302,7 +378,16 @@ pub(crate) fn ask_targets(
     }
     let index = FlatIdx(input::number(&bytes, 0, 2) as usize);
     let answer = simulator::targets_of(
-        components, inputs, outputs, wires, current, following, standing, counts_in(counts), index, list,
+        components,
+        inputs,
+        outputs,
+        wires,
+        current,
+        following,
+        standing,
+        counts_in(counts),
+        index,
+        list,
     );
     listed(out, b"targets", answer, list);
     true

@@ -77,6 +77,11 @@ pub(crate) fn judge_file(bytes: &mut [u8], out: &mut [u8]) -> bool {
         return false;
     }
     let verdict = flatten::judge(&bytes[..count]);
-    lines::pair(out, b"judge", number_of(verdict), position_of(verdict) as u64);
+    lines::pair(
+        out,
+        b"judge",
+        number_of(verdict),
+        position_of(verdict) as u64,
+    );
     true
 }

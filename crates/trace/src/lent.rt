@@ -14,19 +14,60 @@ fn changing(
     standing: &mut [u16],
     counts: &mut [u64],
     file: &mut [u8],
-    out: &mut [u8]
+    out: &mut [u8],
 ) -> bool {
     if letter == b'L' {
-        return calls::load_file(components, inputs, outputs, wires, current, following, standing, counts, file, out);
+        return calls::load_file(
+            components,
+            inputs,
+            outputs,
+            wires,
+            current,
+            following,
+            standing,
+            counts,
+            file,
+            out,
+        );
     }
     if letter == b'R' {
-        return calls::run_round(components, inputs, outputs, wires, current, following, standing, counts, out);
+        return calls::run_round(
+            components,
+            inputs,
+            outputs,
+            wires,
+            current,
+            following,
+            standing,
+            counts,
+            out,
+        );
     }
     if letter == b'E' {
-        return calls::edit_one(components, inputs, outputs, wires, current, following, standing, counts, out);
+        return calls::edit_one(
+            components,
+            inputs,
+            outputs,
+            wires,
+            current,
+            following,
+            standing,
+            counts,
+            out,
+        );
     }
     if letter == b'U' {
-        return calls::run_calm(components, inputs, outputs, wires, current, following, standing, counts, out);
+        return calls::run_calm(
+            components,
+            inputs,
+            outputs,
+            wires,
+            current,
+            following,
+            standing,
+            counts,
+            out,
+        );
     }
     false
 }
@@ -43,22 +84,74 @@ fn asking(
     standing: &[u16],
     counts: &[u64],
     list: &mut [u16],
-    out: &mut [u8]
+    out: &mut [u8],
 ) -> bool {
     if letter == b'C' {
-        return calls::ask_calm(components, inputs, outputs, wires, current, following, standing, counts, out);
+        return calls::ask_calm(
+            components,
+            inputs,
+            outputs,
+            wires,
+            current,
+            following,
+            standing,
+            counts,
+            out,
+        );
     }
     if letter == b'I' {
-        return calls::ask_index(components, inputs, outputs, wires, current, following, standing, counts, out);
+        return calls::ask_index(
+            components,
+            inputs,
+            outputs,
+            wires,
+            current,
+            following,
+            standing,
+            counts,
+            out,
+        );
     }
     if letter == b'V' {
-        return calls::ask_value(components, inputs, outputs, wires, current, following, standing, counts, out);
+        return calls::ask_value(
+            components,
+            inputs,
+            outputs,
+            wires,
+            current,
+            following,
+            standing,
+            counts,
+            out,
+        );
     }
     if letter == b'S' {
-        return calls::ask_sources(components, inputs, outputs, wires, current, following, standing, counts, list, out);
+        return calls::ask_sources(
+            components,
+            inputs,
+            outputs,
+            wires,
+            current,
+            following,
+            standing,
+            counts,
+            list,
+            out,
+        );
     }
     if letter == b'T' {
-        return calls::ask_targets(components, inputs, outputs, wires, current, following, standing, counts, list, out);
+        return calls::ask_targets(
+            components,
+            inputs,
+            outputs,
+            wires,
+            current,
+            following,
+            standing,
+            counts,
+            list,
+            out,
+        );
     }
     false
 }
@@ -81,7 +174,7 @@ pub(crate) fn call(
     counts: &mut [u64],
     lent: &[u64],
     file: &mut [u8],
-    out: &mut [u8]
+    out: &mut [u8],
 ) -> bool {
     let c = kept::lending(lent, 0, components.len());
     let i = kept::lending(lent, 1, inputs.len());

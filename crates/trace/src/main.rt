@@ -72,7 +72,18 @@ fn answer(
         return single::evaluate_one(out);
     }
     lent::call(
-        letter, components, inputs, outputs, wires, current, following, standing, counts, lent, file, out,
+        letter,
+        components,
+        inputs,
+        outputs,
+        wires,
+        current,
+        following,
+        standing,
+        counts,
+        lent,
+        file,
+        out,
     )
 }
 

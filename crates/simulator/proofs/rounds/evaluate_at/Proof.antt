@@ -1,0 +1,123 @@
+-- `evaluate_at`: the component's own ports are lent to `update` and put back; a Clock stays in the standing list, any other is struck.
+-- Assumes nothing.
+use mathlib.Core.List.{[]}
+use native.Mathlib.Omega.{arith}
+use Rattle.tables.proofs.RowsLaws.{obeyed-fit}
+use Rattle.simulator.specs.Steps.{bare}
+use Rattle.simulator.proofs.StepsLaws.{lent-inputs, lent-outputs, lent-own, evaluated-clock, evaluated-struck}
+use borrow.Author.Needs.{needs}
+use Rattle.simulator.proofs.rounds.evaluate_at.Statement.{statement}
+use Rattle.simulator.proofs.rounds.evaluate_at.Tie as tie
+use Rattle.simulator.proofs.rounds.evaluate_at.Reads as reads
+use Rattle.simulator.proofs.rounds.evaluate_at.Lts as lts
+use Rattle.primitive.proofs.update.Reads as update-reads
+use Rattle.tables.proofs.strike.Reads as strike-reads
+use Rattle.tables.proofs.fields_at.Reads as fields-at-reads
+use Rattle.tables.proofs.word_of.Reads as word-of-reads
+
+fields-at-requires : tie.Need-fields-at-requires
+fields-at-requires c κs = (omega (arith, c .before .before .before .before .pre .1 .few), obeyed-fit _ (c .before .before .before .before .pre .1 .obeyed))
+
+word-of-requires : tie.Need-word-of-requires
+word-of-requires c κs = search needs
+
+word-of-requires-2 : tie.Need-word-of-requires-2
+word-of-requires-2 c κs = search needs
+
+cast-input-end : tie.Need-cast-input-end
+cast-input-end c = search needs
+
+add-input-end : tie.Need-add-input-end
+add-input-end c = search needs
+
+cast-output-end : tie.Need-cast-output-end
+cast-output-end c = search needs
+
+add-output-end : tie.Need-add-output-end
+add-output-end c = search needs
+
+mul-update : tie.Need-mul-update
+mul-update c = search needs
+
+sub-update : tie.Need-sub-update
+sub-update c = search needs
+
+part-update-start : tie.Need-part-update-start
+part-update-start c = search needs
+
+part-update-end : tie.Need-part-update-end
+part-update-end c =
+    let a = c .before .before .before .before .before .before .before .before .before .args in
+    lent-inputs (bare (a .components .now) []) (a .inputs .now) (a .outputs .now) (a .i) (c .before .before .before .before .before .before .before .before .before .pre .1) _ _ _ (c .before .before .before .before .fields-at .ensures) (c .before .before .before .word-of .ensures) (c .before .before .word-of2 .ensures)
+
+mul-update-2 : tie.Need-mul-update-2
+mul-update-2 c = search needs
+
+sub-update-2 : tie.Need-sub-update-2
+sub-update-2 c = search needs
+
+part-update-start-2 : tie.Need-part-update-start-2
+part-update-start-2 c = search needs
+
+part-update-end-2 : tie.Need-part-update-end-2
+part-update-end-2 c =
+    let a = c .before .before .before .before .before .before .before .before .before .before .args in
+    lent-outputs (bare (a .components .now) []) (a .inputs .now) (a .outputs .now) (a .i) (c .before .before .before .before .before .before .before .before .before .before .pre .1) _ _ _ (c .before .before .before .before .before .fields-at .ensures) (c .before .before .before .before .word-of .ensures) (c .before .before .before .word-of2 .ensures)
+
+update-requires : tie.Need-update-requires
+update-requires c κs =
+    let a = c .before .before .before .before .before .before .before .before .before .before .before .args in
+    lent-own (bare (a .components .now) []) (a .inputs .now) (a .outputs .now) (a .i) (c .before .before .before .before .before .before .before .before .before .before .before .pre .1) _ _ _ (c .before .before .before .before .before .before .fields-at .ensures) (c .before .before .before .before .before .word-of .ensures) (c .before .before .before .before .word-of2 .ensures)
+
+same-length : tie.Need-same-length
+same-length c = search needs
+
+returns : tie.Need-returns
+returns c =
+    let a = c .before .before .before .before .before .before .before .before .before .before .before .before .before .before .before .before .args in
+    evaluated-clock (bare (a .components .now) []) (a .inputs .now) (a .outputs .now) (a .i) (c .before .before .before .before .before .before .before .before .before .before .before .before .before .before .before .before .pre .1) _ _ _ (c .before .before .before .before .before .before .before .before .before .before .before .fields-at .ensures) (c .before .before .before .before .before .before .before .before .before .before .word-of .ensures) (c .before .before .before .before .before .before .before .before .before .word-of2 .ensures) (a .time) (a .count) _ (a .standing .now) (c .before .before .before .before .update .ensures) (c .if1 .taken) (c .before .before .before .before .before .before .before .before .before .before .before .before .before .before .before .before .pre .0)
+
+cast-strike : tie.Need-cast-strike
+cast-strike c = search needs
+
+strike-requires : tie.Need-strike-requires
+strike-requires c κs = search needs
+
+same-length-2 : tie.Need-same-length-2
+same-length-2 c = search needs
+
+same-length-3 : tie.Need-same-length-3
+same-length-3 c = search needs
+
+returns-2 : tie.Need-returns-2
+returns-2 c =
+    let a = c .before .before .before .before .before .before .before .before .before .before .before .before .before .before .before .before .before .before .before .before .args in
+    evaluated-struck (bare (a .components .now) []) (a .inputs .now) (a .outputs .now) (a .i) (c .before .before .before .before .before .before .before .before .before .before .before .before .before .before .before .before .before .before .before .before .pre .1) _ _ _ (c .before .before .before .before .before .before .before .before .before .before .before .before .before .before .before .fields-at .ensures) (c .before .before .before .before .before .before .before .before .before .before .before .before .before .before .word-of .ensures) (c .before .before .before .before .before .before .before .before .before .before .before .before .before .word-of2 .ensures) (a .time) (a .count) _ _ (a .standing .now) _ (c .before .before .before .before .before .before .before .before .update .ensures) (c .before .before .before .before .if1 .left) (c .before .before .strike .ensures .0) (c .before .before .strike .ensures .1)
+
+pub evaluate-at-spec : {M : Type 1} → statement M
+evaluate-at-spec =
+    tie.close
+    (tie.spec
+    fields-at-requires
+    word-of-requires
+    word-of-requires-2
+    cast-input-end
+    add-input-end
+    cast-output-end
+    add-output-end
+    mul-update
+    sub-update
+    part-update-start
+    part-update-end
+    mul-update-2
+    sub-update-2
+    part-update-start-2
+    part-update-end-2
+    update-requires
+    same-length
+    returns
+    cast-strike
+    strike-requires
+    same-length-2
+    same-length-3
+    returns-2)
