@@ -9,7 +9,6 @@ use simulator::Calm;
 use simulator::Index;
 use simulator::Listed;
 use simulator::Port;
-use simulator::Ran;
 use simulator::Side;
 use tables::Answer;
 use tables::Counts;
@@ -158,51 +157,6 @@ pub(crate) fn edit_one(
         number,
     );
     done(out, b"edit", answer, counts);
-    true
-}
-
-// U: run until calm.
-pub(crate) fn run_calm(
-    components: &[u64],
-    inputs: &mut [u64],
-    outputs: &mut [u64],
-    wires: &[u16],
-    current: &mut [u16],
-    following: &mut [u16],
-    standing: &mut [u16],
-    counts: &mut [u64],
-    out: &mut [u8],
-) -> bool {
-    let mut bytes = [0u8; 10];
-    if !input::fill(&mut bytes) {
-        return false;
-    }
-    let time = input::number(&bytes, 0, 8);
-    let limit = (input::number(&bytes, 8, 2) % 65536) as u16;
-    let before = counts_in(counts);
-    let answer = simulator::run_until_calm(
-        components,
-        inputs,
-        outputs,
-        wires,
-        current,
-        following,
-        standing,
-        before,
-        time,
-        limit,
-    );
-    match answer {
-        Ran::Done {
-            counts: new,
-            rounds,
-            evaluations,
-        } => {
-            keep_counts(counts, new);
-            lines::triple(out, b"run", 0, rounds as u64, evaluations as u64);
-        }
-        Ran::Refused(refusal) => lines::triple(out, b"run", refusal.number, 0, 0),
-    }
     true
 }
 

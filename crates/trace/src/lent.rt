@@ -56,19 +56,6 @@ fn changing(
             out,
         );
     }
-    if letter == b'U' {
-        return calls::run_calm(
-            components,
-            inputs,
-            outputs,
-            wires,
-            current,
-            following,
-            standing,
-            counts,
-            out,
-        );
-    }
     false
 }
 
