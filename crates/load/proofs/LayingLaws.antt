@@ -122,8 +122,14 @@ module _ (g : ℕ → List ℕ) (t : List ℕ) where
     -- There is room for what record p gives, if there is for what all of n records give.
     pub laid-room : (n : ℕ) → p < n → length (joined g (from 0 n)) ≤ length t → k + length (g p) ≤ length u
     laid-room n l room =
-        omega (arith, h .place, laid-length, joined-prefix g (p + 1) n (omega arith), ap (λ (l : List ℕ). length l) (joined-snoc g p),
-          length-append (joined g (from 0 p)) (g p))
+        omega (
+          arith,
+          h .place,
+          laid-length,
+          joined-prefix g (p + 1) n (omega arith),
+          ap (λ (l : List ℕ). length l) (joined-snoc g p),
+          length-append (joined g (from 0 p)) (g p),
+        )
 
     pub laid-end : (n : ℕ) → p ≡ n → length (joined g (from 0 n)) ≤ length t → u ≡ overlay (joined g (from 0 n)) t
     laid-end n e room =

@@ -125,7 +125,7 @@ module _ (s : List ℕ) (accepted : verdict s ≡ Accepted) where
           → (u ≡ overlay (standingAtLoad (recordAt s) (recordCount s)) t) × (k .count ≡ length (standingAtLoad (recordAt s) (recordCount s)))
       standing-end e = (
         laid-end _ t p u _ laid (recordCount s) e standing-all
-        ∙ ap (λ (l : List ℕ). overlay l t) (sym (standing-joined (recordAt s) (recordCount s))),
+            ∙ ap (λ (l : List ℕ). overlay l t) (sym (standing-joined (recordAt s) (recordCount s))),
         laid-count _ t p u _ laid (recordCount s) e ∙ ap (λ (l : List ℕ). length l) (sym (standing-joined (recordAt s) (recordCount s))),
       )
 

@@ -93,8 +93,12 @@ module _ (s : List ℕ) (accepted : verdict s ≡ Accepted) where
   module _ (t : List ℕ) (full : 1024 ≤ length t) where
     outputs-all : length (joined (outputsAt (recordAt s)) (from 0 (recordCount s))) ≤ length t
     outputs-all =
-        omega (arith, ap (λ (l : List ℕ). length l) (outputs-joined (recordAt s) (recordCount s) (recordCount s)),
-          starting-before (recordCount s), accepted-outputs-bound s accepted)
+        omega (
+          arith,
+          ap (λ (l : List ℕ). length l) (outputs-joined (recordAt s) (recordCount s) (recordCount s)),
+          starting-before (recordCount s),
+          accepted-outputs-bound s accepted,
+        )
 
     module _ (p : ℕ) (u : List ℕ) (k : ℕ) (laid : Laid (outputsAt (recordAt s)) p t u k) where
       pub outputs-end : p ≡ recordCount s

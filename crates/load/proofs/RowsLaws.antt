@@ -122,7 +122,7 @@ module _ (s : List ℕ) (accepted : verdict s ≡ Accepted) (t : List ℕ) (full
         × (b ≡ beforeAt (recordAt s) (recordCount s) (recordCount s))
     rows-end e = (
       laid-end _ t p u _ laid (recordCount s) e rows-all
-      ∙ ap (λ (l : List ℕ). overlay l t) (sym (rows-joined (recordAt s) (recordCount s) (recordCount s))),
+          ∙ ap (λ (l : List ℕ). overlay l t) (sym (rows-joined (recordAt s) (recordCount s) (recordCount s))),
       eb ∙ ap (beforeAt (recordAt s) (recordCount s)) e,
     )
 

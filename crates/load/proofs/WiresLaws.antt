@@ -239,8 +239,12 @@ module _ (at : ℕ → Record) (n : ℕ) where
 module _ (s : List ℕ) (n : ℕ) (cs lo hi fs : List ℕ) (h : Ready s n cs lo hi fs) (t : List ℕ) (full : 4096 ≤ length t) where
   wires-all : length (joined (wiresGiven (recordAt s) n) (from 0 n)) ≤ length t
   wires-all =
-      omega (arith, wires-length (recordAt s) n, flatWires-bound (recordAt s) n
-      (subst (Passed (recordAt s)) (sym (h .count)) (accepted-passed s (h .accepted))))
+      omega (
+        arith,
+        wires-length (recordAt s) n,
+        flatWires-bound (recordAt s) n
+            (subst (Passed (recordAt s)) (sym (h .count)) (accepted-passed s (h .accepted))),
+      )
 
   module _ (p : ℕ) (u : List ℕ) (k : ℕ) (laid : Laid (wiresGiven (recordAt s) n) p t u k) where
     pub wires-requires : p < n → (p < n) × (k + length (wiresGiven (recordAt s) n p) ≤ length u)

@@ -81,7 +81,6 @@ module _ (at : ℕ → Record) (n : ℕ) where
   abbrev pub rowAt : ℕ → List ℕ
   rowAt p = rowBy (seen (at p)) (beforeAt p)
 
-
   abbrev pub standingAt : ℕ → List ℕ
   standingAt p = standingBy (seen (at p)) (flat at n p)
 

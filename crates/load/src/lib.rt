@@ -116,6 +116,13 @@ pub fn load(
         return Answer::Refused(refusal);
     }
     Answer::Done(fill(
-        file, components, inputs, outputs, wires, current, following, standing,
+        file,
+        components,
+        inputs,
+        outputs,
+        wires,
+        current,
+        following,
+        standing,
     ))
 }

@@ -37,14 +37,7 @@ fn flat_of(file: &[u8], n: usize, indexes: &[u16], c: usize) -> FlatIdx
 }
 
 // Writes the words of a wire.
-fn write_wire(
-    wires: &mut [u16],
-    at: usize,
-    from: FlatIdx,
-    output: u16,
-    to: FlatIdx,
-    input: u16,
-)
+fn write_wire(wires: &mut [u16], at: usize, from: FlatIdx, output: u16, to: FlatIdx, input: u16)
     requires { ⌜ (at + 4 ≤ length (now wires)) × (from .0 < 65536) × (to .0 < 65536) ⌝ }
     ensures { λ _. ⌜ now (wires .exit) ≡ sets (now (wires .entry)) at (wireWords (record { src = record { comp = from .0; port = output }; dst = record { comp = to .0; port = input } })) ⌝ }
 {
@@ -89,7 +82,19 @@ fn lead(
     while q < end {
         if let Entered::To(to, input) = enter(file, n, children, c, i, q) {
             place = lead(
-                file, n, children, lo, hi, indexes, depth - 1, to, input, from, output, wires, place,
+                file,
+                n,
+                children,
+                lo,
+                hi,
+                indexes,
+                depth - 1,
+                to,
+                input,
+                from,
+                output,
+                wires,
+                place,
             );
         }
         q += 1;

@@ -70,9 +70,12 @@ lead-add-result : (t : ℕ) → lead-lts.Need-add-result (lead-claims t) (lead-a
 lead-add-result t c =
     let s = c .before .before .before .before .before .before .before .before .before .before .before .before .before .before .before in
     let a = s .args in
-    omega (arith, lead-room (a .file .now) (a .n) (a .depth) (a .c) (a .i) (a .from .0) (a .output) (a .wires .now) (a .at) _ _
-    (c .before .before .before .before .before .before .before .before .if1 .left) (c .before .before .before .before .before .before .before .record-at .ensures) (c .before .before .before .before .before .before .is-primitive .ensures) (c .before .before .before .before .before .if2 .taken) (s .pre .1 .1 .1),
-    s .good .1 .1 .1 .1 .1 .1 .1 .1 .1 .1 .1 .0)
+    omega (
+      arith,
+      lead-room (a .file .now) (a .n) (a .depth) (a .c) (a .i) (a .from .0) (a .output) (a .wires .now) (a .at) _ _
+          (c .before .before .before .before .before .before .before .before .if1 .left) (c .before .before .before .before .before .before .before .record-at .ensures) (c .before .before .before .before .before .before .is-primitive .ensures) (c .before .before .before .before .before .if2 .taken) (s .pre .1 .1 .1),
+      s .good .1 .1 .1 .1 .1 .1 .1 .1 .1 .1 .1 .0,
+    )
 
 lead-same-length : (t : ℕ) → lead-lts.Need-same-length (lead-claims t) (lead-at t) lead.Post lead-Inv-loop lead-μ-loop
 lead-same-length t c = search needs
