@@ -1,4 +1,10 @@
 pub mod Ports
+pub mod Evaluation
+pub mod Clauses
+pub mod Sound
+pub mod Held
+pub mod Left
+pub mod Kept
 pub mod StepsLaws
 pub mod RoundLaws
 pub mod CallsLaws
