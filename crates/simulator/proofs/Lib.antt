@@ -8,3 +8,4 @@ pub mod Kept
 pub mod StepsLaws
 pub mod RoundLaws
 pub mod CallsLaws
+pub mod RunLaws

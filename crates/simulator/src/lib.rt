@@ -2,6 +2,7 @@
 mod rounds;
 
 pub use rounds::round;
+pub use rounds::run_until_calm;
 
 use component::FlatIdx;
 use primitive::Refusal;
