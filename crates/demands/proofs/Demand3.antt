@@ -28,8 +28,8 @@ use Rattle.loaded.proofs.SameNet.{SameNet, sameNet-refl}
 use Rattle.loaded.proofs.Drawn.{IsDrawn, PrimitiveAt, leads-leave, leads-enter}
 use Rattle.loaded.proofs.Net.{load-checked}
 use Rattle.loaded.proofs.Theorems.{accepted-net, accepted-fullSize, accepted-current, accepted-standing, accepted-following, accepted-drawn, accepted-primitive, accepted-below, accepted-leads-wired}
-use Rattle.quiet.proofs.Clauses.{netNumber-none}
-use Rattle.quiet.proofs.Left.{SameWiring}
+use Rattle.net.proofs.NetLaws.{netNumber-0}
+use Rattle.simulator.proofs.Left.{SameWiring}
 use Rattle.quiet.proofs.Since.{Fresh, Since, started, rounded, edited, since-net, since-wiring}
 use Rattle.quiet.proofs.Obeyed.{Follows as FollowsAt, ObeyedAt, SatisfiedAt, since-obeyed}
 use Rattle.demands.specs.Reached.{Reached, loaded}
@@ -92,7 +92,7 @@ module _ (file : List ℕ) (T : Tables) (bytes : IsBytes file) (a : loadVerdict 
   load-fresh : Fresh L
   load-fresh =
       record {
-        net = netNumber-none L (accepted-fullSize file T a) (accepted-net file T a bytes);
+        net = sym (netNumber-0 L (accepted-fullSize file T a) (accepted-net file T a bytes));
         current = accepted-current file T a;
         following = accepted-following file T a;
         clocks = clock-stands;

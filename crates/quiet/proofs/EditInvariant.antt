@@ -18,10 +18,10 @@ use Rattle.flatten.specs.declared.Wire.{Wire}
 use Rattle.tables.specs.Tables.{Tables, fieldsAt, firstInput, firstOutput, inputPlace, outputPlace, inputsAt, outputsAt, wiresIn}
 use Rattle.simulator.specs.Round.{State, edited}
 use Rattle.simulator.specs.Calls.{driven}
-use Rattle.quiet.proofs.Ports.{numbers-cong}
-use Rattle.quiet.proofs.Evaluation.{is-other}
-use Rattle.quiet.proofs.Sound.{outputsEnd, inputsEnd, Sound}
-use Rattle.quiet.proofs.Held.{Held, Agree}
+use Rattle.simulator.proofs.Ports.{numbers-cong}
+use Rattle.simulator.proofs.Evaluation.{is-other}
+use Rattle.simulator.proofs.Sound.{outputsEnd, inputsEnd, Sound}
+use Rattle.simulator.proofs.Held.{Held, Agree}
 use Rattle.quiet.proofs.Edited.{Editable, driven-none, switched, fed, EditCase, switch, input, edit-case, switch-apart, input-apart}
 use Rattle.quiet.proofs.Invariant.{clocked, Fits, Named, now, next, later, Inv}
 

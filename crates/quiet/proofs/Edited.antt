@@ -24,9 +24,9 @@ use Rattle.tables.specs.Tables.{Tables, fullSize, fieldsAt, firstInput, firstOu
 use Rattle.net.specs.Net.{isNet}
 use Rattle.simulator.specs.Round.{State, edited}
 use Rattle.simulator.specs.Calls.{driven, editNumber}
-use Rattle.quiet.proofs.Evaluation.{is-other, const-outputs, switch-outputs, input-inputs}
-use Rattle.quiet.proofs.Sound.{OutputsBeside, InputsBeside, Sound, outputs-beside, inputs-beside}
-use Rattle.quiet.proofs.Held.{inputFits, outputFits, Held}
+use Rattle.simulator.proofs.Evaluation.{is-other, const-outputs, switch-outputs, input-inputs}
+use Rattle.simulator.proofs.Sound.{OutputsBeside, InputsBeside, Sound, outputs-beside, inputs-beside}
+use Rattle.simulator.proofs.Held.{inputFits, outputFits, Held}
 
 pub record Editable (T : Tables) (i v : ℕ) : Type 0 where
   pub exists : i < T .counts .components

@@ -27,10 +27,10 @@ use Rattle.primitive.specs.Evaluate.{outputsAfter}
 use Rattle.flatten.specs.declared.Wire.{Wire}
 use Rattle.tables.specs.Tables.{Tables, fieldsAt, firstInput, firstOutput, inputPlace, outputPlace, inputsAt, outputsAt, wiresIn}
 use Rattle.simulator.specs.Round.{State, wiresFrom, turn, evaluated, send, visit, round}
-use Rattle.quiet.proofs.Ports.{Off, sets-at-ne, numbers-set, numbers-sets, numbers-sets-same}
-use Rattle.quiet.proofs.Evaluation.{outputsAfter-time, outputsAfter-twice}
-use Rattle.quiet.proofs.Sound.{outputsEnd, OutputsBeside, Sound, outputs-beside, outputs-off, inputs-off, input-room, target-unclocked}
-use Rattle.quiet.proofs.Held.{Held, Order, carried, Agree, written, SendCase, agrees, writes, send-case, made, send-held, made-length, evaluated-held, wiresFrom-in}
+use Rattle.simulator.proofs.Ports.{Off, sets-at-ne, numbers-set, numbers-sets, numbers-sets-same}
+use Rattle.simulator.proofs.Evaluation.{outputsAfter-time, outputsAfter-twice}
+use Rattle.simulator.proofs.Sound.{outputsEnd, OutputsBeside, Sound, outputs-beside, outputs-off, inputs-off, input-room, target-unclocked}
+use Rattle.simulator.proofs.Held.{Held, Order, carried, Agree, written, SendCase, agrees, writes, send-case, made, send-held, made-length, evaluated-held, wiresFrom-in}
 
 -- Component i is a Clock.
 abbrev pub clocked : Tables → ℕ → Bool

@@ -1,55 +1,25 @@
--- Rounds and edits keep a net a net. docs/SPECIFICATION.md, "Rounds" and "Numbers given back".
--- First a round with its wires in any order, then the calls as their contracts describe them, refused ones too.
+-- Edits keep a net a net, as rounds do. docs/SPECIFICATION.md, "Rounds" and "Numbers given back".
+-- First an edit that is made, then the call as its contract describes it, a refused one too.
 -- Assumes nothing.
-use mathlib.Core.Path.{_≡_, refl, ap, _∙_}
-use mathlib.Core.Bool.{Bool, true, false, cond}
-use mathlib.Core.List.{List}
+use mathlib.Core.Path.{_≡_, sym}
+use mathlib.Core.Bool.{true}
 use Prim.Native.Nat.{ℕ}
-use borrow.Author.Tests.{eqb-true, ne-eqb}
-use lib.Dec.{eqb}
-use Rattle.flatten.specs.declared.Wire.{Wire}
-use Rattle.tables.specs.Tables.{Tables, fullSize, wiresIn}
-use Rattle.net.specs.Net.{isNet}
-use Rattle.simulator.specs.Round.{stateOf, leave, round, edited, roundOf}
-use Rattle.net.specs.Net.{netNumber}
-use Rattle.simulator.specs.Calls.{after, roundTables, editNumber, editTables}
-use Rattle.quiet.proofs.Clauses.{netNumber-full, netNumber-net, netNumber-none}
-use Rattle.quiet.proofs.Sound.{Sound, isNet-wiring}
-use Rattle.quiet.proofs.Held.{Held, Order, stored-order, round-held}
+use borrow.Author.Tests.{ne-eqb}
+use Rattle.tables.specs.Tables.{Tables, fullSize}
+use Rattle.net.specs.Net.{isNet, netNumber}
+use Rattle.net.proofs.NetLaws.{netNumber-0}
+use Rattle.simulator.specs.Round.{stateOf, leave, edited}
+use Rattle.simulator.specs.Calls.{editNumber, editTables}
+use Rattle.simulator.proofs.Sound.{Sound, isNet-wiring}
+use Rattle.simulator.proofs.Held.{Held}
+use Rattle.simulator.proofs.Kept.{by-number}
 use Rattle.quiet.proofs.Edited.{Editable, editNumber-full, editNumber-net, editNumber-editable, edited-held}
-use Rattle.quiet.proofs.Left.{SameWiring, SameLengths, sameWiring-none, sameLengths-none, leave-wiring, isNet-held, leave-lengths, fullSize-kept, isNet-kept}
+use Rattle.simulator.proofs.Left.{SameWiring, SameLengths, sameWiring-none, sameLengths-none, leave-wiring, isNet-held, leave-lengths, fullSize-kept, isNet-kept}
 
 -- On a net of full size.
 module _ (T : Tables) (full : fullSize T ≡ true) (net : isNet T ≡ true) where
   sound : Sound T
   sound = isNet-wiring T full net
-
-  -- A round that takes the wires in any order leaves a net of full size.
-  module _ (ws : List Wire) (o : Order T ws) (t : ℕ) where
-    pub round-leaves : Held T (round T ws t (stateOf T))
-    round-leaves = round-held T sound ws o t (stateOf T) (isNet-held T full net)
-
-    pub round-isNet : isNet (leave T (round T ws t (stateOf T))) ≡ true
-    round-isNet = isNet-kept T full net (round T ws t (stateOf T)) round-leaves
-
-    pub round-fullSize : fullSize (leave T (round T ws t (stateOf T))) ≡ true
-    round-fullSize = fullSize-kept T full net (round T ws t (stateOf T)) round-leaves
-
-    pub round-lengths : SameLengths T (leave T (round T ws t (stateOf T)))
-    round-lengths = leave-lengths T full net (round T ws t (stateOf T)) round-leaves
-
-  -- In particular in stored order.
-  pub roundOf-isNet : (t : ℕ) → isNet (roundOf t T) ≡ true
-  unfolding roundOf
-  roundOf-isNet t = round-isNet (wiresIn T) (stored-order T) t
-
-  pub roundOf-fullSize : (t : ℕ) → fullSize (roundOf t T) ≡ true
-  unfolding roundOf
-  roundOf-fullSize t = round-fullSize (wiresIn T) (stored-order T) t
-
-  pub roundOf-lengths : (t : ℕ) → SameLengths T (roundOf t T)
-  unfolding roundOf
-  roundOf-lengths t = round-lengths (wiresIn T) (stored-order T) t
 
   -- An edit that is not refused leaves a net of full size.
   module _ (i v : ℕ) (ok : Editable T i v) where
@@ -65,46 +35,22 @@ module _ (T : Tables) (full : fullSize T ≡ true) (net : isNet T ≡ true) wher
     pub edited-lengths : SameLengths T (leave T (edited T i v (stateOf T)))
     edited-lengths = leave-lengths T full net (edited T i v (stateOf T)) edited-leaves
 
--- A call either is not refused, and its tables are the new ones, or it is, and they are the old ones.
-by-number : (P : Tables → Type 0) (k : ℕ) (new old : Tables) → (k ≡ 0 → P new) → P old → P (after k new old)
-by-number P k new old f g = by-test (eqb k 0) refl
-  where
-    by-test : (b : Bool) → eqb k 0 ≡ b → P (cond b new old)
-    by-test true e = f (eqb-true k 0 e)
-    by-test false e = g
-
--- The tables after a round that is not refused.
-pub roundTables-done : (T : Tables) (t : ℕ) → netNumber T ≡ 0 → roundTables T t ≡ roundOf t T
-unfolding roundTables
-roundTables-done T t e = rw e
-
 -- The tables after an edit that is not refused.
 pub editTables-done : (T : Tables) (i v : ℕ) → editNumber T i v ≡ 0
     → editTables T i v ≡ leave T (edited T i v (stateOf T))
 unfolding editTables
 editTables-done T i v e = rw e
 
--- A refused round and a refused edit change no table.
-pub roundTables-refused : (T : Tables) (t : ℕ) → (netNumber T ≡ 0 → ⊥) → roundTables T t ≡ T
-unfolding roundTables
-roundTables-refused T t e = rw (ne-eqb (netNumber T) 0 e)
-
+-- A refused edit changes no table.
 pub editTables-refused : (T : Tables) (i v : ℕ) → (editNumber T i v ≡ 0 → ⊥) → editTables T i v ≡ T
 unfolding editTables
 editTables-refused T i v e = rw (ne-eqb (editNumber T i v) 0 e)
 
 -- An edit of tables that are a net is judged by its own checks: where it is not refused, neither 2 nor 16 was given.
 pub editNumber-netNumber : (T : Tables) (i v : ℕ) → editNumber T i v ≡ 0 → netNumber T ≡ 0
-editNumber-netNumber T i v e = netNumber-none T (editNumber-full T i v e) (editNumber-net T i v e)
+editNumber-netNumber T i v e = sym (netNumber-0 T (editNumber-full T i v e) (editNumber-net T i v e))
 
--- Any round, refused or not, of any tables leaves components and wires as they were, and their counts.
-pub roundTables-wiring : (T : Tables) (t : ℕ) → SameWiring T (roundTables T t)
-unfolding roundTables roundOf
-roundTables-wiring T t =
-    by-number (SameWiring T) (netNumber T) (roundOf t T) T (λ e. leave-wiring T (round T (wiresIn T) t (stateOf T)))
-    (sameWiring-none T)
-
--- So does any edit.
+-- Any edit, refused or not, of any tables leaves components and wires as they were, and their counts.
 pub editTables-wiring : (T : Tables) (i v : ℕ) → SameWiring T (editTables T i v)
 unfolding editTables
 editTables-wiring T i v =
@@ -112,27 +58,13 @@ editTables-wiring T i v =
     (λ e. leave-wiring T (edited T i v (stateOf T)))
     (sameWiring-none T)
 
--- No call changes the length of a table.
-pub roundTables-lengths : (T : Tables) (t : ℕ) → SameLengths T (roundTables T t)
-unfolding roundTables
-roundTables-lengths T t =
-    by-number (SameLengths T) (netNumber T) (roundOf t T) T
-    (λ e. roundOf-lengths T (netNumber-full T e) (netNumber-net T e) t) (sameLengths-none T)
-
+-- No edit changes the length of a table.
 pub editTables-lengths : (T : Tables) (i v : ℕ) → SameLengths T (editTables T i v)
 unfolding editTables
 editTables-lengths T i v =
     by-number (SameLengths T) (editNumber T i v) (leave T (edited T i v (stateOf T))) T
     (λ e. edited-lengths T (editNumber-full T i v e) (editNumber-net T i v e) i v (editNumber-editable T i v e))
     (sameLengths-none T)
-
--- A round of a net leaves a net: the next call is given neither 2 nor 16.
-pub roundTables-net : (T : Tables) (t : ℕ) → netNumber T ≡ 0 → netNumber (roundTables T t) ≡ 0
-roundTables-net T t e =
-    let f = netNumber-full T e in
-    let n = netNumber-net T e in
-    ap netNumber (roundTables-done T t e)
-    ∙ netNumber-none (roundOf t T) (roundOf-fullSize T f n t) (roundOf-isNet T f n t)
 
 -- An edit of a net, refused or not, leaves a net.
 pub editTables-net : (T : Tables) (i v : ℕ) → netNumber T ≡ 0 → netNumber (editTables T i v) ≡ 0
@@ -142,4 +74,4 @@ editTables-net T i v e =
     (λ q. let f = editNumber-full T i v q in
     let n = editNumber-net T i v q in
     let ok = editNumber-editable T i v q in
-    netNumber-none (leave T (edited T i v (stateOf T))) (edited-fullSize T f n i v ok) (edited-isNet T f n i v ok)) e
+    sym (netNumber-0 (leave T (edited T i v (stateOf T))) (edited-fullSize T f n i v ok) (edited-isNet T f n i v ok))) e

@@ -21,13 +21,13 @@ use Rattle.primitive.specs.Kinds.{is}
 use Rattle.primitive.specs.Evaluate.{functionOf}
 use Rattle.flatten.specs.declared.Wire.{Wire}
 use Rattle.tables.specs.Tables.{Tables, fieldsAt, firstOutput, inputPlace, outputPlace, numbers, inputsAt, outputsAt, wiresIn, currentList, followingList, standingList, named}
-use Rattle.simulator.specs.Round.{stateOf}
 use Rattle.net.specs.Net.{netNumber}
-use Rattle.quiet.proofs.Evaluation.{const-outputs, outputsAfter-function, functionOf-const}
-use Rattle.quiet.proofs.Clauses.{netNumber-full, netNumber-net}
-use Rattle.quiet.proofs.Sound.{Sound, isNet-wiring}
-use Rattle.quiet.proofs.Held.{Held, Agree}
-use Rattle.quiet.proofs.Left.{isNet-held}
+use Rattle.net.proofs.NetLaws.{netNumber-full, netNumber-isNet}
+use Rattle.simulator.specs.Round.{stateOf}
+use Rattle.simulator.proofs.Evaluation.{const-outputs, outputsAfter-function, functionOf-const}
+use Rattle.simulator.proofs.Sound.{Sound, isNet-wiring}
+use Rattle.simulator.proofs.Held.{Held, Agree}
+use Rattle.simulator.proofs.Left.{isNet-held}
 use Rattle.quiet.proofs.Invariant.{clocked, Fits, Named, now, next, later}
 use Rattle.quiet.proofs.Since.{Fresh, Since, Unbroken, since-net, since-unbroken}
 
@@ -86,10 +86,10 @@ numbers-one l a k e h =
 
 module _ (T : Tables) (ran : Bool) (t : ℕ) (e : netNumber T ≡ 0) (a : Unbroken T ran t) where
   g : Sound T
-  g = isNet-wiring T (netNumber-full T e) (netNumber-net T e)
+  g = isNet-wiring T (netNumber-full T e) (netNumber-isNet T e)
 
   held : Held T (stateOf T)
-  held = isNet-held T (netNumber-full T e) (netNumber-net T e)
+  held = isNet-held T (netNumber-full T e) (netNumber-isNet T e)
 
   -- A component that an evaluation would leave as it is follows its function, a Switch aside.
   fits-follows : (i : ℕ) → i < T .counts .components → is Switch (fieldsAt T i) ≡ false → Fits T t (stateOf T) i

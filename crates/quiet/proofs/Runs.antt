@@ -5,11 +5,11 @@ use mathlib.Core.Bool.{Bool, true, false, cond}
 use Prim.Native.Nat.{ℕ, zero, suc}
 use lib.Dec.{eqb}
 use Rattle.tables.specs.Tables.{Tables}
-use Rattle.simulator.specs.Round.{calm}
 use Rattle.net.specs.Net.{netNumber}
+use Rattle.simulator.specs.Round.{calm}
 use Rattle.simulator.specs.Calls.{roundTables, run, runTables}
-use Rattle.quiet.proofs.Left.{SameWiring, SameLengths, sameWiring-none, sameWiring-more, sameLengths-none, sameLengths-more}
-use Rattle.quiet.proofs.Kept.{roundTables-wiring, roundTables-lengths, roundTables-net}
+use Rattle.simulator.proofs.Left.{SameWiring, SameLengths, sameWiring-none, sameWiring-more, sameLengths-none, sameLengths-more}
+use Rattle.simulator.proofs.Kept.{roundTables-wiring, roundTables-lengths, roundTables-net}
 use Rattle.quiet.proofs.Since.{Since, rounded}
 
 -- What every round at time t hands on, so many of them hand on.

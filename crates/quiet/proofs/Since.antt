@@ -14,15 +14,16 @@ use Rattle.primitive.specs.declared.kinds.Kind.the-variants.{Clock}
 use Rattle.primitive.specs.Kinds.{is}
 use Rattle.flatten.specs.declared.Wire.{Wire}
 use Rattle.tables.specs.Tables.{Tables, fieldsAt, wiresIn, currentList, followingList, standingList}
-use Rattle.simulator.specs.Round.{State, stateOf, leave, round, edited as editedState, roundOf}
 use Rattle.net.specs.Net.{netNumber}
+use Rattle.net.proofs.NetLaws.{netNumber-full, netNumber-isNet}
+use Rattle.simulator.specs.Round.{State, stateOf, leave, round, edited as editedState, roundOf}
 use Rattle.simulator.specs.Calls.{roundTables, editNumber, editTables}
-use Rattle.quiet.proofs.Clauses.{netNumber-full, netNumber-net}
-use Rattle.quiet.proofs.Sound.{isNet-wiring}
-use Rattle.quiet.proofs.Held.{Order, stored-order}
+use Rattle.simulator.proofs.Sound.{isNet-wiring}
+use Rattle.simulator.proofs.Held.{Order, stored-order}
 use Rattle.quiet.proofs.Edited.{editNumber-full, editNumber-net, editNumber-editable}
-use Rattle.quiet.proofs.Left.{SameWiring, SameLengths, sameWiring-none, sameWiring-more, sameLengths-none, sameLengths-more, stateOf-leave, isNet-held}
-use Rattle.quiet.proofs.Kept.{edited-leaves, roundTables-wiring, editTables-wiring, roundTables-lengths, editTables-lengths, roundTables-net, editTables-net}
+use Rattle.simulator.proofs.Left.{SameWiring, SameLengths, sameWiring-none, sameWiring-more, sameLengths-none, sameLengths-more, stateOf-leave, isNet-held}
+use Rattle.simulator.proofs.Kept.{roundTables-wiring, roundTables-lengths, roundTables-net}
+use Rattle.quiet.proofs.Kept.{edited-leaves, editTables-wiring, editTables-lengths, editTables-net}
 use Rattle.quiet.proofs.Invariant.{Inv, round-inv, start-inv}
 use Rattle.quiet.proofs.EditInvariant.{edited-inv}
 
@@ -64,7 +65,7 @@ leave-unbroken T ran t s a =
 -- It holds as a load leaves the tables.
 pub fresh-unbroken : (T : Tables) → Fresh T → Unbroken T false 0
 fresh-unbroken T f =
-    start-inv T 0 (stateOf T) (isNet-wiring T (netNumber-full T (f .net)) (netNumber-net T (f .net)))
+    start-inv T 0 (stateOf T) (isNet-wiring T (netNumber-full T (f .net)) (netNumber-isNet T (f .net)))
     (λ i h. subst (λ (l : List ℕ). In i l) (sym (f .current)) (from0-complete (T .counts .components) i h))
     (λ i h e. subst (λ (l : List ℕ). In i l) (sym (f .following)) (has-sound i (standingList T) (f .clocks i h e)))
     (λ i h e. has-sound i (standingList T) (f .clocks i h e))
@@ -75,7 +76,7 @@ pub round-unbroken : (T : Tables) (ws : List Wire) → Order T ws → (ran : Boo
     → Unbroken (leave T (round T ws u (stateOf T))) true u
 round-unbroken T ws o ran t u e a =
     let f = netNumber-full T e in
-    let n = netNumber-net T e in
+    let n = netNumber-isNet T e in
     leave-unbroken T true u (round T ws u (stateOf T))
     (round-inv T (isNet-wiring T f n) ws o u ran t (stateOf T) (isNet-held T f n) a)
 

@@ -17,12 +17,13 @@ use Rattle.primitive.specs.declared.kinds.Kind.the-variants.{Clock}
 use Rattle.primitive.specs.Kinds.{is}
 use Rattle.flatten.specs.declared.Wire.{Wire}
 use Rattle.tables.specs.Tables.{Tables, fieldsAt, wiresIn, currentList, followingList, standingList}
-use Rattle.simulator.specs.Round.{State, stateOf, leave, wiresFrom, evaluated, send, visit, round, edited, roundOf}
 use Rattle.net.specs.Net.{netNumber}
+use Rattle.simulator.specs.Round.{State, stateOf, leave, wiresFrom, evaluated, send, visit, round, edited, roundOf}
 use Rattle.simulator.specs.Calls.{roundTables, editNumber, editTables}
-use Rattle.quiet.proofs.Held.{written, SendCase, agrees, writes, send-case}
-use Rattle.quiet.proofs.Left.{stateOf-leave}
-use Rattle.quiet.proofs.Kept.{roundTables-done, editTables-done, editNumber-netNumber, roundTables-net, editTables-net}
+use Rattle.simulator.proofs.Held.{written, SendCase, agrees, writes, send-case}
+use Rattle.simulator.proofs.Left.{stateOf-leave}
+use Rattle.simulator.proofs.Kept.{roundTables-done, roundTables-net}
+use Rattle.quiet.proofs.Kept.{editTables-done, editNumber-netNumber, editTables-net}
 
 -- Within a round.
 module _ (T : Tables) (x : ℕ) where

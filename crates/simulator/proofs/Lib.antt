@@ -2,6 +2,13 @@ pub mod EndsLaws
 pub mod QuestionsLaws
 pub mod EditsLaws
 pub mod Ports
+pub mod Evaluation
+pub mod Clauses
+pub mod Sound
+pub mod Held
+pub mod Left
+pub mod Kept
 pub mod StepsLaws
 pub mod RoundLaws
 pub mod CallsLaws
+pub mod RunLaws

@@ -1,15 +1,14 @@
--- A component's ports in a table of ports: k numbers from a place. What a store elsewhere leaves, and what a store to them is.
+-- A component's ports in a table, k numbers from a place: a store elsewhere leaves them, a store there is them.
 --   Off a k j   j is none of the k places from a
 -- Assumes nothing.
-use mathlib.Core.Path.{_≡_, refl, sym, ap, _∙_, subst}
+use mathlib.Core.Path.{_≡_, refl, sym, ap, _∙_}
 use mathlib.Core.Logic.{_⊎_, inl, inr}
-use mathlib.Core.Bool.{Bool, true, false}
+use mathlib.Core.Bool.{true}
 use mathlib.Core.List.{List, [], _∷_}
 use Prim.Native.Nat.{ℕ, zero, suc, _+_, _-_, _≤_, _<_}
 use native.Mathlib.Omega.{arith}
-use lib.ListN.{length, getD, take, drop, set, length-set, length-drop}
-use lib.Seq.{sets, length-sets, getD-set-same, getD-set-other, getD-take, getD-drop, length-take-le, length-slice, ext-getD}
-use Rattle.lists.specs.Lists.{every}
+use lib.ListN.{length, getD, take, set, length-set}
+use lib.Seq.{sets, length-sets, getD-set-same, getD-set-other, getD-take, getD-drop, length-slice, ext-getD}
 use Rattle.lists.proofs.MembersLaws.{In, in-getD, getD-in, every-sound, every-complete}
 use Rattle.value.specs.Value.{below}
 use Rattle.primitive.proofs.FitLaws.{allBelow}
@@ -22,10 +21,13 @@ Off a k j = (j < a) ⊎ (a + k ≤ j)
 -- A run of stores leaves every other place, and holds what was stored at its own.
 pub sets-at-ne : (vs l : List ℕ) (i j : ℕ) → Off i (length vs) j → getD (sets l i vs) j 0 ≡ getD l j 0
 sets-at-ne [] l i j h = refl
-sets-at-ne (v ∷ vs) l i j (inl h) = sets-at-ne vs (set l i v) (suc i) j (inl (omega arith)) ∙ getD-set-other l i j v 0 (omega arith)
-sets-at-ne (v ∷ vs) l i j (inr h) = sets-at-ne vs (set l i v) (suc i) j (inr (omega arith)) ∙ getD-set-other l i j v 0 (omega arith)
+sets-at-ne (v ∷ vs) l i j (inl h) = sets-at-ne vs (set l i v) (suc i) j (inl (omega arith))
+    ∙ getD-set-other l i j v 0 (omega arith)
+sets-at-ne (v ∷ vs) l i j (inr h) = sets-at-ne vs (set l i v) (suc i) j (inr (omega arith))
+    ∙ getD-set-other l i j v 0 (omega arith)
 
-pub sets-at : (vs l : List ℕ) (i j : ℕ) → i + length vs ≤ length l → j < length vs → getD (sets l i vs) (i + j) 0 ≡ getD vs j 0
+pub sets-at : (vs l : List ℕ) (i j : ℕ) → i + length vs ≤ length l → j < length vs
+    → getD (sets l i vs) (i + j) 0 ≡ getD vs j 0
 sets-at [] l i j h u = absurd (omega arith)
 sets-at (v ∷ vs) l i zero h u =
     let e : i + zero ≡ i = omega arith in
@@ -75,7 +77,8 @@ numbers-cong l m a k h u f =
 -- A store to another place leaves them.
 pub numbers-set : (l : List ℕ) (a k j v : ℕ) → a + k ≤ length l → Off a k j → numbers (set l j v) a k ≡ numbers l a k
 numbers-set l a k j v h o =
-    numbers-cong (set l j v) l a k (omega (arith, length-set l j v)) h (λ i u. getD-set-other l j (a + i) v 0 (apart o i u))
+    numbers-cong (set l j v) l a k (omega (arith, length-set l j v)) h
+    (λ i u. getD-set-other l j (a + i) v 0 (apart o i u))
   where
     apart : Off a k j → (i : ℕ) → i < k → a + i ≡ j → ⊥
     apart (inl q) i u e = omega arith
@@ -85,14 +88,16 @@ numbers-set l a k j v h o =
 pub numbers-sets : (l : List ℕ) (a k i : ℕ) (vs : List ℕ) → a + k ≤ length l → (i + length vs ≤ a) ⊎ (a + k ≤ i)
     → numbers (sets l i vs) a k ≡ numbers l a k
 numbers-sets l a k i vs h o =
-    numbers-cong (sets l i vs) l a k (omega (arith, length-sets l i vs)) h (λ j u. sets-at-ne vs l i (a + j) (apart o j u))
+    numbers-cong (sets l i vs) l a k (omega (arith, length-sets l i vs)) h
+    (λ j u. sets-at-ne vs l i (a + j) (apart o j u))
   where
     apart : (i + length vs ≤ a) ⊎ (a + k ≤ i) → (j : ℕ) → j < k → Off i (length vs) (a + j)
     apart (inl q) j u = inr (omega arith)
     apart (inr q) j u = inl (omega arith)
 
 -- A run of stores to them is what was stored.
-pub numbers-sets-same : (l : List ℕ) (a k : ℕ) (vs : List ℕ) → length vs ≡ k → a + k ≤ length l → numbers (sets l a vs) a k ≡ vs
+pub numbers-sets-same : (l : List ℕ) (a k : ℕ) (vs : List ℕ) → length vs ≡ k → a + k ≤ length l
+    → numbers (sets l a vs) a k ≡ vs
 numbers-sets-same l a k vs e h =
     ext-getD 0 (numbers (sets l a vs) a k) vs (numbers-length (sets l a vs) a k room ∙ sym e) each
   where

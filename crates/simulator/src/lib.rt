@@ -12,6 +12,7 @@ pub use questions::sources_of;
 pub use questions::targets_of;
 pub use questions::value_of;
 pub use rounds::round;
+pub use rounds::run_until_calm;
 use tables::Counts;
 use value::Value;
 

@@ -7,8 +7,9 @@ ghost use lib.ListN.{length, take};
 ghost use Rattle.tables.specs.Tables.{tablesOf, wireAt, wiresIn};
 ghost use Rattle.net.specs.Net.{netNumber};
 ghost use Rattle.simulator.specs.Round.{wiresFrom, turn, leave, send, evaluated, visit, calm, roundOf};
-ghost use Rattle.simulator.specs.Calls.{roundAnswer, roundTables};
+ghost use Rattle.simulator.specs.Calls.{roundAnswer, roundTables, run, runAnswer, runTables};
 ghost use Rattle.simulator.specs.Steps.{bare, wiring, stateAt, Evaluates, Sends, Runs, Listed, Step, Visited};
+use crate::Ran;
 use primitive::Refusal;
 use tables::Answer;
 use tables::Counts;
@@ -304,4 +305,105 @@ fn is_calm(components: &[u64], current: &[u16], counts: Counts) -> bool
         k += 1;
     }
     true
+}
+
+// What a run comes to.
+struct Run {
+    counts: Counts,
+    rounds: u16,
+    evaluations: u32,
+}
+
+// Rounds of a net, one after the other, at most `limit` of them, until the first that leaves calm.
+fn net_run(
+    components: &[u64],
+    inputs: &mut [u64],
+    outputs: &mut [u64],
+    wires: &[u16],
+    current: &mut [u16],
+    following: &mut [u16],
+    standing: &mut [u16],
+    counts: Counts,
+    time: u64,
+    limit: u16,
+) -> Run
+    requires { ⌜ netNumber (tablesOf (now components) (now inputs) (now outputs) (now wires) (now current) (now following) (now standing) counts) ≡ 0 ⌝ }
+    ensures { λ r. ⌜ record { tables = tablesOf (now (components .entry)) (now (inputs .exit)) (now (outputs .exit)) (now (wires .entry)) (now (current .exit)) (now (following .exit)) (now (standing .exit)) (r .counts); rounds = r .rounds; evaluations = r .evaluations } ≡ run limit time (tablesOf (now (components .entry)) (now (inputs .entry)) (now (outputs .entry)) (now (wires .entry)) (now (current .entry)) (now (following .entry)) (now (standing .entry)) counts) ⌝ }
+{
+    let mut reached = counts;
+    let mut rounds: u16 = 0;
+    let mut evaluations: u32 = 0;
+    let mut calm = false;
+    while !calm & (rounds < limit) {
+        evaluations += reached.current as u32;
+        reached = net_round(
+            components,
+            inputs,
+            outputs,
+            wires,
+            current,
+            following,
+            standing,
+            reached,
+            time,
+        );
+        rounds += 1;
+        calm = is_calm(components, current, reached);
+    }
+    Run {
+        counts: reached,
+        rounds,
+        evaluations,
+    }
+}
+
+// Run until calm, on any tables and counts, with a time and a limit of rounds: 2, 16.
+pub fn run_until_calm(
+    components: &[u64],
+    inputs: &mut [u64],
+    outputs: &mut [u64],
+    wires: &[u16],
+    current: &mut [u16],
+    following: &mut [u16],
+    standing: &mut [u16],
+    counts: Counts,
+    time: u64,
+    limit: u16,
+) -> Ran
+    ensures { λ r. ⌜ (r ≡ runAnswer (tablesOf (now (components .entry)) (now (inputs .entry)) (now (outputs .entry)) (now (wires .entry)) (now (current .entry)) (now (following .entry)) (now (standing .entry)) counts) time limit) × (tablesOf (now (components .entry)) (now (inputs .exit)) (now (outputs .exit)) (now (wires .entry)) (now (current .exit)) (now (following .exit)) (now (standing .exit)) (runTables (tablesOf (now (components .entry)) (now (inputs .entry)) (now (outputs .entry)) (now (wires .entry)) (now (current .entry)) (now (following .entry)) (now (standing .entry)) counts) time limit .counts) ≡ runTables (tablesOf (now (components .entry)) (now (inputs .entry)) (now (outputs .entry)) (now (wires .entry)) (now (current .entry)) (now (following .entry)) (now (standing .entry)) counts) time limit) ⌝ }
+{
+    let number = net::net_number(
+        components,
+        inputs,
+        outputs,
+        wires,
+        current,
+        following,
+        standing,
+        counts,
+    );
+    if number != 0 {
+        return Ran::Refused(Refusal {
+            number,
+            position: 0,
+        });
+    }
+    let made = net_run(
+        components,
+        inputs,
+        outputs,
+        wires,
+        current,
+        following,
+        standing,
+        counts,
+        time,
+        limit,
+    );
+    let reached = made.counts;
+    Ran::Done {
+        counts: reached,
+        rounds: made.rounds,
+        evaluations: made.evaluations,
+    }
 }

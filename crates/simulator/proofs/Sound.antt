@@ -19,10 +19,12 @@ use Rattle.primitive.specs.declared.kinds.Kind.the-variants.{Clock}
 use Rattle.primitive.specs.Kinds.{is, primitive, obeys, inputWidth, outputWidth}
 use Rattle.flatten.specs.declared.Wire.{Wire}
 use Rattle.tables.specs.Tables.{Tables, fullSize, fieldsAt, firstInput, firstOutput, inputPlace, outputPlace, indexes, wiresIn}
+use Rattle.tables.proofs.SizesLaws.{Full, fullSize-sound}
 use Rattle.net.specs.Net.{kindsObeyed, inputsBelow, outputsBelow, portsFollow, isOutput, isInput, wiresFit, inputsOnce, isNet}
-use Rattle.quiet.proofs.Ports.{Off}
-use Rattle.quiet.proofs.Evaluation.{clock-inputs}
-use Rattle.quiet.proofs.Clauses.{Sizes, fullSize-sound, Few, countsWithin-sound, Clauses, isNet-sound}
+use Rattle.net.proofs.ClausesLaws.{Within, countsWithin-sound}
+use Rattle.net.proofs.NetLaws.{Net, isNet-sound}
+use Rattle.simulator.proofs.Ports.{Off}
+use Rattle.simulator.proofs.Evaluation.{clock-inputs}
 
 -- Where the outputs of component i end in their table, and its inputs in theirs.
 abbrev pub outputsEnd : Tables → ℕ → ℕ
@@ -58,13 +60,13 @@ module _ (T : Tables) (full : fullSize T ≡ true) (net : isNet T ≡ true) wher
   abbrev n : ℕ
   n = T .counts .components
 
-  sizes : Sizes T
+  sizes : Full T
   sizes = fullSize-sound T full
 
-  clauses : Clauses T
+  clauses : Net T
   clauses = isNet-sound T net
 
-  counts : Few (T .counts)
+  counts : Within (T .counts)
   counts = countsWithin-sound (T .counts) (clauses .counts)
 
   abbrev placed : ℕ → Bool
@@ -148,7 +150,7 @@ module _ (T : Tables) (full : fullSize T ≡ true) (net : isNet T ≡ true) wher
         widths = λ w h. eqb-true (outputWidth (fieldsAt T (w .src .comp))) (inputWidth (fieldsAt T (w .dst .comp)))
             (and-right (isOutput T (w .src) && isInput T (w .dst)) (same w) (each-fit w h));
         once = λ w x h l e. distinct-key (λ (v : Wire). inputPlace T (v .dst)) (wiresIn T) w x
-            (distinct-sound (map (λ (v : Wire). inputPlace T (v .dst)) (wiresIn T)) (clauses .inputs)) h l e;
+            (distinct-sound (map (λ (v : Wire). inputPlace T (v .dst)) (wiresIn T)) (clauses .once)) h l e;
       }
 
 -- Where ports of two components stand.

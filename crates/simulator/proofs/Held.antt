@@ -25,10 +25,10 @@ use Rattle.primitive.specs.Evaluate.{outputsAfter, Own}
 use Rattle.primitive.proofs.FitLaws.{outputsAfter-length, outputsAfter-fits}
 use Rattle.flatten.specs.declared.Wire.{Wire}
 use Rattle.tables.specs.Tables.{Tables, fieldsAt, firstInput, firstOutput, inputPlace, outputPlace, inputsAt, outputsAt, wiresIn}
 use Rattle.simulator.specs.Round.{State, wiresFrom, evaluated, send, visit, round}
-use Rattle.quiet.proofs.Ports.{Off, sets-at-ne, sets-at, numbers-length, numbers-at, numbers-fit}
-use Rattle.quiet.proofs.Evaluation.{const-outputs, outputsAfter-const}
-use Rattle.quiet.proofs.Sound.{outputsEnd, inputsEnd, OutputsBeside, Sound, outputs-beside, inputs-off, input-room}
+use Rattle.simulator.proofs.Ports.{Off, sets-at-ne, sets-at, numbers-length, numbers-at, numbers-fit}
+use Rattle.simulator.proofs.Evaluation.{const-outputs, outputsAfter-const}
+use Rattle.simulator.proofs.Sound.{outputsEnd, inputsEnd, OutputsBeside, Sound, outputs-beside, inputs-off, input-room}
 
 -- Input j of component i fits its width in a table of inputs; output j does in one of outputs.
 abbrev pub inputFits : Tables → List ℕ → ℕ → ℕ → Bool

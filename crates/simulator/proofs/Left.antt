@@ -19,12 +19,15 @@ use Rattle.primitive.specs.Kinds.{is, inputWidth, outputWidth}
 use Rattle.flatten.specs.declared.Wire.{Wire}
 use Rattle.flatten.specs.Descent.{pin}
 use Rattle.tables.specs.Tables.{Tables, fullSize, fieldsAt, firstInput, firstOutput, inputsAt, outputsAt, indexes, wiresIn, currentList, followingList, standingList}
+use Rattle.tables.proofs.SizesLaws.{Full, fullSize-sound}
 use Rattle.net.specs.Net.{countsWithin, kindsObeyed, idsDistinct, portsFollow, valuesFit, constsHeld, wiresFit, inputsOnce, names, isNet}
+use Rattle.net.proofs.ClausesLaws.{Within, countsWithin-sound}
+use Rattle.net.proofs.NetLaws.{Net, isNet-sound, isNet-complete}
 use Rattle.simulator.specs.Round.{State, stateOf, leave}
-use Rattle.quiet.proofs.Ports.{numbers-fit-at, numbers-fit}
-use Rattle.quiet.proofs.Clauses.{Sizes, fullSize-sound, fullSize-complete, Few, countsWithin-sound, countsWithin-complete, Clauses, isNet-sound, isNet-complete}
-use Rattle.quiet.proofs.Sound.{Sound, isNet-wiring}
-use Rattle.quiet.proofs.Held.{Held}
+use Rattle.simulator.proofs.Ports.{numbers-fit-at, numbers-fit}
+use Rattle.simulator.proofs.Clauses.{fullSize-complete, countsWithin-complete}
+use Rattle.simulator.proofs.Sound.{Sound, isNet-wiring}
+use Rattle.simulator.proofs.Held.{Held}
 
 -- The state that was left is the state that is found.
 pub stateOf-leave : (T : Tables) (s : State) → stateOf (leave T s) ≡ s
@@ -166,7 +169,7 @@ module _ (T : Tables) (full : fullSize T ≡ true) (net : isNet T ≡ true) wher
   abbrev n : ℕ
   n = T .counts .components
 
-  clauses : Clauses T
+  clauses : Net T
   clauses = isNet-sound T net
 
   sound : Sound T
@@ -221,10 +224,10 @@ module _ (T : Tables) (full : fullSize T ≡ true) (net : isNet T ≡ true) wher
 
   -- Tables in which a state that the net may have is left.
   module _ (s : State) (a : Held T s) where
-    sizes : Sizes T
+    sizes : Full T
     sizes = fullSize-sound T full
 
-    few : Few (T .counts)
+    few : Within (T .counts)
     few = countsWithin-sound (T .counts) (clauses .counts)
 
     short : (xs : List ℕ) → Names n xs → length xs ≤ 256
@@ -332,7 +335,7 @@ module _ (T : Tables) (full : fullSize T ≡ true) (net : isNet T ≡ true) wher
           values = valuesFit-kept;
           consts = constsHeld-kept;
           wires = wiresFit-kept T s ∙ clauses .wires;
-          inputs = inputsOnce-kept T s ∙ clauses .inputs;
+          once = inputsOnce-kept T s ∙ clauses .once;
           current = current-kept;
           following = following-kept;
           standing = standing-kept;

@@ -1,0 +1,90 @@
+-- Rounds keep a net a net. docs/SPECIFICATION.md, "Rounds" and "Numbers given back".
+-- First a round with its wires in any order, then the call, a refused one too.
+-- Assumes nothing.
+use mathlib.Core.Path.{_≡_, refl, sym, ap, _∙_}
+use mathlib.Core.Bool.{Bool, true, false, cond}
+use mathlib.Core.List.{List}
+use Prim.Native.Nat.{ℕ}
+use borrow.Author.Tests.{eqb-true, ne-eqb}
+use lib.Dec.{eqb}
+use Rattle.flatten.specs.declared.Wire.{Wire}
+use Rattle.tables.specs.Tables.{Tables, fullSize, wiresIn}
+use Rattle.net.specs.Net.{isNet, netNumber}
+use Rattle.net.proofs.NetLaws.{netNumber-full, netNumber-isNet, netNumber-0}
+use Rattle.simulator.specs.Round.{stateOf, leave, round, roundOf}
+use Rattle.simulator.specs.Calls.{after, roundTables}
+use Rattle.simulator.proofs.Sound.{Sound, isNet-wiring}
+use Rattle.simulator.proofs.Held.{Held, Order, stored-order, round-held}
+use Rattle.simulator.proofs.Left.{SameWiring, SameLengths, sameWiring-none, sameLengths-none, leave-wiring, isNet-held, leave-lengths, fullSize-kept, isNet-kept}
+
+-- On a net of full size.
+module _ (T : Tables) (full : fullSize T ≡ true) (net : isNet T ≡ true) where
+  sound : Sound T
+  sound = isNet-wiring T full net
+
+  -- A round that takes the wires in any order leaves a net of full size.
+  module _ (ws : List Wire) (o : Order T ws) (t : ℕ) where
+    pub round-leaves : Held T (round T ws t (stateOf T))
+    round-leaves = round-held T sound ws o t (stateOf T) (isNet-held T full net)
+
+    pub round-isNet : isNet (leave T (round T ws t (stateOf T))) ≡ true
+    round-isNet = isNet-kept T full net (round T ws t (stateOf T)) round-leaves
+
+    pub round-fullSize : fullSize (leave T (round T ws t (stateOf T))) ≡ true
+    round-fullSize = fullSize-kept T full net (round T ws t (stateOf T)) round-leaves
+
+    pub round-lengths : SameLengths T (leave T (round T ws t (stateOf T)))
+    round-lengths = leave-lengths T full net (round T ws t (stateOf T)) round-leaves
+
+  -- In particular in stored order.
+  pub roundOf-isNet : (t : ℕ) → isNet (roundOf t T) ≡ true
+  unfolding roundOf
+  roundOf-isNet t = round-isNet (wiresIn T) (stored-order T) t
+
+  pub roundOf-fullSize : (t : ℕ) → fullSize (roundOf t T) ≡ true
+  unfolding roundOf
+  roundOf-fullSize t = round-fullSize (wiresIn T) (stored-order T) t
+
+  pub roundOf-lengths : (t : ℕ) → SameLengths T (roundOf t T)
+  unfolding roundOf
+  roundOf-lengths t = round-lengths (wiresIn T) (stored-order T) t
+
+-- A call either is not refused, and its tables are the new ones, or it is, and they are the old ones.
+pub by-number : (P : Tables → Type 0) (k : ℕ) (new old : Tables) → (k ≡ 0 → P new) → P old → P (after k new old)
+by-number P k new old f g = by-test (eqb k 0) refl
+  where
+    by-test : (b : Bool) → eqb k 0 ≡ b → P (cond b new old)
+    by-test true e = f (eqb-true k 0 e)
+    by-test false e = g
+
+-- The tables after a round that is not refused.
+pub roundTables-done : (T : Tables) (t : ℕ) → netNumber T ≡ 0 → roundTables T t ≡ roundOf t T
+unfolding roundTables
+roundTables-done T t e = rw e
+
+-- A refused round changes no table.
+pub roundTables-refused : (T : Tables) (t : ℕ) → (netNumber T ≡ 0 → ⊥) → roundTables T t ≡ T
+unfolding roundTables
+roundTables-refused T t e = rw (ne-eqb (netNumber T) 0 e)
+
+-- Any round, refused or not, of any tables leaves components and wires as they were, and their counts.
+pub roundTables-wiring : (T : Tables) (t : ℕ) → SameWiring T (roundTables T t)
+unfolding roundTables roundOf
+roundTables-wiring T t =
+    by-number (SameWiring T) (netNumber T) (roundOf t T) T (λ e. leave-wiring T (round T (wiresIn T) t (stateOf T)))
+    (sameWiring-none T)
+
+-- No round changes the length of a table.
+pub roundTables-lengths : (T : Tables) (t : ℕ) → SameLengths T (roundTables T t)
+unfolding roundTables
+roundTables-lengths T t =
+    by-number (SameLengths T) (netNumber T) (roundOf t T) T
+    (λ e. roundOf-lengths T (netNumber-full T e) (netNumber-isNet T e) t) (sameLengths-none T)
+
+-- A round of a net leaves a net: the next call is given neither 2 nor 16.
+pub roundTables-net : (T : Tables) (t : ℕ) → netNumber T ≡ 0 → netNumber (roundTables T t) ≡ 0
+roundTables-net T t e =
+    let f = netNumber-full T e in
+    let n = netNumber-isNet T e in
+    ap netNumber (roundTables-done T t e)
+    ∙ sym (netNumber-0 (roundOf t T) (roundOf-fullSize T f n t) (roundOf-isNet T f n t))

@@ -1,0 +1,136 @@
+-- Run until calm: a turn of the loop, its end, and the call.
+--   onTop r e x        r rounds and e evaluations before the run x
+--   stopped b k t T    nothing more if b, else at most k rounds more
+-- Assumes nothing.
+use mathlib.Core.Path.{_≡_, refl, sym, ap, _∙_, subst}
+use mathlib.Core.Bool.{Bool, true, false, cond, not, _&&_}
+use mathlib.Core.List.{[]}
+use Prim.Native.Nat.{ℕ, suc, _+_, _-_, _≤_, _<_}
+use native.Mathlib.Nat.{sub-zero, zero-add, add-zero}
+use native.Mathlib.Omega.{arith}
+use borrow.Author.Tests.{eq-eqb, ne-eqb, ltb-true, ltb-false, not-true}
+use lib.ListN.{length}
+use lib.Seq.{length-take-le}
+use lib.Dec.{eqb, ltb}
+use Rattle.lists.proofs.ListsLaws.{and-left, and-right}
+use Rattle.primitive.specs.Evaluate.{refusedBy}
+use Rattle.tables.specs.declared.Counts.{Counts}
+use Rattle.tables.specs.Tables.{Tables, tablesOf, currentList}
+use Rattle.net.specs.Net.{netNumber}
+use Rattle.net.proofs.NetLaws.{netNumber-sizes}
+use Rattle.simulator.specs.declared.Ran.{Ran}
+use Rattle.simulator.specs.declared.Ran.the-variants.{Done as RanOut, Refused as NotRun}
+use Rattle.simulator.specs.Round.{calm, roundOf}
+use Rattle.simulator.specs.Calls.{roundTables, Run, onceMore, run, runTables, runAnswer}
+use Rattle.simulator.proofs.Kept.{roundTables-done, roundTables-net}
+use Rattle.simulator.proofs.RoundLaws.{net-within}
+use Rattle.simulator.proofs.CallsLaws.{counted}
+
+abbrev pub onTop : ℕ → ℕ → Run → Run
+onTop r e x = record { tables = x .tables; rounds = r + x .rounds; evaluations = e + x .evaluations }
+
+-- No round more.
+abbrev pub ended : Tables → Run
+ended T = record { tables = T; rounds = 0; evaluations = 0 }
+
+abbrev pub stopped : Bool → ℕ → ℕ → Tables → Run
+stopped b k t T = cond b (ended T) (run k t T)
+
+-- Before the first round.
+pub run-start : (limit t : ℕ) (T : Tables) → onTop 0 0 (stopped false (limit - 0) t T) ≡ run limit t T
+run-start limit t T =
+    let e : run (limit - 0) t T ≡ run limit t T = ap (λ (k : ℕ). run k t T) (sub-zero limit) in
+    ap (onTop 0 0) e ∙ plain (run limit t T)
+  where
+    plain : (x : Run) → onTop 0 0 x ≡ x
+    plain x = simp zero-add
+
+-- One round: of tables T that are a net, it leaves the tables U.
+module _ (t : ℕ) (T U : Tables) (net : netNumber T ≡ 0) (made : U ≡ roundOf t T) where
+  left : roundTables T t ≡ U
+  left = roundTables-done T t net ∙ sym made
+
+  pub round-net : netNumber U ≡ 0
+  round-net = ap netNumber (sym left) ∙ roundTables-net T t net
+
+  current-length : length (currentList T) ≡ T .counts .current
+  current-length =
+      length-take-le (T .counts .current) (T .current)
+      (omega (arith, net-within T net .current, netNumber-sizes T net .current))
+
+  run-more : (k : ℕ) → run (suc k) t T ≡ onceMore (T .counts .current) (stopped (calm U) k t U)
+  unfolding run
+  run-more k = rw (left, current-length)
+
+  pub run-turn : (limit r e : ℕ) (c : Bool) (x : Run) → r < limit → c ≡ calm U → onTop r e (stopped false (limit - r) t T) ≡ x
+      → onTop (r + 1) (e + T .counts .current) (stopped c (limit - (r + 1)) t U) ≡ x
+  run-turn limit r e c x h q so-far =
+      let d : limit - r ≡ suc (limit - (r + 1)) = omega arith in
+      let y = stopped c (limit - (r + 1)) t U in
+      let a : run (limit - r) t T ≡ onceMore (T .counts .current) y =
+      ap (λ (k : ℕ). run k t T) d ∙ run-more (limit - (r + 1)) ∙ ap (λ (b : Bool). onceMore (T .counts .current) (stopped b (limit - (r + 1)) t U)) (sym q) in
+      let f : r + 1 + y .rounds ≡ r + suc (y .rounds) = omega arith in
+      let g : e + T .counts .current + y .evaluations ≡ e + (T .counts .current + y .evaluations) = omega arith in
+      let i : onTop (r + 1) (e + T .counts .current) y ≡ onTop r e (onceMore (T .counts .current) y) = rw (f, g) in
+      i ∙ sym (ap (onTop r e) a) ∙ so-far
+
+-- After the last: calm, or no round is left.
+pub run-calm : (limit r e t : ℕ) (T : Tables) (x : Run) → onTop r e (stopped true (limit - r) t T) ≡ x
+    → record { tables = T; rounds = r; evaluations = e } ≡ x
+run-calm limit r e t T x so-far = plain ∙ so-far
+  where
+    plain : record { tables = T; rounds = r; evaluations = e } ≡ onTop r e (ended T)
+    plain = simp add-zero
+
+pub run-limit : (limit r e t : ℕ) (T : Tables) (x : Run) → limit ≤ r → onTop r e (stopped false (limit - r) t T) ≡ x
+    → record { tables = T; rounds = r; evaluations = e } ≡ x
+unfolding run
+run-limit limit r e t T x h so-far =
+    let d : limit - r ≡ 0 = omega arith in
+    run-calm limit r e t T x (sym (ap (λ (k : ℕ). onTop r e (run k t T)) d) ∙ so-far)
+
+-- The loop's test, and its end.
+pub test-going : (b : Bool) (r limit : ℕ) → (not b && ltb r limit) ≡ true → b ≡ false
+test-going b r limit e = not-true b (and-left (not b) (ltb r limit) e)
+
+pub test-below : (b : Bool) (r limit : ℕ) → (not b && ltb r limit) ≡ true → r < limit
+test-below b r limit e = ltb-true r limit (and-right (not b) (ltb r limit) e)
+
+pub run-end : (b : Bool) (limit r e t : ℕ) (T : Tables) (x : Run) → (not b && ltb r limit) ≡ false
+    → onTop r e (stopped b (limit - r) t T) ≡ x → record { tables = T; rounds = r; evaluations = e } ≡ x
+run-end true limit r e t T x q so-far = run-calm limit r e t T x so-far
+run-end false limit r e t T x q so-far = run-limit limit r e t T x (ltb-false r limit q) so-far
+
+-- Calm looks at the components and the current list only.
+pub calm-list : (U : Tables) → calm (tablesOf (U .components) [] [] [] (U .current) [] [] (U .counts)) ≡ calm U
+unfolding calm
+calm-list U = refl
+
+-- The call.
+module _ (T : Tables) (t limit k : ℕ) (number : k ≡ netNumber T) where
+  module _ (refused : k ≡ 0 → ⊥) where
+    none : eqb (netNumber T) 0 ≡ false
+    none = ne-eqb (netNumber T) 0 (λ q. refused (number ∙ q))
+
+    pub run-refused : NotRun (refusedBy k) ≡ runAnswer T t limit
+    unfolding runAnswer
+    run-refused = rw (number, none)
+
+    pub run-kept : counted T (runTables T t limit .counts) ≡ runTables T t limit
+    unfolding runTables
+    run-kept = rw none
+
+  module _ (zero : k ≡ 0) (U : Tables) (m : Counts) (rounds evaluations : ℕ)
+      (made : record { tables = counted U m; rounds = rounds; evaluations = evaluations } ≡ run limit t T) where
+    done : eqb (netNumber T) 0 ≡ true
+    done = eq-eqb (netNumber T) 0 (sym number ∙ zero)
+
+    pub run-answered : RanOut m rounds evaluations ≡ runAnswer T t limit
+    unfolding runAnswer
+    run-answered = rw done (ap (λ (x : Run). RanOut (x .tables .counts) (x .rounds) (x .evaluations)) made)
+
+    pub run-left : counted U (runTables T t limit .counts) ≡ runTables T t limit
+    unfolding runTables
+    run-left =
+        let e : counted U m ≡ run limit t T .tables = ap (λ (x : Run). x .tables) made in
+        rw done (ap (counted U) (sym (ap (λ (X : Tables). X .counts) e)) ∙ e)

@@ -1,0 +1,89 @@
+-- `run_until_calm`: the number decides; where it is 0 the tables are a net, and the rounds are run. Assumes nothing.
+use mathlib.Core.Path.{sym, _∙_}
+use Rattle.tables.specs.Tables.{Tables, tablesOf}
+use Rattle.simulator.proofs.RunLaws.{run-refused, run-kept, run-answered, run-left}
+use borrow.Author.Needs.{needs}
+use Rattle.simulator.proofs.rounds.run_until_calm.Statement.{statement}
+use Rattle.simulator.proofs.rounds.run_until_calm.Tie as tie
+use Rattle.simulator.proofs.rounds.run_until_calm.Reads as reads
+use Rattle.simulator.proofs.rounds.run_until_calm.Lts as lts
+use Rattle.net.proofs.net_number.Reads as net-number-reads
+use Rattle.simulator.proofs.rounds.net_run.Reads as net-run-reads
+
+-- The tables that came in.
+abbrev came : tie.Start → Tables
+came s =
+    tablesOf (s .args .components .now) (s .args .inputs .now) (s .args .outputs .now) (s .args .wires .now) (s .args .current .now)
+    (s .args .following .now) (s .args .standing .now) (s .args .counts)
+
+net-number-requires : tie.Need-net-number-requires
+net-number-requires c κs = search needs
+
+same-length : tie.Need-same-length
+same-length c = search needs
+
+same-length-2 : tie.Need-same-length-2
+same-length-2 c = search needs
+
+same-length-3 : tie.Need-same-length-3
+same-length-3 c = search needs
+
+same-length-4 : tie.Need-same-length-4
+same-length-4 c = search needs
+
+same-length-5 : tie.Need-same-length-5
+same-length-5 c = search needs
+
+returns : tie.Need-returns
+returns c =
+    let s = c .before .before .before .before .before .before .before .before .before .before .before .before .before .before in
+    let e = c .before .net-number .ensures in
+    (run-refused (came s) (s .args .time) (s .args .limit) _ e (c .if1 .taken), run-kept (came s) (s .args .time) (s .args .limit) _ e (c .if1 .taken))
+
+net-run-requires : tie.Need-net-run-requires
+net-run-requires c κs = sym (c .before .before .before .before .before .before .net-number .ensures) ∙ c .before .before .before .before .before .if1 .left
+
+same-length-6 : tie.Need-same-length-6
+same-length-6 c = search needs
+
+same-length-7 : tie.Need-same-length-7
+same-length-7 c = search needs
+
+same-length-8 : tie.Need-same-length-8
+same-length-8 c = search needs
+
+same-length-9 : tie.Need-same-length-9
+same-length-9 c = search needs
+
+same-length-10 : tie.Need-same-length-10
+same-length-10 c = search needs
+
+returns-2 : tie.Need-returns-2
+returns-2 c =
+    let s = c .before .before .before .before .before .before .before .before .before .before .before .before .before .before .before .before .before .before .before .before .before .before .before .before .before .before .before .before .before .before .before in
+    let e = c .before .before .before .before .before .before .before .before .before .before .before .before .before .before .before .before .before .before .net-number .ensures in
+    let z = c .before .before .before .before .before .before .before .before .before .before .before .before .before .before .before .before .before .if1 .left in
+    let r = c .before .before .before .before .before .before .before .before .before .before .before .net-run in
+    let U = tablesOf (s .args .components .now) (r .last .1 .0) (r .last .1 .1 .0) (s .args .wires .now) (r .last .1 .1 .1 .1 .0) (r .last .1 .1 .1 .1 .1 .0) (r .last .1 .1 .1 .1 .1 .1 .0) (r .result .counts) in (
+      run-answered (came s) (s .args .time) (s .args .limit) _ e z U (r .result .counts) (r .result .rounds) (r .result .evaluations) (r .ensures),
+      run-left (came s) (s .args .time) (s .args .limit) _ e z U (r .result .counts) (r .result .rounds) (r .result .evaluations) (r .ensures),
+    )
+
+pub run-until-calm-spec : {M : Type 1} → statement M
+run-until-calm-spec =
+    tie.close
+    (tie.spec
+    net-number-requires
+    same-length
+    same-length-2
+    same-length-3
+    same-length-4
+    same-length-5
+    returns
+    net-run-requires
+    same-length-6
+    same-length-7
+    same-length-8
+    same-length-9
+    same-length-10
+    returns-2)
