@@ -9,6 +9,7 @@ use simulator::Calm;
 use simulator::Index;
 use simulator::Listed;
 use simulator::Port;
+use simulator::Ran;
 use simulator::Side;
 use tables::Answer;
 use tables::Counts;
@@ -35,17 +36,22 @@ fn counts_in(counts: &[u64]) -> Counts {
     }
 }
 
+// Keeps a count.
+fn keep_count(counts: &mut [u64], which: usize, count: usize) {
+    if which < counts.len() {
+        counts[which] = count as u64;
+    }
+}
+
 // Keeps the counts that a call answered.
 fn keep_counts(counts: &mut [u64], new: Counts) {
-    if counts.len() == 7 {
-        counts[0] = new.components as u64;
-        counts[1] = new.inputs as u64;
-        counts[2] = new.outputs as u64;
-        counts[3] = new.wires as u64;
-        counts[4] = new.current as u64;
-        counts[5] = new.following as u64;
-        counts[6] = new.standing as u64;
-    }
+    keep_count(counts, 0, new.components);
+    keep_count(counts, 1, new.inputs);
+    keep_count(counts, 2, new.outputs);
+    keep_count(counts, 3, new.wires);
+    keep_count(counts, 4, new.current);
+    keep_count(counts, 5, new.following);
+    keep_count(counts, 6, new.standing);
 }
 
 // The line of a call that changes the tables.
@@ -157,6 +163,51 @@ pub(crate) fn edit_one(
         number,
     );
     done(out, b"edit", answer, counts);
+    true
+}
+
+// U: run until calm.
+pub(crate) fn run_calm(
+    components: &[u64],
+    inputs: &mut [u64],
+    outputs: &mut [u64],
+    wires: &[u16],
+    current: &mut [u16],
+    following: &mut [u16],
+    standing: &mut [u16],
+    counts: &mut [u64],
+    out: &mut [u8],
+) -> bool {
+    let mut bytes = [0u8; 10];
+    if !input::fill(&mut bytes) {
+        return false;
+    }
+    let time = input::number(&bytes, 0, 8);
+    let limit = (input::number(&bytes, 8, 2) % 65536) as u16;
+    let before = counts_in(counts);
+    let answer = simulator::run_until_calm(
+        components,
+        inputs,
+        outputs,
+        wires,
+        current,
+        following,
+        standing,
+        before,
+        time,
+        limit,
+    );
+    match answer {
+        Ran::Done {
+            counts: new,
+            rounds,
+            evaluations,
+        } => {
+            keep_counts(counts, new);
+            lines::triple(out, b"run", 0, rounds as u64, evaluations as u64);
+        }
+        Ran::Refused(refusal) => lines::triple(out, b"run", refusal.number, 0, 0),
+    }
     true
 }
 

@@ -56,6 +56,19 @@ fn changing(
             out,
         );
     }
+    if letter == b'U' {
+        return calls::run_calm(
+            components,
+            inputs,
+            outputs,
+            wires,
+            current,
+            following,
+            standing,
+            counts,
+            out,
+        );
+    }
     false
 }
 
@@ -144,12 +157,12 @@ fn asking(
 }
 
 // Whether a letter names a call that changes the tables.
-fn is_changing(letter: u8) -> bool {
+pub(crate) fn is_changing(letter: u8) -> bool {
     (letter == b'L') | (letter == b'R') | (letter == b'E') | (letter == b'U')
 }
 
-// A call of the engine on the lent parts.
-pub(crate) fn call(
+// A call that changes the tables, on the lent parts.
+pub(crate) fn change(
     letter: u8,
     components: &mut [u64],
     inputs: &mut [u64],
@@ -170,23 +183,44 @@ pub(crate) fn call(
     let u = kept::lending(lent, 4, current.len());
     let f = kept::lending(lent, 5, following.len());
     let s = kept::lending(lent, 6, standing.len());
-    if is_changing(letter) {
-        return changing(
-            letter,
-            &mut components[..c],
-            &mut inputs[..i],
-            &mut outputs[..o],
-            &mut wires[..w],
-            &mut current[..u],
-            &mut following[..f],
-            &mut standing[..s],
-            counts,
-            file,
-            out,
-        );
-    }
-    let mut answer = [0u16; 256];
-    let a = kept::lending(lent, 7, 256);
+    changing(
+        letter,
+        &mut components[..c],
+        &mut inputs[..i],
+        &mut outputs[..o],
+        &mut wires[..w],
+        &mut current[..u],
+        &mut following[..f],
+        &mut standing[..s],
+        counts,
+        file,
+        out,
+    )
+}
+
+// A question, on the lent parts.
+pub(crate) fn ask(
+    letter: u8,
+    components: &[u64],
+    inputs: &[u64],
+    outputs: &[u64],
+    wires: &[u16],
+    current: &[u16],
+    following: &[u16],
+    standing: &[u16],
+    counts: &[u64],
+    lent: &[u64],
+    list: &mut [u16],
+    out: &mut [u8],
+) -> bool {
+    let c = kept::lending(lent, 0, components.len());
+    let i = kept::lending(lent, 1, inputs.len());
+    let o = kept::lending(lent, 2, outputs.len());
+    let w = kept::lending(lent, 3, wires.len());
+    let u = kept::lending(lent, 4, current.len());
+    let f = kept::lending(lent, 5, following.len());
+    let s = kept::lending(lent, 6, standing.len());
+    let a = kept::lending(lent, 7, list.len());
     asking(
         letter,
         &components[..c],
@@ -197,7 +231,7 @@ pub(crate) fn call(
         &following[..f],
         &standing[..s],
         counts,
-        &mut answer[..a],
+        &mut list[..a],
         out,
     )
 }

@@ -71,7 +71,24 @@ fn answer(
     if letter == b'X' {
         return single::evaluate_one(out);
     }
-    lent::call(
+    if lent::is_changing(letter) {
+        return lent::change(
+            letter,
+            components,
+            inputs,
+            outputs,
+            wires,
+            current,
+            following,
+            standing,
+            counts,
+            lent,
+            file,
+            out,
+        );
+    }
+    let mut list = [0u16; 256];
+    lent::ask(
         letter,
         components,
         inputs,
@@ -82,7 +99,7 @@ fn answer(
         standing,
         counts,
         lent,
-        file,
+        &mut list,
         out,
     )
 }

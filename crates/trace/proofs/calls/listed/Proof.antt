@@ -24,7 +24,7 @@ cast-numbered : tie.Need-cast-numbered
 cast-numbered c = search needs
 
 slice-aggregate-numbered : tie.Need-slice-aggregate-numbered
-slice-aggregate-numbered c = sym (length-take-le _ _ (search needs))
+slice-aggregate-numbered c = search needs
 
 numbered-requires : tie.Need-numbered-requires
 numbered-requires c κs = search needs

@@ -40,7 +40,7 @@ load-requires : tie.Need-load-requires
 load-requires c κs = search needs
 
 slice-aggregate-done : tie.Need-slice-aggregate-done
-slice-aggregate-done c = sym (length-take-le _ _ (search needs))
+slice-aggregate-done c = search needs
 
 done-requires : tie.Need-done-requires
 done-requires c κs = search needs
