@@ -1,7 +1,6 @@
 // The listing program: reads a drawing from standard input, loads it, runs it at time 0 until calm, and prints what it is and does.
 // Rule: docs/SPECIFICATION.md, "The lamp drawing and marked cases".
-ghost use Prim.Native.Nat.{_*_, _≤_};
-ghost use lib.ListN.{length};
+ghost use Prim.Native.Nat.{_≤_};
 use libc::STDIN_FILENO;
 use simulator::Calm;
 use tables::Answer;
@@ -84,19 +83,23 @@ fn wire_line(out: &mut [u8], wires: &[u16], k: usize) {
     end(out, entered);
 }
 
-// The components and the wires.
-fn show(out: &mut [u8], components: &[u64], wires: &[u16], counts: Counts) {
-    let all = put_counted(out, 0, b"components", counts.components as u64);
+// The components.
+fn show_components(out: &mut [u8], components: &[u64], count: usize) {
+    let all = put_counted(out, 0, b"components", count as u64);
     end(out, all);
     let mut i: usize = 0;
-    while i < counts.components {
+    while i < count {
         component_line(out, components, i);
         i += 1;
     }
-    let wired = put_counted(out, 0, b"wires", counts.wires as u64);
-    end(out, wired);
+}
+
+// The wires.
+fn show_wires(out: &mut [u8], wires: &[u16], count: usize) {
+    let all = put_counted(out, 0, b"wires", count as u64);
+    end(out, all);
     let mut k: usize = 0;
-    while k < counts.wires {
+    while k < count {
         wire_line(out, wires, k);
         k += 1;
     }
@@ -113,7 +116,7 @@ fn round_line(out: &mut [u8], round: u64, current: &[u16], count: usize) {
 }
 
 // Runs a round at time 0, prints its line, and asks whether it left calm.
-fn step(
+fn one_round(
     components: &[u64],
     inputs: &mut [u64],
     outputs: &mut [u64],
@@ -173,7 +176,7 @@ fn run(
     let mut now = counts;
     let mut round: u64 = 1;
     while round <= ROUNDS {
-        let left = step(
+        let left = one_round(
             components,
             inputs,
             outputs,
@@ -230,7 +233,8 @@ fn list(
     );
     match answer {
         Answer::Done(counts) => {
-            show(out, components, wires, counts);
+            show_components(out, components, counts.components);
+            show_wires(out, wires, counts.wires);
             run(
                 components,
                 inputs,

@@ -1,7 +1,6 @@
 -- A whole round, from what a net gives to the tables that it leaves.
 -- Assumes nothing.
-use mathlib.Core.Path.{_≡_, refl, sym, ap, _∙_}
-use mathlib.Core.Bool.{true}
+use mathlib.Core.Path.{_≡_, sym, ap, _∙_}
 use mathlib.Core.List.{List, [], foldl}
 use Prim.Native.Nat.{ℕ, _+_, _≤_, _<_}
 use native.Mathlib.Omega.{arith}
@@ -9,18 +8,20 @@ use lib.ListN.{length, take}
 use lib.Seq.{length-take-le}
 use Rattle.lists.specs.Lists.{from, overlay}
 use Rattle.lists.proofs.MembersLaws.{In, map-complete, from0-complete}
-use Rattle.flatten.specs.declared.Wire.{Wire}
 use Rattle.tables.specs.declared.Counts.{Counts}
-use Rattle.tables.specs.Tables.{Tables, tablesOf, fieldsAt, firstInput, firstOutput, wireAt, wiresIn, currentList, followingList, standingList}
+use Rattle.tables.specs.Tables.{Tables, tablesOf, firstInput, firstOutput, wireAt, wiresIn, currentList, followingList, standingList}
 use Rattle.tables.proofs.NamedLaws.{overlay-list}
-use Rattle.tables.proofs.SizesLaws.{Full}
 use Rattle.net.specs.Net.{names, netNumber}
 use Rattle.net.proofs.ClausesLaws.{Within, countsWithin-sound, kindsObeyed-at, portsFollow-inputs, portsFollow-outputs}
-use Rattle.net.proofs.NetLaws.{Net, netNumber-net, netNumber-sizes, wiresFit-source, wiresFit-target, isOutput-comp, isOutput-port, isInput-comp, isInput-port}
+use Rattle.net.proofs.NetLaws.{netNumber-net, netNumber-sizes, wiresFit-source, wiresFit-target, isOutput-comp, isOutput-port, isInput-comp, isInput-port}
 use Rattle.simulator.specs.declared.rounds.Sizes.{Sizes}
-use Rattle.simulator.specs.Round.{State, stateOf, leave, turn, evaluated, send, visit, round, roundOf}
+use Rattle.simulator.specs.Round.{State, leave, turn, evaluated, send, visit, round, roundOf}
 use Rattle.simulator.specs.Steps.{wiring, stateAt, Runs, Listed}
 use Rattle.simulator.proofs.StepsLaws.{visits-current}
+
+-- A list copied to another table.
+pub copy-list : (n : ℕ) (l t t' : List ℕ) → n ≤ length l → t' ≡ overlay (take n l) t → take n t' ≡ take n l
+copy-list n l t t' h e = rw e (overlay-list (take n l) t n (sym (length-take-le n l h)))
 
 -- What a net gives.
 module _ (T : Tables) (z : netNumber T ≡ 0) where
@@ -81,16 +82,9 @@ module _ (T : Tables) (z : netNumber T ≡ 0) where
       → Listed (wiring (T .components) (T .wires) (T .counts)) (T .counts .following) t'
   unfolding names
   net-copied t t' h e =
-      let k : take (T .counts .following) t' ≡ followingList T = copied (T .counts .following) (T .following) t t'
+      let k : take (T .counts .following) t' ≡ followingList T = copy-list (T .counts .following) (T .following) t t'
       (omega (arith, net-within .following, netNumber-sizes T z .following)) e in
       record { whole = h; count = omega (arith, net-within .following); named = rw k (netNumber-net T z .following) }
-    where
-      copied : (n : ℕ) (l t t' : List ℕ) → n ≤ length l → t' ≡ overlay (take n l) t → take n t' ≡ take n l
-      copied n l t t' h e = rw e (overlay-list (take n l) t n (sym (length-take-le n l h)))
-
--- A list copied to another table.
-pub copy-list : (n : ℕ) (l t t' : List ℕ) → n ≤ length l → t' ≡ overlay (take n l) t → take n t' ≡ take n l
-copy-list n l t t' h e = rw e (overlay-list (take n l) t n (sym (length-take-le n l h)))
 
 -- The three copies at the end.
 pub round-ended : (cur fol std next left cur' fol' std' : List ℕ) (m : Counts) (n : Sizes) → n .following ≤ length next

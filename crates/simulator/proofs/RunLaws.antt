@@ -2,7 +2,7 @@
 --   onTop r e x        r rounds and e evaluations before the run x
 --   stopped b k t T    nothing more if b, else at most k rounds more
 -- Assumes nothing.
-use mathlib.Core.Path.{_≡_, refl, sym, ap, _∙_, subst}
+use mathlib.Core.Path.{_≡_, refl, sym, ap, _∙_}
 use mathlib.Core.Bool.{Bool, true, false, cond, not, _&&_}
 use mathlib.Core.List.{[]}
 use Prim.Native.Nat.{ℕ, suc, _+_, _-_, _≤_, _<_}
@@ -18,7 +18,6 @@ use Rattle.tables.specs.declared.Counts.{Counts}
 use Rattle.tables.specs.Tables.{Tables, tablesOf, currentList}
 use Rattle.net.specs.Net.{netNumber}
 use Rattle.net.proofs.NetLaws.{netNumber-sizes}
-use Rattle.simulator.specs.declared.Ran.{Ran}
 use Rattle.simulator.specs.declared.Ran.the-variants.{Done as RanOut, Refused as NotRun}
 use Rattle.simulator.specs.Round.{calm, roundOf}
 use Rattle.simulator.specs.Calls.{roundTables, Run, onceMore, run, runTables, runAnswer}

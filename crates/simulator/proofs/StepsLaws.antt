@@ -1,7 +1,7 @@
 -- Laws of the steps of a round, one step at a time: a wire, the wires of a component, an evaluation, and a component of the list.
 -- Assumes nothing.
 use mathlib.Core.Path.{_≡_, refl, sym, ap, _∙_, subst}
-use mathlib.Core.Logic.{_⊎_, inl, inr}
+use mathlib.Core.Logic.{inl, inr}
 use mathlib.Core.Bool.{Bool, true, false, cond}
 use mathlib.Core.List.{List, [], _∷_, _++_, map, foldl, append-assoc}
 use Prim.Native.Nat.{ℕ, zero, suc, _+_, _-_, _*_, _≤_, _<_}
@@ -9,7 +9,7 @@ use native.Mathlib.Nat.{zero-add, suc-add, sub-zero}
 use native.Mathlib.Numerals.{add-one}
 use native.Mathlib.Omega.{arith}
 use borrow.Rule.Slice.PartMut.{putMid, post-is}
-use borrow.Author.Tests.{eq-eqb, ne-eqb, eqb-true}
+use borrow.Author.Tests.{eq-eqb, ne-eqb}
 use lib.ListN.{length, getD, take, drop, set, length-take}
 use lib.Seq.{sets, sets-eq, take-nil, slice, slice-cons, slice-empty, getD-take, length-take-le}
 use lib.Dec.{eqb}
@@ -29,7 +29,7 @@ use Rattle.tables.proofs.NamedLaws.{overlay-list, overlay-count}
 use Rattle.net.specs.Net.{names}
 use Rattle.net.proofs.NetLaws.{names-existing}
 use Rattle.simulator.specs.Round.{State, wiresFrom, evaluated, send, visit}
-use Rattle.simulator.specs.Steps.{bare, wiring, stateAt, Evaluates, Sends, Runs, Listed, Step, Visited}
+use Rattle.simulator.specs.Steps.{bare, wiring, stateAt, Evaluates, Sends, Runs, Listed, Step}
 use Rattle.simulator.proofs.Ports.{numbers-length}
 
 -- Where the ends of wire k stand, as they are read.

@@ -44,11 +44,13 @@ loop-holds c =
 
 cast-evaluations : tie.Need-cast-evaluations Inv-loop μ-loop
 cast-evaluations c =
-    omega (arith, net-within (here (c .before .before)) (c .before .before .loop .inv .7) .current)
+    let w = net-within (here (c .before .before)) (c .before .before .loop .inv .7) in
+    omega arith
 
 add-evaluations : tie.Need-add-evaluations Inv-loop μ-loop
 add-evaluations c =
-    omega (arith, net-within (here (c .before .before)) (c .before .before .loop .inv .7) .current, test-below (c .before .before .loop .calm) (c .before .before .loop .rounds) (c .before .before .before .before .before .before .before .before .before .before .args .limit) (c .before .loop-test .taken), c .before .before .loop .inv .1)
+    let w = net-within (here (c .before .before)) (c .before .before .loop .inv .7) in
+    omega (arith, test-below (c .before .before .loop .calm) (c .before .before .loop .rounds) (c .before .before .before .before .before .before .before .before .before .before .args .limit) (c .before .loop-test .taken), c .before .before .loop .inv .1)
 
 net-round-requires : tie.Need-net-round-requires Inv-loop μ-loop
 net-round-requires c κs = c .before .before .before .before .before .before .before .loop .inv .7
@@ -76,9 +78,10 @@ loop-again c =
     let r = c .before .before .before .before .before .before .before .before .before .before .before .before .net-round in
     let T = here (c .before .before .before .before .before .before .before .before .before .before .before .before .before .before .before .before .before .before .before .before) in
     let U = tablesOf (s .args .components .now) (r .last .1 .0) (r .last .1 .1 .0) (s .args .wires .now) (r .last .1 .1 .1 .1 .0) (r .last .1 .1 .1 .1 .1 .0) (r .last .1 .1 .1 .1 .1 .1 .0) (r .result) in
+    let w = net-within (here (c .before .before .before .before .before .before .before .before .before .before .before .before .before .before .before .before .before .before .before .before)) (c .before .before .before .before .before .before .before .before .before .before .before .before .before .before .before .before .before .before .before .before .loop .inv .7) in
     let b = test-below (c .before .before .before .before .before .before .before .before .before .before .before .before .before .before .before .before .before .before .before .before .loop .calm) (c .before .before .before .before .before .before .before .before .before .before .before .before .before .before .before .before .before .before .before .before .loop .rounds) (c .before .before .before .before .before .before .before .before .before .before .before .before .before .before .before .before .before .before .before .before .before .before .before .before .before .before .before .before .args .limit) (c .before .before .before .before .before .before .before .before .before .before .before .before .before .before .before .before .before .before .before .loop-test .taken) in (
       omega (arith, b),
-      omega (arith, l .inv .1, net-within (here (c .before .before .before .before .before .before .before .before .before .before .before .before .before .before .before .before .before .before .before .before)) (c .before .before .before .before .before .before .before .before .before .before .before .before .before .before .before .before .before .before .before .before .loop .inv .7) .current),
+      omega (arith, l .inv .1),
       r .kept .1 .0 ∙ l .inv .2,
       r .kept .1 .1 .0 ∙ l .inv .3,
       r .kept .1 .1 .1 .1 .0 ∙ l .inv .4,

@@ -1,0 +1,64 @@
+use mathlib.Core.Path.{_≡_}
+use Prim.Native.Nat.{_≤_, _-_}
+use lib.ListN.{length}
+use borrow.Author.Needs.{needs}
+use Rattle.listing.proofs.show_components.Statement.{statement}
+use Rattle.listing.proofs.show_components.Tie as tie
+use Rattle.listing.proofs.show_components.Reads as reads
+use Rattle.listing.proofs.show_components.Lts as lts
+use Rattle.listing.proofs.component_line.Reads as component-line-reads
+use Rattle.listing.proofs.end.Reads as end-reads
+use Rattle.listing.proofs.put_counted.Reads as put-counted-reads
+
+abbrev Inv-loop : tie.InvT-loop
+Inv-loop out₀ components count all i₀ out i = (i ≤ count) × (length out ≡ length out₀)
+
+abbrev μ-loop : tie.MeasureT-loop
+μ-loop out₀ components count all i₀ out i = count - i
+
+slice-aggregate-put-counted : tie.Need-slice-aggregate-put-counted Inv-loop μ-loop
+slice-aggregate-put-counted c = search needs
+
+put-counted-requires : tie.Need-put-counted-requires Inv-loop μ-loop
+put-counted-requires c κs = search needs
+
+end-requires : tie.Need-end-requires Inv-loop μ-loop
+end-requires c κs = search needs
+
+loop-holds : tie.Need-loop-holds Inv-loop μ-loop
+loop-holds c = search needs
+
+component-line-requires : tie.Need-component-line-requires Inv-loop μ-loop
+component-line-requires c κs = search needs
+
+add-i : tie.Need-add-i Inv-loop μ-loop
+add-i c = search needs
+
+loop-less : tie.Need-loop-less Inv-loop μ-loop
+loop-less c = search needs
+
+loop-again : tie.Need-loop-again Inv-loop μ-loop
+loop-again c = search needs
+
+same-length : tie.Need-same-length Inv-loop μ-loop
+same-length c = search needs
+
+returns : tie.Need-returns Inv-loop μ-loop
+returns c = search needs
+
+pub show-components-spec : {M : Type 1} → statement M
+show-components-spec =
+    tie.close
+    (tie.spec
+    Inv-loop
+    μ-loop
+    slice-aggregate-put-counted
+    put-counted-requires
+    end-requires
+    loop-holds
+    component-line-requires
+    add-i
+    loop-less
+    loop-again
+    same-length
+    returns)
