@@ -1,3 +1,4 @@
 pub mod LampHold
 pub mod MarkedHold
 pub mod Demand3
+pub mod Determinacy
