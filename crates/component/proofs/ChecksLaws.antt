@@ -22,7 +22,8 @@ use Rattle.component.specs.declared.Record.{Record}
 use Rattle.component.specs.declared.Record.the-variants.{Component}
 use Rattle.component.specs.Record.{recordAt, formOf, ownerOf, idOf, fromOf, outputOf, toOf, inputOf, portOf}
 use Rattle.component.specs.Record.{inputsOf, outputsOf, composite}
-use Rattle.component.specs.Index.{hasId, entering, enteringAs, fromThere, portThere, toThere}
+use Rattle.component.specs.Record.{hasId, entering, enteringAs}
+use Rattle.component.specs.Drawing.{fromThere, portThere, toThere}
 use Rattle.component.specs.Drawing.{child, deepest, holds, deeper, outMaps, inputsBefore, outputsBefore}
 use Rattle.component.specs.Drawing.{fails3, fails4, fails5, fails6, fails7, fails8, fails9}
 use Rattle.component.specs.Drawing.{fails10, fails11, fails12, fails13, fails14}
@@ -200,12 +201,12 @@ module _ (s : List ℕ) (n : ℕ) where
   -- 12: the ports at a record's ends; then by its kind
   pub fromThere-is : (r w : Record) (d : ChildNo) (o q b u : ℕ) → o ≡ ownerOf r → d .0 ≡ fromOf r
       → q ≡ child (recordAt s) n o (d .0)
-      → b ≡ outputOf r → w ≡ recordAt s q → u ≡ outputsOf w → ltb b u ≡ fromThere s n r
+      → b ≡ outputOf r → w ≡ recordAt s q → u ≡ outputsOf w → ltb b u ≡ fromThere (recordAt s) n r
   fromThere-is r w d o q b u eo ed eq eb ew eu = rw (eu, ew, eb, eq, ed, eo)
 
   pub toThere-is : (r w : Record) (d : ChildNo) (o q b u : ℕ) → o ≡ ownerOf r → d .0 ≡ toOf r
       → q ≡ child (recordAt s) n o (d .0)
-      → b ≡ inputOf r → w ≡ recordAt s q → u ≡ inputsOf w → ltb b u ≡ toThere s n r
+      → b ≡ inputOf r → w ≡ recordAt s q → u ≡ inputsOf w → ltb b u ≡ toThere (recordAt s) n r
   toThere-is r w d o q b u eo ed eq eb ew eu = rw (eu, ew, eb, eq, ed, eo)
 
   module _ (p f : ℕ) (r : Record) (e : r ≡ recordAt s p) (h : f ≡ formOf r) where
@@ -218,15 +219,15 @@ module _ (s : List ℕ) (n : ℕ) where
     form-is : (k : ℕ) → f ≡ k → eqb (formOf (recordAt s p)) k ≡ true
     form-is k g = eq-eqb (formOf (recordAt s p)) k (form-at ∙ g)
 
-    pub fails12-connection : (a b : Bool) → f ≡ 2 → a ≡ fromThere s n r → b ≡ toThere s n r
+    pub fails12-connection : (a b : Bool) → f ≡ 2 → a ≡ fromThere (recordAt s) n r → b ≡ toThere (recordAt s) n r
         → not (a && b) ≡ fails12 (recordAt s) n p
     fails12-connection a b g i j = rw (i, j, e, form-is 2 g)
 
-    pub fails12-input-map : (a b : Bool) → (f ≡ 2 → ⊥) → f ≡ 3 → a ≡ portThere s r → b ≡ toThere s n r
+    pub fails12-input-map : (a b : Bool) → (f ≡ 2 → ⊥) → f ≡ 3 → a ≡ portThere (recordAt s) r → b ≡ toThere (recordAt s) n r
         → not (a && b) ≡ fails12 (recordAt s) n p
     fails12-input-map a b x g i j = rw (i, j, e, form-not 2 x, form-is 3 g)
 
-    pub fails12-output-map : (a : Bool) → (f ≡ 2 → ⊥) → (f ≡ 3 → ⊥) → f ≡ 4 → a ≡ fromThere s n r
+    pub fails12-output-map : (a : Bool) → (f ≡ 2 → ⊥) → (f ≡ 3 → ⊥) → f ≡ 4 → a ≡ fromThere (recordAt s) n r
         → not a ≡ fails12 (recordAt s) n p
     fails12-output-map a x y g i = rw (i, e, form-not 2 x, form-not 3 y, form-is 4 g)
 
@@ -235,5 +236,5 @@ module _ (s : List ℕ) (n : ℕ) where
 
 pub portThere-is : (s : List ℕ) (r w : Record) (o b u : ℕ) → b ≡ portOf r → o ≡ ownerOf r → w ≡ recordAt s o
     → u ≡ inputsOf w
-    → ltb b u ≡ portThere s r
+    → ltb b u ≡ portThere (recordAt s) r
 portThere-is s r w o b u eb eo ew eu = rw (eu, ew, eb, eo)

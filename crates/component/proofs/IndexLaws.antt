@@ -18,7 +18,8 @@ use Rattle.lists.proofs.ListsLaws.{and-left, and-right, keep-snoc-here, keep-sn
 use Rattle.lists.proofs.ListsLaws.{getD-snoc-else}
 use Rattle.component.specs.declared.Record.{Record}
 use Rattle.component.specs.Record.{recordAt, formOf, ownerOf}
-use Rattle.component.specs.Index.{ownedAs, nthOwned, putWord, putCount, widenLow, widenHigh, IsTable, IsRange}
+use Rattle.component.specs.Index.{nthOwned, putWord, putCount, widenLow, widenHigh, IsTable, IsRange}
+use Rattle.component.specs.Record.{ownedAs}
 use Rattle.component.specs.Drawing.{outMap}
 use Rattle.component.proofs.ScanLaws.{tested}
 

@@ -1,6 +1,6 @@
 -- The bytes of a file as records. docs/SPECIFICATION.md, "The drawing file", and check 3 of "Numbers given back".
 use Prim.Native.Nat.{ℕ, _+_, _*_, _/_, _<_}
-use mathlib.Core.Bool.{Bool, true, false, cond, _&&_}
+use mathlib.Core.Bool.{Bool, true, false, cond, _&&_, _||_}
 use mathlib.Core.List.{List}
 use lib.ListN.{length, getD, take, drop}
 use lib.Dec.{eqb, ltb}
@@ -161,3 +161,19 @@ composite r = eqb (fieldsOf r .kind) 0
 -- A component of kinds 1 to 13.
 abbrev pub isPrimitive : Record → Bool
 isPrimitive r = primitive (fieldsOf r)
+
+-- A component has the id i.
+abbrev pub hasId : ℕ → Record → Bool
+hasId i r = eqb (idOf r) i
+
+-- A record is of a record kind and of owner o.
+abbrev pub ownedAs : ℕ → ℕ → Record → Bool
+ownedAs form o r = eqb (formOf r) form && eqb (ownerOf r) o
+
+-- A record of kind 2 or 3: it enters a child's input.
+abbrev pub entering : Record → Bool
+entering r = eqb (formOf r) 2 || eqb (formOf r) 3
+
+-- It enters the child's input that s enters.
+abbrev pub enteringAs : Record → Record → Bool
+enteringAs s r = entering r && eqb (ownerOf r) (ownerOf s) && eqb (toOf r) (toOf s) && eqb (inputOf r) (inputOf s)

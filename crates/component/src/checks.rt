@@ -6,7 +6,9 @@ ghost use Prim.Native.Nat.{_≤_, _<_};
 ghost use lib.ListN.{length};
 ghost use Rattle.lists.specs.Lists.{from, any};
 ghost use Rattle.component.specs.Record.{recordAt, isPrimitive};
-ghost use Rattle.component.specs.Index.{IsTable, hasId, entering, enteringAs, fromThere, portThere, toThere};
+ghost use Rattle.component.specs.Index.{IsTable};
+ghost use Rattle.component.specs.Record.{hasId, entering, enteringAs};
+ghost use Rattle.component.specs.Drawing.{fromThere, portThere, toThere};
 ghost use Rattle.component.specs.Drawing.{child, deepest, holds, deeper, outMaps, inputsBefore, outputsBefore};
 ghost use Rattle.component.specs.Drawing.{fails3, fails4, fails5, fails6, fails7, fails8, fails9};
 ghost use Rattle.component.specs.Drawing.{fails10, fails11, fails12, fails13, fails14};
@@ -199,7 +201,7 @@ fn counted(r: Record, ports: u16) -> usize
 }
 
 // The inputs of the primitives before position p.
-pub fn inputs_before(file: &[u8], n: usize, p: usize) -> usize
+fn inputs_before(file: &[u8], n: usize, p: usize) -> usize
     requires { ⌜ p ≤ 1024 ⌝ }
     ensures { λ r. ⌜ r ≡ inputsBefore (recordAt (now (file .entry))) n p ⌝ }
 {
@@ -214,7 +216,7 @@ pub fn inputs_before(file: &[u8], n: usize, p: usize) -> usize
 }
 
 // The outputs of those primitives.
-pub fn outputs_before(file: &[u8], n: usize, p: usize) -> usize
+fn outputs_before(file: &[u8], n: usize, p: usize) -> usize
     requires { ⌜ p ≤ 1024 ⌝ }
     ensures { λ r. ⌜ r ≡ outputsBefore (recordAt (now (file .entry))) n p ⌝ }
 {
@@ -228,7 +230,8 @@ pub fn outputs_before(file: &[u8], n: usize, p: usize) -> usize
     sum
 }
 
-// 11: the primitives so far, this one counted, have too many inputs or outputs.
+// 11: the primitives so far, this one counted, have too many inputs or outputs. Crate flatten calls it for each of at most 1,024
+// records.
 pub fn check11(file: &[u8], n: usize, p: usize) -> bool
     requires { ⌜ p < 1024 ⌝ }
     ensures { λ r. ⌜ r ≡ fails11 (recordAt (now (file .entry))) n p ⌝ }
@@ -242,7 +245,7 @@ pub fn check11(file: &[u8], n: usize, p: usize) -> bool
 // Whether the child's output that a record starts at exists.
 fn has_from(file: &[u8], n: usize, children: &[u16], r: Record) -> bool
     requires { ⌜ IsTable 256 (child (recordAt (now file)) n) (now children) ⌝ }
-    ensures { λ x. ⌜ x ≡ fromThere (now (file .entry)) n r ⌝ }
+    ensures { λ x. ⌜ x ≡ fromThere (recordAt (now (file .entry))) n r ⌝ }
 {
     let from = child_of(file, n, children, owner_of(r), from_of(r));
     output_of(r) < outputs_of(record_at(file, from))
@@ -250,7 +253,7 @@ fn has_from(file: &[u8], n: usize, children: &[u16], r: Record) -> bool
 
 // Whether the owner's input that a record starts at exists.
 fn has_port(file: &[u8], r: Record) -> bool
-    ensures { λ x. ⌜ x ≡ portThere (now (file .entry)) r ⌝ }
+    ensures { λ x. ⌜ x ≡ portThere (recordAt (now (file .entry))) r ⌝ }
 {
     port_of(r) < inputs_of(record_at(file, owner_of(r)))
 }
@@ -258,13 +261,13 @@ fn has_port(file: &[u8], r: Record) -> bool
 // Whether the child's input that a record enters exists.
 fn has_to(file: &[u8], n: usize, children: &[u16], r: Record) -> bool
     requires { ⌜ IsTable 256 (child (recordAt (now file)) n) (now children) ⌝ }
-    ensures { λ x. ⌜ x ≡ toThere (now (file .entry)) n r ⌝ }
+    ensures { λ x. ⌜ x ≡ toThere (recordAt (now (file .entry))) n r ⌝ }
 {
     let to = child_of(file, n, children, owner_of(r), to_of(r));
     input_of(r) < inputs_of(record_at(file, to))
 }
 
-// 12: a child or port in kinds 2 to 4 does not exist.
+// 12: a child or port in kinds 2 to 4 does not exist. Crate flatten calls it with the table that `index_children` has filled.
 pub fn check12(file: &[u8], n: usize, children: &[u16], p: usize) -> bool
     requires { ⌜ IsTable 256 (child (recordAt (now file)) n) (now children) ⌝ }
     ensures { λ r. ⌜ r ≡ fails12 (recordAt (now (file .entry))) n p ⌝ }
@@ -284,7 +287,7 @@ pub fn check12(file: &[u8], n: usize, children: &[u16], p: usize) -> bool
 }
 
 // Whether a record enters a child's input.
-pub fn enters(r: Record) -> bool
+fn enters(r: Record) -> bool
     ensures { λ x. ⌜ x ≡ entering r ⌝ }
 {
     let form = form_of(r);

@@ -7,7 +7,7 @@ use crate::Id;
 use crate::Record;
 
 // The record kind; 0 where the record is refused.
-pub fn form_of(r: Record) -> u8
+pub(crate) fn form_of(r: Record) -> u8
     ensures { λ x. ⌜ x ≡ formOf r ⌝ }
 {
     match r {
@@ -20,7 +20,7 @@ pub fn form_of(r: Record) -> u8
 }
 
 // The owner: the position of a component.
-pub fn owner_of(r: Record) -> usize
+pub(crate) fn owner_of(r: Record) -> usize
     ensures { λ x. ⌜ x ≡ ownerOf r ⌝ }
 {
     match r {
@@ -33,7 +33,7 @@ pub fn owner_of(r: Record) -> usize
 }
 
 // The kind of a component; 256 where the record is none.
-pub fn kind_of(r: Record) -> u16
+fn kind_of(r: Record) -> u16
     ensures { λ x. ⌜ x ≡ fieldsOf r .kind ⌝ }
 {
     match r {
@@ -46,7 +46,7 @@ pub fn kind_of(r: Record) -> u16
 }
 
 // The id of a component.
-pub fn id_of(r: Record) -> Id
+pub(crate) fn id_of(r: Record) -> Id
     ensures { λ x. ⌜ x .0 ≡ idOf r ⌝ }
 {
     match r {
@@ -59,7 +59,7 @@ pub fn id_of(r: Record) -> Id
 }
 
 // How many inputs a component has.
-pub fn inputs_of(r: Record) -> u16
+pub(crate) fn inputs_of(r: Record) -> u16
     ensures { λ x. ⌜ x ≡ inputsOf r ⌝ }
 {
     match r {
@@ -72,7 +72,7 @@ pub fn inputs_of(r: Record) -> u16
 }
 
 // How many outputs a component has.
-pub fn outputs_of(r: Record) -> u16
+pub(crate) fn outputs_of(r: Record) -> u16
     ensures { λ x. ⌜ x ≡ outputsOf r ⌝ }
 {
     match r {
@@ -111,7 +111,7 @@ pub fn output_of(r: Record) -> u16
 }
 
 // The child that a connection or an input map enters.
-pub fn to_of(r: Record) -> ChildNo
+pub(crate) fn to_of(r: Record) -> ChildNo
     ensures { λ x. ⌜ x .0 ≡ toOf r ⌝ }
 {
     match r {
@@ -124,7 +124,7 @@ pub fn to_of(r: Record) -> ChildNo
 }
 
 // The input of that child.
-pub fn input_of(r: Record) -> u16
+pub(crate) fn input_of(r: Record) -> u16
     ensures { λ x. ⌜ x ≡ inputOf r ⌝ }
 {
     match r {
@@ -137,7 +137,7 @@ pub fn input_of(r: Record) -> u16
 }
 
 // The owner's input that an input map starts at.
-pub fn port_of(r: Record) -> u16
+pub(crate) fn port_of(r: Record) -> u16
     ensures { λ x. ⌜ x ≡ portOf r ⌝ }
 {
     match r {
@@ -150,7 +150,7 @@ pub fn port_of(r: Record) -> u16
 }
 
 // A component of kind 0.
-pub fn is_composite(r: Record) -> bool
+pub(crate) fn is_composite(r: Record) -> bool
     ensures { λ x. ⌜ x ≡ composite r ⌝ }
 {
     kind_of(r) == 0

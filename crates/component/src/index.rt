@@ -1,12 +1,13 @@
 // An index of the records: where child k of a component stands, and output map i of a composite, and between which
 // records its input maps stand. Rule: docs/SPECIFICATION.md, "The drawing file". The tables are filled in one pass
 // each, for the first 256 owners; past them the records are searched one by one.
-// Only crate flatten calls these functions, with the number of records for n.
+// Crates flatten and load call these functions, with the number of records for n.
 ghost use mathlib.Core.Path.{_≡_};
 ghost use Prim.Native.Nat.{ℕ, _*_, _≤_, _<_};
 ghost use lib.ListN.{length, getD};
 ghost use Rattle.component.specs.Record.{recordAt};
-ghost use Rattle.component.specs.Index.{ownedAs, nthOwned, putWord, putCount, widenLow, widenHigh};
+ghost use Rattle.component.specs.Index.{nthOwned, putWord, putCount, widenLow, widenHigh};
+ghost use Rattle.component.specs.Record.{ownedAs};
 ghost use Rattle.component.specs.Index.{IsClear, IsTable, IsRange};
 ghost use Rattle.component.specs.Drawing.{child, outMap};
 use crate::ChildNo;
@@ -16,7 +17,7 @@ use crate::fields::owner_of;
 use crate::reader::record_at;
 
 // Whether a record is of a kind and of an owner.
-pub fn is_owned(r: Record, form: u8, o: usize) -> bool
+pub(crate) fn is_owned(r: Record, form: u8, o: usize) -> bool
     ensures { λ x. ⌜ x ≡ ownedAs form o r ⌝ }
 {
     (form_of(r) == form) & (owner_of(r) == o)
@@ -86,7 +87,8 @@ fn fill(file: &[u8], n: usize, form: u8, first: usize, w: usize, table: &mut [u1
     }
 }
 
-// Fills the table of children: word 256 * o + k is child k of owner o.
+// Fills the table of children: word 256 * o + k is child k of owner o. Crates flatten and load call it for a file of at most 1,024
+// records, with a table of that size.
 pub fn index_children(file: &[u8], n: usize, children: &mut [u16])
     requires { ⌜ (n ≤ 1024) × (length (now children) ≡ 65536) ⌝ }
     ensures { λ _. ⌜ IsTable 256 (child (recordAt (now (file .entry))) n) (now (children .exit)) ⌝ }
@@ -94,7 +96,8 @@ pub fn index_children(file: &[u8], n: usize, children: &mut [u16])
     fill(file, n, 1, 1, 256, children);
 }
 
-// Fills the table of output maps: word 64 * c + i is the record that maps output i of composite c.
+// Fills the table of output maps: word 64 * c + i is the record that maps output i of composite c. Crates flatten and load call it
+// likewise.
 pub fn index_outs(file: &[u8], n: usize, outs: &mut [u16])
     requires { ⌜ (n ≤ 1024) × (length (now outs) ≡ 16384) ⌝ }
     ensures { λ _. ⌜ IsTable 64 (outMap (recordAt (now (file .entry))) n) (now (outs .exit)) ⌝ }
@@ -102,7 +105,7 @@ pub fn index_outs(file: &[u8], n: usize, outs: &mut [u16])
     fill(file, n, 4, 0, 64, outs);
 }
 
-// Child k of owner o; n where there is none.
+// Child k of owner o; n where there is none. Crates flatten and load call it with the table that `index_children` has filled.
 pub fn child_of(file: &[u8], n: usize, children: &[u16], o: usize, k: ChildNo) -> usize
     requires { ⌜ IsTable 256 (child (recordAt (now file)) n) (now children) ⌝ }
     ensures { λ r. ⌜ r ≡ child (recordAt (now (file .entry))) n o (k .0) ⌝ }
@@ -116,7 +119,8 @@ pub fn child_of(file: &[u8], n: usize, children: &[u16], o: usize, k: ChildNo) -
     nth_owned(file, n, 1, 1, o, at)
 }
 
-// The record that maps output i of composite c; n where there is none.
+// The record that maps output i of composite c; n where there is none. Crate flatten calls it with the table that `index_outs` has
+// filled.
 pub fn out_map_of(file: &[u8], n: usize, outs: &[u16], c: usize, i: u16) -> usize
     requires { ⌜ IsTable 64 (outMap (recordAt (now file)) n) (now outs) ⌝ }
     ensures { λ r. ⌜ r ≡ outMap (recordAt (now (file .entry))) n c i ⌝ }
@@ -149,7 +153,8 @@ fn widen(lo: &mut [u16], hi: &mut [u16], r: Record, q: u16)
     }
 }
 
-// Fills the ranges of input maps: those of composite c stand from lo[c] to before hi[c].
+// Fills the ranges of input maps: those of composite c stand from lo[c] to before hi[c]. Crates flatten and load call it for a file of
+// at most 1,024 records.
 pub fn index_ranges(file: &[u8], n: usize, lo: &mut [u16], hi: &mut [u16])
     requires { ⌜ (n ≤ 1024) × (length (now lo) ≡ 256) × (length (now hi) ≡ 256) ⌝ }
     ensures { λ _. ⌜ IsRange (now (file .entry)) n (now (lo .exit)) (now (hi .exit)) ⌝ }

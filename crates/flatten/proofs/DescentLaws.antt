@@ -23,7 +23,8 @@ use Rattle.component.specs.declared.Record.{Record}
 use Rattle.component.specs.declared.Record.the-variants.{Connection, InputMap}
 use Rattle.component.specs.Record.{recordAt, formOf, ownerOf, portOf, fieldsOf, fromOf, outputOf, toOf, inputOf, isPrimitive}
 use Rattle.component.specs.Drawing.{deepest, child, mapsIn, outMap}
-use Rattle.component.specs.Index.{ownedAs, IsRange}
+use Rattle.component.specs.Index.{IsRange}
+use Rattle.component.specs.Record.{ownedAs}
 use Rattle.component.proofs.Record.{the-type}
 use Rattle.component.proofs.RecordLaws.{formOf-no-connection, formOf-no-input-map}
 use Rattle.flatten.specs.declared.Pin.{Pin}

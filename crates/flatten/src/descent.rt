@@ -37,7 +37,7 @@ pub fn deepest() -> u8
 }
 
 // The bits of each input of a component; 1 where the record is none.
-pub fn input_width_of(r: Record) -> u64
+fn input_width_of(r: Record) -> u64
     ensures { λ x. ⌜ x ≡ inputWidth (fieldsOf r) ⌝ }
 {
     match r {
@@ -50,7 +50,7 @@ pub fn input_width_of(r: Record) -> u64
 }
 
 // The bits of each output of a component; 1 where the record is none.
-pub fn output_width_of(r: Record) -> u64
+fn output_width_of(r: Record) -> u64
     ensures { λ x. ⌜ x ≡ outputWidth (fieldsOf r) ⌝ }
 {
     match r {
@@ -62,7 +62,8 @@ pub fn output_width_of(r: Record) -> u64
     }
 }
 
-// Output i of component c, down through output maps to a primitive's output, with the depth left.
+// Output i of component c, down through output maps to a primitive's output, with the depth left. Crate load calls it too; both have
+// filled the index.
 pub fn source_of(
     file: &[u8],
     n: usize,
@@ -87,7 +88,7 @@ pub fn source_of(
     source_of(file, n, children, outs, depth - 1, from, output_of(map))
 }
 
-// Where the record at q leads, if it maps input i of composite c.
+// Where the record at q leads, if it maps input i of composite c. Crate load calls it too, with the index filled.
 pub fn enter(file: &[u8], n: usize, children: &[u16], c: usize, i: u16, q: usize) -> Entered
     requires { ⌜ IsTable 256 (child (recordAt (now file)) n) (now children) ⌝ }
     ensures { λ r. ⌜ r ≡ entered (recordAt (now (file .entry))) n c i q ⌝ }
@@ -110,7 +111,8 @@ pub fn enter(file: &[u8], n: usize, children: &[u16], c: usize, i: u16, q: usize
     Entered::To(child_of(file, n, children, c, to), input)
 }
 
-// The positions at which the input maps of composite c stand: those of the index, and all where the index has no word of c.
+// The positions at which the input maps of composite c stand: those of the index, and all where the index has no word of c. Crate load
+// calls it too, with the index filled.
 pub fn stretch_of(file: &[u8], n: usize, lo: &[u16], hi: &[u16], c: usize) -> Stretch
     requires { ⌜ IsRange (now file) n (now lo) (now hi) ⌝ }
     ensures { λ r. ⌜ IsStretch (recordAt (now (file .entry))) n c (r .first) (r .end) ⌝ }
@@ -125,7 +127,7 @@ pub fn stretch_of(file: &[u8], n: usize, lo: &[u16], hi: &[u16], c: usize) -> St
 }
 
 // Whether input i of component c leads, through input maps and with the depth left, to an input of another width.
-pub fn differs(
+fn differs(
     file: &[u8],
     n: usize,
     children: &[u16],
@@ -162,7 +164,7 @@ pub fn differs(
 }
 
 // 15: a connection yields a wire whose ends differ in width.
-pub fn check15(
+pub(crate) fn check15(
     file: &[u8],
     n: usize,
     children: &[u16],

@@ -17,7 +17,7 @@ use Rattle.lists.proofs.ListsLaws.{and-left, and-right}
 use Rattle.lists.proofs.MembersLaws.{In, in-cond, in-getD, getD-cases, keep-sound, from0-sound, from0-complete, joined-sound, joined-complete}
 use Rattle.component.specs.declared.Record.{Record}
 use Rattle.component.specs.Record.{formOf, ownerOf, fromOf, outputOf, toOf, inputOf, portOf, outputsOf, composite, isPrimitive}
-use Rattle.component.specs.Drawing.{deepest, child, deeper, mapsIn, outMaps, outMap, hasFrom}
+use Rattle.component.specs.Drawing.{deepest, child, deeper, mapsIn, outMaps, outMap, fromThere}
 use Rattle.flatten.specs.declared.Pin.{Pin}
 use Rattle.flatten.specs.Descent.{pin, source, targets}
 use Rattle.flatten.specs.Leads.{From, starts, through, Into, ends, maps}
@@ -142,8 +142,8 @@ module _ (at : ℕ → Record) (n : ℕ) (d : Passed at n) where
       let l : q < n =
       from0-sound n q (keep-sound (λ q. eqb (formOf (at q)) 4 && eqb (ownerOf (at q)) c) q (from 0 n) place .1) in
       let m = outMap-sound at n c i l in
-      let twelve : not (hasFrom at n q) ≡ false = rw (m .0) at (d .passes 12 q l) in
-      (l, rw (m .1) at (ltb-true (outputOf (at q)) _ (not-false (hasFrom at n q) twelve)))
+      let twelve : not (fromThere at n (at q)) ≡ false = rw (m .0) at (d .passes 12 q l) in
+      (l, rw (m .1) at (ltb-true (outputOf (at q)) _ (not-false (fromThere at n (at q)) twelve)))
 
   -- The source found is where the output comes from.
   pub source-sound : (g f c i : ℕ) → g + f ≡ deepest → deeper at n g c ≡ true → i < outputsOf (at c)

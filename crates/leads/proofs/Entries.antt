@@ -19,8 +19,8 @@ use Rattle.lists.specs.Lists.{from, any, joined}
 use Rattle.lists.proofs.ListsLaws.{and-right}
 use Rattle.lists.proofs.MembersLaws.{In, Distinct, in-cond, or-cases, any-none, from0-sound, from0-complete, distinct-joined, distinct-from}
 use Rattle.component.specs.declared.Record.{Record}
-use Rattle.component.specs.Record.{formOf, ownerOf, toOf, inputOf, portOf, inputsOf, isPrimitive}
-use Rattle.component.specs.Drawing.{deepest, child, mapsIn, enters, sameEntry, hasFrom, hasPort, hasTo}
+use Rattle.component.specs.Record.{formOf, ownerOf, toOf, inputOf, portOf, inputsOf, isPrimitive, entering, enteringAs}
+use Rattle.component.specs.Drawing.{deepest, child, mapsIn, fromThere, portThere, toThere}
 use Rattle.flatten.specs.declared.Pin.{Pin}
 use Rattle.flatten.specs.Descent.{pin, targets, targetsOf}
 use Rattle.flatten.specs.Leads.{Into, ends, maps}
@@ -45,38 +45,38 @@ data Under (at : ℕ → Record) (n : ℕ) (x : Pin) : Pin → Type 0 where
   down : {t : Pin} (q : ℕ) → q < n → formOf (at q) ≡ 3 → Under at n x (start at q) → t ≡ entry at n q → Under at n x t
 
 module _ (at : ℕ → Record) (n : ℕ) (d : Passed at n) where
-  connection-enters : (p : ℕ) → formOf (at p) ≡ 2 → enters at n p ≡ true
+  connection-enters : (p : ℕ) → formOf (at p) ≡ 2 → entering (at p) ≡ true
   connection-enters p e = rw e
 
-  map-enters : (p : ℕ) → formOf (at p) ≡ 3 → enters at n p ≡ true
+  map-enters : (p : ℕ) → formOf (at p) ≡ 3 → entering (at p) ≡ true
   map-enters p e = rw e
 
   -- The input that a record enters is there (check 12).
-  pub entry-there : (p : ℕ) → p < n → enters at n p ≡ true
+  pub entry-there : (p : ℕ) → p < n → entering (at p) ≡ true
       → inputOf (at p) < inputsOf (at (child at n (ownerOf (at p)) (toOf (at p))))
   entry-there p l e =
       ltb-true _ _
       (⊎-elim (λ u. by-connection (eqb-true (formOf (at p)) 2 u)) (λ u. by-map (eqb-true (formOf (at p)) 3 u))
       (or-cases (eqb (formOf (at p)) 2) (eqb (formOf (at p)) 3) e))
     where
-      by-connection : formOf (at p) ≡ 2 → hasTo at n p ≡ true
-      by-connection u = and-right (hasFrom at n p) (hasTo at n p) (not-false _ (rw u at (d .passes 12 p l)))
+      by-connection : formOf (at p) ≡ 2 → toThere at n (at p) ≡ true
+      by-connection u = and-right (fromThere at n (at p)) (toThere at n (at p)) (not-false _ (rw u at (d .passes 12 p l)))
 
-      by-map : formOf (at p) ≡ 3 → hasTo at n p ≡ true
-      by-map u = and-right (hasPort at n p) (hasTo at n p) (not-false _ (rw u at (d .passes 12 p l)))
+      by-map : formOf (at p) ≡ 3 → toThere at n (at p) ≡ true
+      by-map u = and-right (portThere at (at p)) (toThere at n (at p)) (not-false _ (rw u at (d .passes 12 p l)))
 
-  entry-component : (p : ℕ) → p < n → enters at n p ≡ true → formOf (at (child at n (ownerOf (at p)) (toOf (at p)))) ≡ 1
+  entry-component : (p : ℕ) → p < n → entering (at p) ≡ true → formOf (at (child at n (ownerOf (at p)) (toOf (at p)))) ≡ 1
   entry-component p l e = input-component (at (child at n (ownerOf (at p)) (toOf (at p)))) _ (entry-there p l e)
 
-  entry-earlier : (p q : ℕ) → p < q → q < n → enters at n p ≡ true → enters at n q ≡ true
+  entry-earlier : (p q : ℕ) → p < q → q < n → entering (at p) ≡ true → entering (at q) ≡ true
       → ownerOf (at p) ≡ ownerOf (at q) → toOf (at p) ≡ toOf (at q) → inputOf (at p) ≡ inputOf (at q) → ⊥
   entry-earlier p q l m a b o t i =
-      let thirteen : any (sameEntry at n q) (from 0 q) ≡ false = rw b at (d .passes 13 q m) in
-      let same : sameEntry at n q p ≡ true = rw (a, eq-eqb _ _ o, eq-eqb _ _ t, eq-eqb _ _ i) in
-      true≢false (sym same ∙ any-none (sameEntry at n q) p (from 0 q) thirteen (from0-complete q p l))
+      let thirteen : any (λ z. enteringAs (at q) (at z)) (from 0 q) ≡ false = rw b at (d .passes 13 q m) in
+      let same : enteringAs (at q) (at p) ≡ true = rw (a, eq-eqb _ _ o, eq-eqb _ _ t, eq-eqb _ _ i) in
+      true≢false (sym same ∙ any-none (λ z. enteringAs (at q) (at z)) p (from 0 q) thirteen (from0-complete q p l))
 
   -- Two records that enter one input are one record (check 13).
-  pub entry-inj : (p q : ℕ) → p < n → q < n → enters at n p ≡ true → enters at n q ≡ true
+  pub entry-inj : (p q : ℕ) → p < n → q < n → entering (at p) ≡ true → entering (at q) ≡ true
       → entry at n p ≡ entry at n q → p ≡ q
   entry-inj p q l m a b e =
       let c : child at n (ownerOf (at p)) (toOf (at p)) ≡ child at n (ownerOf (at q)) (toOf (at q)) =

@@ -12,7 +12,7 @@ use Rattle.lists.proofs.ListsLaws.{and-left, and-right}
 use Rattle.lists.proofs.MembersLaws.{In, in-cond, from0-sound, from0-complete, joined-sound, joined-complete, map-sound, map-complete}
 use Rattle.component.specs.declared.Record.{Record}
 use Rattle.component.specs.Record.{formOf, ownerOf, fromOf, outputOf, toOf, inputOf, inputsOf, outputsOf}
-use Rattle.component.specs.Drawing.{deepest, child, hasFrom, hasTo}
+use Rattle.component.specs.Drawing.{deepest, child, fromThere, toThere}
 use Rattle.flatten.specs.declared.Pin.{Pin}
 use Rattle.flatten.specs.declared.Wire.{Wire}
 use Rattle.flatten.specs.Descent.{sourceOf, targetsOf, wiresAt, wires}
@@ -62,9 +62,9 @@ module _ (at : ℕ → Record) (n : ℕ) (d : Passed at n) where
       → (outputOf (at p) < outputsOf (at (child at n (ownerOf (at p)) (fromOf (at p)))))
       × (inputOf (at p) < inputsOf (at (child at n (ownerOf (at p)) (toOf (at p)))))
   connection-ends p l e =
-      let twelve : (hasFrom at n p && hasTo at n p) ≡ true = not-false _ (rw e at (d .passes 12 p l)) in (
-        ltb-true _ _ (and-left (hasFrom at n p) (hasTo at n p) twelve),
-        ltb-true _ _ (and-right (hasFrom at n p) (hasTo at n p) twelve),
+      let twelve : (fromThere at n (at p) && toThere at n (at p)) ≡ true = not-false _ (rw e at (d .passes 12 p l)) in (
+        ltb-true _ _ (and-left (fromThere at n (at p)) (toThere at n (at p)) twelve),
+        ltb-true _ _ (and-right (fromThere at n (at p)) (toThere at n (at p)) twelve),
       )
 
   -- The depth counts from the connection's children.

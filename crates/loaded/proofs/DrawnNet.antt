@@ -27,7 +27,7 @@ use Rattle.leads.proofs.Bound.{entered}
 use Rattle.leads.proofs.Primitives.{flat-onto, id-inj}
 use Rattle.leads.proofs.FlatWires.{flatWires-sound, flatWires-distinct}
 use Rattle.tables.specs.Tables.{Tables, fieldsAt, idAt, firstInput, firstOutput, inputPlace, indexes}
-use Rattle.net.specs.Net.{kindsObeyed, idsDistinct, inputsBelow, outputsBelow, portsFollow, isOutput, isInput, wiresFit, inputsOnce}
+use Rattle.net.specs.Net.{kindsObeyed, idsDistinct, inputSum, outputSum, portsFollow, isOutput, isInput, wiresFit, inputsOnce}
 use Rattle.loaded.proofs.Ports.{primitive-obeyed}
 use Rattle.loaded.proofs.Drawn.{IsDrawn, drawn-primitive, drawn-every, drawn-isOutput, drawn-isInput, drawn-inputPlace-inj}
 
@@ -72,20 +72,20 @@ module _ (at : ℕ → Record) (n : ℕ) (p : Passed at n) (U : Tables) (d : IsD
   pub drawn-portsFollow : portsFollow U ≡ true
   unfolding portsFollow
   drawn-portsFollow =
-      let inputs : (m : ℕ) → inputsBelow U (flat at n m) ≡ inputsBefore at n m = portsBelow (λ f. f .inputs) in
-      let outputs : (m : ℕ) → outputsBelow U (flat at n m) ≡ outputsBefore at n m = portsBelow (λ f. f .outputs) in
+      let inputs : (m : ℕ) → inputSum (U .components) (flat at n m) ≡ inputsBefore at n m = portsBelow (λ f. f .inputs) in
+      let outputs : (m : ℕ) → outputSum (U .components) (flat at n m) ≡ outputsBefore at n m = portsBelow (λ f. f .outputs) in
       let follows : ℕ → Bool =
-      λ i. eqb (firstInput U i) (inputsBelow U i) && eqb (firstOutput U i) (outputsBelow U i) in
+      λ i. eqb (firstInput U i) (inputSum (U .components) i) && eqb (firstOutput U i) (outputSum (U .components) i) in
       let each : every follows (indexes U) ≡ true =
       drawn-every at n U d follows
       (λ c e. rw (
         eq-eqb _ _ (d .first-input c e ∙ sym (inputs c)),
         eq-eqb _ _ (d .first-output c e ∙ sym (outputs c)),
       )) in
-      let all-inputs : U .counts .inputs ≡ inputsBelow U (U .counts .components) =
-      d .input-count ∙ sym (inputs n) ∙ ap (inputsBelow U) (sym (d .component-count)) in
-      let all-outputs : U .counts .outputs ≡ outputsBelow U (U .counts .components) =
-      d .output-count ∙ sym (outputs n) ∙ ap (outputsBelow U) (sym (d .component-count)) in
+      let all-inputs : U .counts .inputs ≡ inputSum (U .components) (U .counts .components) =
+      d .input-count ∙ sym (inputs n) ∙ ap (inputSum (U .components)) (sym (d .component-count)) in
+      let all-outputs : U .counts .outputs ≡ outputSum (U .components) (U .counts .components) =
+      d .output-count ∙ sym (outputs n) ∙ ap (outputSum (U .components)) (sym (d .component-count)) in
       rw (each, eq-eqb _ _ all-inputs, eq-eqb _ _ all-outputs)
 
   -- Wires have ends that exist and equal widths.

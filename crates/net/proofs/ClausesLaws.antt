@@ -16,9 +16,10 @@ use Rattle.tables.specs.declared.Counts.{Counts}
 use Rattle.tables.specs.Tables.{Tables, wordIn, fieldsIn, fieldsFit, fieldsAt, firstInput, firstOutput, inputPlace, wireAt}
 use Rattle.tables.proofs.RowsLaws.{obeyed-fit, fieldsFit-inputs, fieldsFit-outputs}
 use Rattle.tables.proofs.PartsLaws.{AllTrue, parts-sound}
-use Rattle.net.specs.Net.{countsWithin, lent, kindsObeyed, inputsBelow, outputsBelow, portsFollow, isOutput, isInput, wiresFit, inputsOnce}
+use Rattle.net.specs.Net.{countsWithin, lent, kindsObeyed, portsFollow, isOutput, isInput, wiresFit, inputsOnce}
 use Rattle.net.proofs.StepsLaws.{every-map, map-map, total-room}
-use Rattle.net.specs.Parts.{obeyedAt, inputSum, outputSum, followAt, targetIn, placeIn, wireRight, PortsInside, PlacesInside}
+use Rattle.net.specs.Net.{obeyedAt, inputSum, outputSum, followAt}
+use Rattle.net.specs.Parts.{targetIn, placeIn, wireRight, PortsInside, PlacesInside}
 
 -- "counts are within these limits"
 pub record Within (m : Counts) : Type 0 where
@@ -88,30 +89,30 @@ module _ (T : Tables) (e : portsFollow T ≡ true) where
   abbrev n : ℕ
   n = T .counts .components
 
-  follow-parts : AllTrue (every (followAt cs) (from 0 n) ∷ eqb (T .counts .inputs) (inputsBelow T n)
-      ∷ eqb (T .counts .outputs) (outputsBelow T n) ∷ [])
+  follow-parts : AllTrue (every (followAt cs) (from 0 n) ∷ eqb (T .counts .inputs) (inputSum (T .components) n)
+      ∷ eqb (T .counts .outputs) (outputSum (T .components) n) ∷ [])
   unfolding portsFollow
   follow-parts =
       parts-sound (every (followAt cs) (from 0 n))
-      (eqb (T .counts .inputs) (inputsBelow T n) ∷ eqb (T .counts .outputs) (outputsBelow T n) ∷ []) e
+      (eqb (T .counts .inputs) (inputSum (T .components) n) ∷ eqb (T .counts .outputs) (outputSum (T .components) n) ∷ []) e
 
-  pub portsFollow-inputCount : T .counts .inputs ≡ inputsBelow T n
-  portsFollow-inputCount = eqb-true (T .counts .inputs) (inputsBelow T n) (follow-parts .1 .0)
+  pub portsFollow-inputCount : T .counts .inputs ≡ inputSum (T .components) n
+  portsFollow-inputCount = eqb-true (T .counts .inputs) (inputSum (T .components) n) (follow-parts .1 .0)
 
-  pub portsFollow-outputCount : T .counts .outputs ≡ outputsBelow T n
-  portsFollow-outputCount = eqb-true (T .counts .outputs) (outputsBelow T n) (follow-parts .1 .1 .0)
+  pub portsFollow-outputCount : T .counts .outputs ≡ outputSum (T .components) n
+  portsFollow-outputCount = eqb-true (T .counts .outputs) (outputSum (T .components) n) (follow-parts .1 .1 .0)
 
   module _ (i : ℕ) (h : i < n) where
-    pub portsFollow-firstInput : firstInput T i ≡ inputsBelow T i
+    pub portsFollow-firstInput : firstInput T i ≡ inputSum (T .components) i
     portsFollow-firstInput =
-        eqb-true (firstInput T i) (inputsBelow T i)
-        (and-left (eqb (firstInput T i) (inputsBelow T i)) (eqb (firstOutput T i) (outputsBelow T i))
+        eqb-true (firstInput T i) (inputSum (T .components) i)
+        (and-left (eqb (firstInput T i) (inputSum (T .components) i)) (eqb (firstOutput T i) (outputSum (T .components) i))
         (every-from (followAt cs) n (follow-parts .0) i h))
 
-    pub portsFollow-firstOutput : firstOutput T i ≡ outputsBelow T i
+    pub portsFollow-firstOutput : firstOutput T i ≡ outputSum (T .components) i
     portsFollow-firstOutput =
-        eqb-true (firstOutput T i) (outputsBelow T i)
-        (and-right (eqb (firstInput T i) (inputsBelow T i)) (eqb (firstOutput T i) (outputsBelow T i))
+        eqb-true (firstOutput T i) (outputSum (T .components) i)
+        (and-right (eqb (firstInput T i) (inputSum (T .components) i)) (eqb (firstOutput T i) (outputSum (T .components) i))
         (every-from (followAt cs) n (follow-parts .0) i h))
 
     pub portsFollow-inputs : firstInput T i + fieldsAt T i .inputs ≤ T .counts .inputs

@@ -26,7 +26,7 @@ use Rattle.tables.specs.Tables.{Tables, fullSize, fieldsAt, idAt, firstInput, f
 use Rattle.tables.proofs.PartsLaws.{AllTrue, parts-sound, parts-complete}
 use Rattle.tables.proofs.SizesLaws.{Full, fullSize-sound}
 use Rattle.net.specs.Net.{countsWithin, lent, kindsObeyed, idsDistinct, portsFollow, valuesFit, constsHeld, isOutput, isInput, wiresFit, inputsOnce, names, isCircuit, isNet, netNumber}
-use Rattle.net.specs.Parts.{fitAt, heldAt}
+use Rattle.net.specs.Net.{fitAt, heldAt}
 use Rattle.net.proofs.ClausesLaws.{Within, countsWithin-sound, portsFollow-inputsApart, portsFollow-outputsApart, portsFollow-inputs, portsFollow-outputs, kindsObeyed-at}
 
 -- The clauses.

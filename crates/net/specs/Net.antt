@@ -11,7 +11,7 @@ use Rattle.primitive.specs.Kinds.{is, primitive, obeys, inputWidth, outputWidth
 use Rattle.flatten.specs.declared.Pin.{Pin}
 use Rattle.flatten.specs.declared.Wire.{Wire}
 use Rattle.tables.specs.declared.Counts.{Counts}
-use Rattle.tables.specs.Tables.{Tables, tablesOf, fullSize, fieldsAt, idAt, firstInput, firstOutput, inputPlace, inputsAt, outputsAt, indexes, wiresIn, currentList, followingList, standingList}
+use Rattle.tables.specs.Tables.{Tables, tablesOf, fullSize, wordIn, fieldsIn, fieldsAt, idAt, inputPlace, numbers, indexes, wiresIn, currentList, followingList, standingList}
 
 -- Counts are within the limits.
 unfoldable pub countsWithin : Counts → Bool
@@ -19,39 +19,55 @@ countsWithin m =
     leb (m .components) 256 && leb (m .inputs) 1024 && leb (m .outputs) 1024 && leb (m .wires) 1024
     && leb (m .current) 256 && leb (m .following) 256 && leb (m .standing) 256
 
+-- Component i of a table of components is of kinds 1 to 13 and obeys the table of kinds.
+abbrev pub obeyedAt : List ℕ → ℕ → Bool
+obeyedAt cs i = primitive (fieldsIn cs i) && obeys (fieldsIn cs i)
+
+-- The inputs of the components below index i.
+abbrev pub inputSum : List ℕ → ℕ → ℕ
+inputSum cs i = total (λ j. wordIn cs j 4) (from 0 i)
+
+-- Their outputs.
+abbrev pub outputSum : List ℕ → ℕ → ℕ
+outputSum cs i = total (λ j. wordIn cs j 5) (from 0 i)
+
+-- The ports of component i start where those before it end.
+abbrev pub followAt : List ℕ → ℕ → Bool
+followAt cs i = eqb (wordIn cs i 6) (inputSum cs i) && eqb (wordIn cs i 7) (outputSum cs i)
+
+-- The values of component i fit, in tables of inputs and of outputs.
+abbrev pub fitAt : List ℕ → List ℕ → List ℕ → ℕ → Bool
+fitAt cs is os i =
+    every (λ x. below x (inputWidth (fieldsIn cs i))) (numbers is (wordIn cs i 6) (wordIn cs i 4))
+    && every (λ x. below x (outputWidth (fieldsIn cs i))) (numbers os (wordIn cs i 7) (wordIn cs i 5))
+
+-- Component i, where it is a Const, holds its value.
+abbrev pub heldAt : List ℕ → List ℕ → ℕ → Bool
+heldAt cs os i = not (is Const (fieldsIn cs i)) || eqb (getD os (wordIn cs i 7) 0) (wordIn cs i 3)
+
 module _ (T : Tables) where
   -- Components are of kinds 1 to 13 and obey the table of kinds.
   unfoldable pub kindsObeyed : Bool
-  kindsObeyed = every (λ i. primitive (fieldsAt T i) && obeys (fieldsAt T i)) (indexes T)
+  kindsObeyed = every (obeyedAt (T .components)) (indexes T)
 
   -- They have distinct ids, and an id has 32 bits.
   unfoldable pub idsDistinct : Bool
   idsDistinct = every (λ i. below (idAt T i) 32) (indexes T) && distinct (map (idAt T) (indexes T))
 
-  -- The inputs of the components below index i.
-  abbrev pub inputsBelow : ℕ → ℕ
-  inputsBelow i = total (λ j. fieldsAt T j .inputs) (from 0 i)
-
-  -- The outputs of the components below index i.
-  abbrev pub outputsBelow : ℕ → ℕ
-  outputsBelow i = total (λ j. fieldsAt T j .outputs) (from 0 i)
-
   -- Ports follow each other without gaps: a component's start where those before end, and the last end at the counts.
   unfoldable pub portsFollow : Bool
   portsFollow =
-      every (λ i. eqb (firstInput T i) (inputsBelow i) && eqb (firstOutput T i) (outputsBelow i)) (indexes T)
-      && eqb (T .counts .inputs) (inputsBelow (T .counts .components)) && eqb (T .counts .outputs) (outputsBelow (T .counts .components))
+      every (followAt (T .components)) (indexes T)
+      && eqb (T .counts .inputs) (inputSum (T .components) (T .counts .components))
+      && eqb (T .counts .outputs) (outputSum (T .components) (T .counts .components))
 
   -- Values fit.
   unfoldable pub valuesFit : Bool
-  valuesFit =
-      every (λ i.
-      every (λ x. below x (inputWidth (fieldsAt T i))) (inputsAt T (T .inputs) i)
-      && every (λ x. below x (outputWidth (fieldsAt T i))) (outputsAt T (T .outputs) i)) (indexes T)
+  valuesFit = every (fitAt (T .components) (T .inputs) (T .outputs)) (indexes T)
 
   -- Each Const's output is its value.
   unfoldable pub constsHeld : Bool
-  constsHeld = every (λ i. not (is Const (fieldsAt T i)) || eqb (getD (T .outputs) (firstOutput T i) 0) (fieldsAt T i .parameter)) (indexes T)
+  constsHeld = every (heldAt (T .components) (T .outputs)) (indexes T)
 
   -- An output exists.
   abbrev pub isOutput : Pin → Bool

@@ -5,7 +5,7 @@ ghost use Prim.Native.Nat.{_-_, _≤_};
 ghost use Rattle.lists.specs.Lists.{from, every, has, distinct};
 ghost use Rattle.value.specs.Value.{below};
 ghost use Rattle.net.specs.Net.{lent, idsDistinct};
-ghost use Rattle.net.specs.Parts.{idIn};
+ghost use Rattle.tables.specs.Tables.{idIn};
 use tables::Counts;
 
 // Whether the id of each of the first count components has 32 bits.
@@ -55,7 +55,7 @@ fn ids_apart(components: &[u64], count: usize) -> bool
 }
 
 // Whether the components have distinct ids.
-pub fn ids_distinct(components: &[u64], counts: Counts) -> bool
+pub(crate) fn ids_distinct(components: &[u64], counts: Counts) -> bool
     requires { ⌜ counts .components ≤ 256 ⌝ }
     ensures { λ r. ⌜ r ≡ idsDistinct (lent (now (components .entry)) [] [] [] counts) ⌝ }
 {

@@ -11,7 +11,7 @@ const PORTS: usize = 1024;
 const WIRES: usize = 1024;
 
 // Whether each count is within the full size of its table; a list names no more than all components.
-pub fn counts_within(counts: Counts) -> bool
+pub(crate) fn counts_within(counts: Counts) -> bool
     ensures { λ r. ⌜ r ≡ countsWithin counts ⌝ }
 {
     (counts.components <= COMPONENTS)

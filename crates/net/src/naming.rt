@@ -7,7 +7,7 @@ ghost use Rattle.net.specs.Net.{lent, names};
 use tables::Counts;
 
 // Whether the first `count` entries of a list name components, none twice: each component that is named is marked.
-pub fn names(list: &[u16], count: usize, counts: Counts) -> bool
+pub(crate) fn names(list: &[u16], count: usize, counts: Counts) -> bool
     requires { ⌜ (counts .components ≤ 256) × (count ≤ length (now list)) ⌝ }
     ensures { λ r. ⌜ r ≡ names (lent [] [] [] [] counts) (take count (now (list .entry))) ⌝ }
 {

@@ -4,7 +4,7 @@ ghost use mathlib.Core.Bool.{true};
 ghost use mathlib.Core.List.{[]};
 ghost use Prim.Native.Nat.{_<_, _≤_};
 ghost use Rattle.net.specs.Net.{lent, kindsObeyed, portsFollow};
-ghost use Rattle.net.specs.Parts.{obeyedAt};
+ghost use Rattle.net.specs.Net.{obeyedAt};
 use tables::Counts;
 
 // Whether component i is of kinds 1 to 13 and obeys the table of kinds. A word that no field can hold obeys nothing.
@@ -20,7 +20,7 @@ fn row_obeyed(components: &[u64], i: usize) -> bool
 }
 
 // Whether all components are and do.
-pub fn kinds_obeyed(components: &[u64], counts: Counts) -> bool
+pub(crate) fn kinds_obeyed(components: &[u64], counts: Counts) -> bool
     requires { ⌜ counts .components ≤ 256 ⌝ }
     ensures { λ r. ⌜ r ≡ kindsObeyed (lent (now (components .entry)) [] [] [] counts) ⌝ }
 {
@@ -36,7 +36,7 @@ pub fn kinds_obeyed(components: &[u64], counts: Counts) -> bool
 }
 
 // Whether each component's ports start where those before it end, the first at 0 and the last ending at the counts.
-pub fn ports_follow(components: &[u64], counts: Counts) -> bool
+pub(crate) fn ports_follow(components: &[u64], counts: Counts) -> bool
     requires { ⌜ (counts .components ≤ 256) × (kindsObeyed (lent (now components) [] [] [] counts) ≡ true) ⌝ }
     ensures { λ r. ⌜ r ≡ portsFollow (lent (now (components .entry)) [] [] [] counts) ⌝ }
 {

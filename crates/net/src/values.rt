@@ -8,7 +8,8 @@ ghost use Rattle.lists.specs.Lists.{every};
 ghost use Rattle.value.specs.Value.{below};
 ghost use Rattle.tables.specs.Tables.{fieldsIn, fieldsFit, numbers};
 ghost use Rattle.net.specs.Net.{lent, kindsObeyed, valuesFit, constsHeld};
-ghost use Rattle.net.specs.Parts.{InputsInside, OutputsInside, PortsInside, fitAt, heldAt};
+ghost use Rattle.net.specs.Net.{fitAt, heldAt};
+ghost use Rattle.net.specs.Parts.{InputsInside, OutputsInside, PortsInside};
 use tables::Counts;
 
 // Whether the numbers of `count` ports that start at `start` lie below 2^width.
@@ -42,7 +43,12 @@ fn row_fits(components: &[u64], inputs: &[u64], outputs: &[u64], i: usize) -> bo
 }
 
 // Whether all values fit.
-pub fn values_fit(components: &[u64], inputs: &[u64], outputs: &[u64], counts: Counts) -> bool
+pub(crate) fn values_fit(
+    components: &[u64],
+    inputs: &[u64],
+    outputs: &[u64],
+    counts: Counts,
+) -> bool
     requires { ⌜ (counts .components ≤ 256) × (kindsObeyed (lent (now components) [] [] [] counts) ≡ true) × PortsInside (now components) (now inputs) (now outputs) (counts .components) ⌝ }
     ensures { λ r. ⌜ r ≡ valuesFit (lent (now (components .entry)) (now (inputs .entry)) (now (outputs .entry)) [] counts) ⌝ }
 {
@@ -69,7 +75,7 @@ fn row_held(components: &[u64], outputs: &[u64], i: usize) -> bool
 }
 
 // Whether each Const's output is its value.
-pub fn consts_held(components: &[u64], outputs: &[u64], counts: Counts) -> bool
+pub(crate) fn consts_held(components: &[u64], outputs: &[u64], counts: Counts) -> bool
     requires { ⌜ counts .components ≤ 256 ⌝ }
     ensures { λ r. ⌜ r ≡ constsHeld (lent (now (components .entry)) [] (now (outputs .entry)) [] counts) ⌝ }
 {

@@ -28,7 +28,7 @@ fn wire_right(components: &[u64], wires: &[u16], counts: Counts, k: usize) -> bo
 }
 
 // Whether those of all wires do.
-pub fn wires_fit(components: &[u64], wires: &[u16], counts: Counts) -> bool
+pub(crate) fn wires_fit(components: &[u64], wires: &[u16], counts: Counts) -> bool
     requires { ⌜ (counts .wires ≤ 1024) × (counts .components ≤ 256) × (kindsObeyed (lent (now components) [] [] [] counts) ≡ true) ⌝ }
     ensures { λ r. ⌜ r ≡ wiresFit (lent (now (components .entry)) [] [] (now (wires .entry)) counts) ⌝ }
 {
@@ -55,7 +55,7 @@ fn place_of(components: &[u64], wires: &[u16], k: usize) -> usize
 }
 
 // Whether no input has two wires: each input that a wire enters is marked.
-pub fn inputs_once(components: &[u64], wires: &[u16], counts: Counts) -> bool
+pub(crate) fn inputs_once(components: &[u64], wires: &[u16], counts: Counts) -> bool
     requires { ⌜ (counts .wires ≤ 1024) × PlacesInside (now components) (now wires) (counts .wires) ⌝ }
     ensures { λ r. ⌜ r ≡ inputsOnce (lent (now (components .entry)) [] [] (now (wires .entry)) counts) ⌝ }
 {

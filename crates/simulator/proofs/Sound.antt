@@ -20,7 +20,7 @@ use Rattle.primitive.specs.Kinds.{is, primitive, obeys, inputWidth, outputWidth
 use Rattle.flatten.specs.declared.Wire.{Wire}
 use Rattle.tables.specs.Tables.{Tables, fullSize, fieldsAt, firstInput, firstOutput, inputPlace, outputPlace, indexes, wiresIn}
 use Rattle.tables.proofs.SizesLaws.{Full, fullSize-sound}
-use Rattle.net.specs.Net.{kindsObeyed, inputsBelow, outputsBelow, portsFollow, isOutput, isInput, wiresFit, inputsOnce, isNet}
+use Rattle.net.specs.Net.{kindsObeyed, inputSum, outputSum, portsFollow, isOutput, isInput, wiresFit, inputsOnce, isNet}
 use Rattle.net.proofs.ClausesLaws.{Within, countsWithin-sound}
 use Rattle.net.proofs.NetLaws.{Net, isNet-sound}
 use Rattle.simulator.proofs.Ports.{Off}
@@ -70,46 +70,46 @@ module _ (T : Tables) (full : fullSize T ≡ true) (net : isNet T ≡ true) wher
   counts = countsWithin-sound (T .counts) (clauses .counts)
 
   abbrev placed : ℕ → Bool
-  placed i = eqb (firstInput T i) (inputsBelow T i) && eqb (firstOutput T i) (outputsBelow T i)
+  placed i = eqb (firstInput T i) (inputSum (T .components) i) && eqb (firstOutput T i) (outputSum (T .components) i)
 
   each-placed : (i : ℕ) → i < n → placed i ≡ true
   unfolding portsFollow
   each-placed =
       let a = every placed (indexes T) in
-      let b = eqb (T .counts .inputs) (inputsBelow T n) in
-      let c = eqb (T .counts .outputs) (outputsBelow T n) in
+      let b = eqb (T .counts .inputs) (inputSum (T .components) n) in
+      let c = eqb (T .counts .outputs) (outputSum (T .components) n) in
       every-from placed n (and-left a b (and-left (a && b) c (clauses .ports)))
 
-  all-inputs : T .counts .inputs ≡ inputsBelow T n
+  all-inputs : T .counts .inputs ≡ inputSum (T .components) n
   unfolding portsFollow
   all-inputs =
       let a = every placed (indexes T) in
-      let b = eqb (T .counts .inputs) (inputsBelow T n) in
-      let c = eqb (T .counts .outputs) (outputsBelow T n) in
-      eqb-true (T .counts .inputs) (inputsBelow T n) (and-right a b (and-left (a && b) c (clauses .ports)))
+      let b = eqb (T .counts .inputs) (inputSum (T .components) n) in
+      let c = eqb (T .counts .outputs) (outputSum (T .components) n) in
+      eqb-true (T .counts .inputs) (inputSum (T .components) n) (and-right a b (and-left (a && b) c (clauses .ports)))
 
-  all-outputs : T .counts .outputs ≡ outputsBelow T n
+  all-outputs : T .counts .outputs ≡ outputSum (T .components) n
   unfolding portsFollow
   all-outputs =
       let a = every placed (indexes T) in
-      let b = eqb (T .counts .inputs) (inputsBelow T n) in
-      let c = eqb (T .counts .outputs) (outputsBelow T n) in
-      eqb-true (T .counts .outputs) (outputsBelow T n) (and-right (a && b) c (clauses .ports))
+      let b = eqb (T .counts .inputs) (inputSum (T .components) n) in
+      let c = eqb (T .counts .outputs) (outputSum (T .components) n) in
+      eqb-true (T .counts .outputs) (outputSum (T .components) n) (and-right (a && b) c (clauses .ports))
 
-  input-start : (i : ℕ) → i < n → firstInput T i ≡ inputsBelow T i
+  input-start : (i : ℕ) → i < n → firstInput T i ≡ inputSum (T .components) i
   input-start i h =
-      eqb-true (firstInput T i) (inputsBelow T i)
-      (and-left (eqb (firstInput T i) (inputsBelow T i)) (eqb (firstOutput T i) (outputsBelow T i)) (each-placed i h))
+      eqb-true (firstInput T i) (inputSum (T .components) i)
+      (and-left (eqb (firstInput T i) (inputSum (T .components) i)) (eqb (firstOutput T i) (outputSum (T .components) i)) (each-placed i h))
 
-  output-start : (i : ℕ) → i < n → firstOutput T i ≡ outputsBelow T i
+  output-start : (i : ℕ) → i < n → firstOutput T i ≡ outputSum (T .components) i
   output-start i h =
-      eqb-true (firstOutput T i) (outputsBelow T i)
-      (and-right (eqb (firstInput T i) (inputsBelow T i)) (eqb (firstOutput T i) (outputsBelow T i)) (each-placed i h))
+      eqb-true (firstOutput T i) (outputSum (T .components) i)
+      (and-right (eqb (firstInput T i) (inputSum (T .components) i)) (eqb (firstOutput T i) (outputSum (T .components) i)) (each-placed i h))
 
-  inputs-sum : (i j : ℕ) → i < j → inputsBelow T i + fieldsAt T i .inputs ≤ inputsBelow T j
+  inputs-sum : (i j : ℕ) → i < j → inputSum (T .components) i + fieldsAt T i .inputs ≤ inputSum (T .components) j
   inputs-sum = total-below (λ k. fieldsAt T k .inputs)
 
-  outputs-sum : (i j : ℕ) → i < j → outputsBelow T i + fieldsAt T i .outputs ≤ outputsBelow T j
+  outputs-sum : (i j : ℕ) → i < j → outputSum (T .components) i + fieldsAt T i .outputs ≤ outputSum (T .components) j
   outputs-sum = total-below (λ k. fieldsAt T k .outputs)
 
   abbrev same : Wire → Bool

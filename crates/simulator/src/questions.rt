@@ -36,7 +36,7 @@ const SOURCE: usize = 0;
 const TARGET: usize = 2;
 
 // Whether component i is of a kind. The kind's word is compared whole.
-pub fn is_kind(components: &[u64], i: usize, kind: Kind) -> bool
+pub(crate) fn is_kind(components: &[u64], i: usize, kind: Kind) -> bool
     requires { ⌜ i < 65536 ⌝ }
     ensures { λ r. ⌜ r ≡ is kind (fieldsIn (now (components .entry)) i) ⌝ }
 {

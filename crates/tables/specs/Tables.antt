@@ -49,6 +49,10 @@ fieldsIn cs i =
 unfoldable pub fieldsFit : Fields → Bool
 fieldsFit f = below (f .kind) 8 && below (f .inputs) 16 && below (f .outputs) 16 && below (f .width) 16
 
+-- The id of component i in a table of components.
+abbrev pub idIn : List ℕ → ℕ → ℕ
+idIn cs i = wordIn cs i 1
+
 -- Word k of component i.
 abbrev pub wordOf : Tables → ℕ → ℕ → ℕ
 wordOf T i k = wordIn (T .components) i k
@@ -59,7 +63,7 @@ fieldsAt T i = fieldsIn (T .components) i
 
 -- The id of component i.
 abbrev pub idAt : Tables → ℕ → ℕ
-idAt T i = wordOf T i 1
+idAt T i = idIn (T .components) i
 
 -- Where the inputs of component i start in their table.
 abbrev pub firstInput : Tables → ℕ → ℕ

@@ -6,7 +6,6 @@ mod sizes;
 mod words;
 
 pub use named::append_new;
-pub use named::contains;
 pub use named::copy;
 pub use named::strike;
 use primitive::Refusal;

@@ -1,12 +1,13 @@
 // Lists of components by index, each a lent table and a count of entries in use. Rule: docs/SPECIFICATION.md, "Rounds".
-// Crate simulator calls these for the three lists of a net, whose counts are within the tables.
+// Crate simulator calls these for the three lists of a net, whose counts are within the tables, and crate load `copy` for the standing
+// list that it has laid.
 ghost use mathlib.Core.Path.{_≡_};
 ghost use Prim.Native.Nat.{_≤_};
 ghost use lib.ListN.{length, take};
 ghost use Rattle.lists.specs.Lists.{has, appendNew, strike, overlay};
 
 // Whether x is in the list.
-pub fn contains(list: &[u16], count: usize, x: u16) -> bool
+fn contains(list: &[u16], count: usize, x: u16) -> bool
     requires { ⌜ count ≤ length (now list) ⌝ }
     ensures { λ r. ⌜ r ≡ has x (take count (now (list .entry))) ⌝ }
 {

@@ -22,7 +22,7 @@ pub fn entry(table: &[u16], at: usize) -> usize
     }
 }
 
-// Word k of component i. Crates net, load and simulator call it with an index of a list or a wire, or below a count.
+// Word k of component i. Crates net and simulator call it with an index of a list or a wire, or below a count.
 pub fn word_of(components: &[u64], i: usize, k: usize) -> u64
     requires { ⌜ (i < 65536) × (k < 8) ⌝ }
     ensures { λ r. ⌜ r ≡ wordIn (now (components .entry)) i k ⌝ }

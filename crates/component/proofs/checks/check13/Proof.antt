@@ -4,7 +4,7 @@ use mathlib.Core.Path.{_≡_}
 use Prim.Native.Nat.{_-_}
 use Rattle.lists.specs.Lists.{from, any}
 use Rattle.component.specs.Record.{recordAt}
-use Rattle.component.specs.Index.{enteringAs}
+use Rattle.component.specs.Record.{enteringAs}
 use Rattle.component.specs.Drawing.{fails13}
 use Rattle.component.proofs.ChecksLaws.{fails13-other, fails13-start}
 use Rattle.component.proofs.ScanLaws.{tested, scan-any-here, scan-any-next, scan-any-none}

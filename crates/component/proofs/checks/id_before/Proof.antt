@@ -4,7 +4,7 @@ use mathlib.Core.Path.{_≡_}
 use Prim.Native.Nat.{_-_}
 use native.Mathlib.Nat.{sub-zero}
 use Rattle.lists.specs.Lists.{from, any}
-use Rattle.component.specs.Index.{hasId}
+use Rattle.component.specs.Record.{hasId}
 use Rattle.component.proofs.ScanLaws.{tested, scan-any-here, scan-any-next, scan-any-none}
 use borrow.Author.Needs.{needs}
 use Rattle.component.proofs.checks.id_before.Statement.{statement}

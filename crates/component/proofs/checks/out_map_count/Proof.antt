@@ -8,7 +8,7 @@ use native.Mathlib.Omega.{arith}
 use lib.ListN.{length}
 use Rattle.lists.specs.Lists.{from, keep}
 use Rattle.component.specs.Record.{recordAt}
-use Rattle.component.specs.Index.{ownedAs}
+use Rattle.component.specs.Record.{ownedAs}
 use Rattle.component.specs.Drawing.{outMaps}
 use Rattle.component.proofs.ScanLaws.{tested, scan-length-here, scan-length-next, scan-length-all}
 use borrow.Author.Needs.{needs}

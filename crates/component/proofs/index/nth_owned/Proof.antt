@@ -5,7 +5,8 @@ use mathlib.Core.Logic.{⊎-elim}
 use Prim.Native.Nat.{_-_}
 use lib.ListN.{getD}
 use Rattle.lists.specs.Lists.{from, keep}
-use Rattle.component.specs.Index.{ownedAs, nthOwned}
+use Rattle.component.specs.Index.{nthOwned}
+use Rattle.component.specs.Record.{ownedAs}
 use Rattle.component.proofs.ScanLaws.{tested, scan-kth-here, scan-kth-counts, scan-kth-next, scan-kth-none}
 use borrow.Author.Needs.{needs}
 use Rattle.component.proofs.index.nth_owned.Statement.{statement}

@@ -5,7 +5,7 @@ use mathlib.Core.List.{map}
 use Prim.Native.Nat.{_-_, _≤_}
 use native.Mathlib.Omega.{arith}
 use Rattle.lists.specs.Lists.{from, has}
-use Rattle.net.specs.Parts.{idIn}
+use Rattle.tables.specs.Tables.{idIn}
 use Rattle.net.proofs.StepsLaws.{hasFrom-found, hasFrom-next, hasFrom-end}
 use borrow.Author.Needs.{needs}
 use Rattle.net.proofs.ids.id_from.Statement.{statement}

@@ -9,7 +9,7 @@ use native.Mathlib.Omega.{arith}
 use Rattle.lists.specs.Lists.{from, every}
 use Rattle.lists.proofs.ListsLaws.{every-fails, every-next, every-end}
 use Rattle.value.specs.Value.{below}
-use Rattle.net.specs.Parts.{idIn}
+use Rattle.tables.specs.Tables.{idIn}
 use Rattle.net.proofs.StepsLaws.{from-start}
 use borrow.Author.Needs.{needs}
 use Rattle.net.proofs.ids.ids_fit.Statement.{statement}

@@ -8,7 +8,7 @@ use native.Mathlib.Omega.{arith}
 use Rattle.lists.specs.Lists.{from, every}
 use Rattle.lists.proofs.ListsLaws.{every-fails, every-next, every-end}
 use Rattle.net.specs.Net.{lent, valuesFit}
-use Rattle.net.specs.Parts.{fitAt}
+use Rattle.net.specs.Net.{fitAt}
 use Rattle.net.proofs.ClausesLaws.{kindsObeyed-fit}
 use Rattle.net.proofs.StepsLaws.{from-start}
 use borrow.Author.Needs.{needs}
