@@ -1,17 +1,14 @@
--- Rounds as calls: the answer and the tables of a refused call and of one that is made; calm, component by component.
+-- Rounds as calls: the answer and the tables of a refused call and of one that is made.
 -- Assumes nothing.
 use mathlib.Core.Path.{_≡_, sym, ap, _∙_}
 use mathlib.Core.Bool.{true, false}
-use mathlib.Core.List.{List}
 use Prim.Native.Nat.{ℕ}
 use borrow.Author.Tests.{eq-eqb, ne-eqb}
 use lib.Dec.{eqb}
-use Rattle.primitive.specs.declared.kinds.Kind.the-variants.{Clock}
-use Rattle.primitive.specs.Kinds.{is}
 use Rattle.primitive.specs.Evaluate.{refusedBy}
 use Rattle.tables.specs.declared.Answer.the-variants.{Done, Refused}
 use Rattle.tables.specs.declared.Counts.{Counts}
-use Rattle.tables.specs.Tables.{Tables, tablesOf, wordIn, fieldsIn}
+use Rattle.tables.specs.Tables.{Tables, tablesOf}
 use Rattle.net.specs.Net.{netNumber}
 use Rattle.simulator.specs.Round.{roundOf}
 use Rattle.simulator.specs.Calls.{roundTables, roundAnswer}
@@ -46,11 +43,3 @@ module _ (T : Tables) (t k : ℕ) (number : k ≡ netNumber T) where
     pub round-left : counted U (roundTables T t .counts) ≡ roundTables T t
     unfolding roundTables
     round-left = rw done (ap (counted U) (sym (ap (λ (X : Tables). X .counts) made)) ∙ made)
-
--- Whether the component that a list names is a Clock, as it is read.
-module _ (cs : List ℕ) (i j x : ℕ) (named : i ≡ j) (read : x ≡ wordIn cs i 0) where
-  pub clock-named : x ≡ 12 → is Clock (fieldsIn cs j) ≡ true
-  clock-named e = eq-eqb (wordIn cs j 0) 12 (ap (λ (p : ℕ). wordIn cs p 0) (sym named) ∙ sym read ∙ e)
-
-  pub clock-unnamed : (x ≡ 12 → ⊥) → is Clock (fieldsIn cs j) ≡ false
-  clock-unnamed e = ne-eqb (wordIn cs j 0) 12 (λ q. e (read ∙ ap (λ (p : ℕ). wordIn cs p 0) named ∙ q))

@@ -4,18 +4,20 @@
 -- Assumes nothing.
 use mathlib.Core.Path.{_≡_, refl, sym, ap, _∙_}
 use mathlib.Core.Bool.{Bool, true, false, cond, not, _&&_}
-use mathlib.Core.List.{[]}
 use Prim.Native.Nat.{ℕ, suc, _+_, _-_, _≤_, _<_}
 use native.Mathlib.Nat.{sub-zero, zero-add, add-zero}
 use native.Mathlib.Omega.{arith}
 use borrow.Author.Tests.{eq-eqb, ne-eqb, ltb-true, ltb-false, not-true}
-use lib.ListN.{length}
+use lib.ListN.{length, take}
 use lib.Seq.{length-take-le}
 use lib.Dec.{eqb, ltb}
+use Rattle.lists.specs.Lists.{every}
 use Rattle.lists.proofs.ListsLaws.{and-left, and-right}
+use Rattle.primitive.specs.declared.kinds.Kind.the-variants.{Clock}
+use Rattle.primitive.specs.Kinds.{is}
 use Rattle.primitive.specs.Evaluate.{refusedBy}
 use Rattle.tables.specs.declared.Counts.{Counts}
-use Rattle.tables.specs.Tables.{Tables, tablesOf, currentList}
+use Rattle.tables.specs.Tables.{Tables, tablesOf, fieldsIn, currentList}
 use Rattle.net.specs.Net.{netNumber}
 use Rattle.net.proofs.NetLaws.{netNumber-sizes}
 use Rattle.simulator.specs.declared.Ran.the-variants.{Done as RanOut, Refused as NotRun}
@@ -100,8 +102,8 @@ pub run-end : (b : Bool) (limit r e t : ℕ) (T : Tables) (x : Run) → (not b &
 run-end true limit r e t T x q so-far = run-calm limit r e t T x so-far
 run-end false limit r e t T x q so-far = run-limit limit r e t T x (ltb-false r limit q) so-far
 
--- Calm looks at the components and the current list only.
-pub calm-list : (U : Tables) → calm (tablesOf (U .components) [] [] [] (U .current) [] [] (U .counts)) ≡ calm U
+-- Calm is read off the components and the current list.
+pub calm-list : (U : Tables) → every (λ i. is Clock (fieldsIn (U .components) i)) (take (U .counts .current) (U .current)) ≡ calm U
 unfolding calm
 calm-list U = refl
 

@@ -1,5 +1,5 @@
 -- What questions and edits ask, on the lists of words that a function inside this crate is handed. `sources`, `targetsIn`, `driven`,
--- `valueAnswer` and `editNumber` are these on a net, by AskedLaws; only contracts of such functions cite them.
+-- `valueAnswer` and `editNumber` are these on a net (proofs/EndsLaws, QuestionsLaws, EditsLaws); only contracts of such functions cite them.
 --   endOf ws k e             the component at end e of wire k: 0 is where it comes from, 2 where it goes to
 --   meets ws m near far i j  one of m wires has component i at its end `near` and component j at its end `far`
 --   met ws m near far i n    the components below n that wires join to component i so

@@ -44,7 +44,7 @@ pub(crate) fn is_kind(components: &[u64], i: usize, kind: Kind) -> bool
 }
 
 // Whether the first `count` entries of a list name only Clocks.
-fn only_clocks(components: &[u64], list: &[u16], count: usize) -> bool
+pub(crate) fn only_clocks(components: &[u64], list: &[u16], count: usize) -> bool
     requires { ⌜ count ≤ length (now list) ⌝ }
     ensures { λ r. ⌜ r ≡ every (λ i. is Clock (fieldsIn (now (components .entry)) i)) (take count (now (list .entry))) ⌝ }
 {

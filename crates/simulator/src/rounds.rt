@@ -6,10 +6,11 @@ ghost use Prim.Native.Nat.{_≤_, _<_};
 ghost use lib.ListN.{length, take};
 ghost use Rattle.tables.specs.Tables.{tablesOf, wireAt, wiresIn};
 ghost use Rattle.net.specs.Net.{netNumber};
-ghost use Rattle.simulator.specs.Round.{wiresFrom, turn, leave, send, evaluated, visit, calm, roundOf};
+ghost use Rattle.simulator.specs.Round.{wiresFrom, turn, leave, send, evaluated, visit, roundOf};
 ghost use Rattle.simulator.specs.Calls.{roundAnswer, roundTables, run, runAnswer, runTables};
 ghost use Rattle.simulator.specs.Steps.{bare, wiring, stateAt, Evaluates, Sends, Runs, Listed, Step, Visited};
 use crate::Ran;
+use crate::questions::only_clocks;
 use primitive::Refusal;
 use tables::Answer;
 use tables::Counts;
@@ -291,22 +292,6 @@ pub fn round(
     ))
 }
 
-// Calm: the current list of a net names only Clocks.
-fn is_calm(components: &[u64], current: &[u16], counts: Counts) -> bool
-    requires { ⌜ counts .current ≤ length (now current) ⌝ }
-    ensures { λ r. ⌜ r ≡ calm (tablesOf (now (components .entry)) [] [] [] (now (current .entry)) [] [] counts) ⌝ }
-{
-    let mut k: usize = 0;
-    while k < counts.current {
-        let i = tables::entry(current, k);
-        if tables::word_of(components, i, 0) != 12 {
-            return false;
-        }
-        k += 1;
-    }
-    true
-}
-
 // What a run comes to.
 struct Run {
     counts: Counts,
@@ -348,7 +333,7 @@ fn net_run(
             time,
         );
         rounds += 1;
-        calm = is_calm(components, current, reached);
+        calm = only_clocks(components, current, reached.current);
     }
     Run {
         counts: reached,

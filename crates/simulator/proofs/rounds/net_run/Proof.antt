@@ -15,7 +15,7 @@ use Rattle.simulator.proofs.rounds.net_run.Statement.{statement}
 use Rattle.simulator.proofs.rounds.net_run.Tie as tie
 use Rattle.simulator.proofs.rounds.net_run.Reads as reads
 use Rattle.simulator.proofs.rounds.net_run.Lts as lts
-use Rattle.simulator.proofs.rounds.is_calm.Reads as is-calm-reads
+use Rattle.simulator.proofs.questions.only_clocks.Reads as only-clocks-reads
 use Rattle.simulator.proofs.rounds.net_round.Reads as net-round-reads
 
 abbrev Inv-loop : tie.InvT-loop
@@ -59,8 +59,8 @@ add-rounds : tie.Need-add-rounds Inv-loop μ-loop
 add-rounds c =
     omega (arith, test-below (c .before .before .before .before .before .before .before .before .before .before .before .before .before .before .before .before .before .before .loop .calm) (c .before .before .before .before .before .before .before .before .before .before .before .before .before .before .before .before .before .before .loop .rounds) (c .before .before .before .before .before .before .before .before .before .before .before .before .before .before .before .before .before .before .before .before .before .before .before .before .before .before .args .limit) (c .before .before .before .before .before .before .before .before .before .before .before .before .before .before .before .before .before .loop-test .taken), c .before .before .before .before .before .before .before .before .before .before .before .before .before .before .before .before .before .before .before .before .before .before .before .before .before .before .fits)
 
-is-calm-requires : tie.Need-is-calm-requires Inv-loop μ-loop
-is-calm-requires c κs =
+only-clocks-requires : tie.Need-only-clocks-requires Inv-loop μ-loop
+only-clocks-requires c κs =
     let s = c .before .before .before .before .before .before .before .before .before .before .before .before .before .before .before .before .before .before .before .before .before .before .before .before .before .before .before in
     let r = c .before .before .before .before .before .before .before .before .before .before .before .net-round in
     let U = tablesOf (s .args .components .now) (r .last .1 .0) (r .last .1 .1 .0) (s .args .wires .now) (r .last .1 .1 .1 .1 .0) (r .last .1 .1 .1 .1 .1 .0) (r .last .1 .1 .1 .1 .1 .1 .0) (r .result) in
@@ -88,7 +88,7 @@ loop-again c =
       r .kept .1 .1 .1 .1 .1 .0 ∙ l .inv .5,
       r .kept .1 .1 .1 .1 .1 .1 .0 ∙ l .inv .6,
       round-net (s .args .time) T U (l .inv .7) (r .ensures),
-      run-turn (s .args .time) T U (l .inv .7) (r .ensures) (s .args .limit) (l .rounds) (l .evaluations) _ _ b (c .is-calm .ensures ∙ calm-list U)
+      run-turn (s .args .time) T U (l .inv .7) (r .ensures) (s .args .limit) (l .rounds) (l .evaluations) _ _ b (c .only-clocks .ensures ∙ calm-list U)
           (rw (test-going (l .calm) (l .rounds) (s .args .limit) (c .before .before .before .before .before .before .before .before .before .before .before .before .before .before .before .before .before .before .before .loop-test .taken)) at (l .inv .8)),
     )
 
@@ -123,7 +123,7 @@ net-run-spec =
     add-evaluations
     net-round-requires
     add-rounds
-    is-calm-requires
+    only-clocks-requires
     loop-less
     loop-again
     same-length
