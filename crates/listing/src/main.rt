@@ -105,6 +105,12 @@ fn show_wires(out: &mut [u8], wires: &[u16], count: usize) {
     }
 }
 
+// The components and the wires that a load counts.
+fn show_net(out: &mut [u8], components: &[u64], wires: &[u16], counts: Counts) {
+    show_components(out, components, counts.components);
+    show_wires(out, wires, counts.wires);
+}
+
 // A round, and the current list that it leaves.
 fn round_line(out: &mut [u8], round: u64, current: &[u16], count: usize) {
     let numbered = put_counted(out, 0, b"round", round);
@@ -113,6 +119,35 @@ fn round_line(out: &mut [u8], round: u64, current: &[u16], count: usize) {
         let listed = text::put_shorts(out, next, &current[..count]);
         end(out, listed);
     }
+}
+
+// Asks whether a round left calm. Where the question is refused the rounds go on.
+fn after_round(
+    components: &[u64],
+    inputs: &[u64],
+    outputs: &[u64],
+    wires: &[u16],
+    current: &[u16],
+    following: &[u16],
+    standing: &[u16],
+    counts: Counts,
+) -> Step {
+    let asked = simulator::is_calm(
+        components,
+        inputs,
+        outputs,
+        wires,
+        current,
+        following,
+        standing,
+        counts,
+    );
+    if let Calm::Is(calm) = asked {
+        if calm {
+            return Step::Calm;
+        }
+    }
+    Step::Next(counts)
 }
 
 // Runs a round at time 0, prints its line, and asks whether it left calm.
@@ -143,7 +178,7 @@ fn one_round(
         return Step::Stopped;
     };
     round_line(out, round, current, new.current);
-    let asked = simulator::is_calm(
+    after_round(
         components,
         inputs,
         outputs,
@@ -152,13 +187,7 @@ fn one_round(
         following,
         standing,
         new,
-    );
-    if let Calm::Is(calm) = asked {
-        if calm {
-            return Step::Calm;
-        }
-    }
-    Step::Next(new)
+    )
 }
 
 // Rounds until calm, sixteen at most.
@@ -233,8 +262,7 @@ fn list(
     );
     match answer {
         Answer::Done(counts) => {
-            show_components(out, components, counts.components);
-            show_wires(out, wires, counts.wires);
+            show_net(out, components, wires, counts);
             run(
                 components,
                 inputs,

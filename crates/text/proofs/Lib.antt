@@ -1,1 +1,2 @@
 pub mod TextLaws
+pub mod NumeralLaws

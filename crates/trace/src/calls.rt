@@ -166,6 +166,21 @@ pub(crate) fn edit_one(
     true
 }
 
+// The line of a run until calm.
+fn ran(out: &mut [u8], answer: Ran, counts: &mut [u64]) {
+    match answer {
+        Ran::Done {
+            counts: new,
+            rounds,
+            evaluations,
+        } => {
+            keep_counts(counts, new);
+            lines::triple(out, b"run", 0, rounds as u64, evaluations as u64);
+        }
+        Ran::Refused(refusal) => lines::triple(out, b"run", refusal.number, 0, 0),
+    }
+}
+
 // U: run until calm.
 pub(crate) fn run_calm(
     components: &[u64],
@@ -197,17 +212,7 @@ pub(crate) fn run_calm(
         time,
         limit,
     );
-    match answer {
-        Ran::Done {
-            counts: new,
-            rounds,
-            evaluations,
-        } => {
-            keep_counts(counts, new);
-            lines::triple(out, b"run", 0, rounds as u64, evaluations as u64);
-        }
-        Ran::Refused(refusal) => lines::triple(out, b"run", refusal.number, 0, 0),
-    }
+    ran(out, answer, counts);
     true
 }
 
@@ -275,6 +280,14 @@ pub(crate) fn ask_index(
     true
 }
 
+// The line of a port's value.
+fn valued(out: &mut [u8], answer: Port) {
+    match answer {
+        Port::Is(value) => lines::triple(out, b"value", 0, value.number, value.width),
+        Port::Refused(refusal) => lines::triple(out, b"value", refusal.number, 0, 0),
+    }
+}
+
 // V: the value of a port.
 pub(crate) fn ask_value(
     components: &[u64],
@@ -311,10 +324,7 @@ pub(crate) fn ask_value(
         index,
         port,
     );
-    match answer {
-        Port::Is(value) => lines::triple(out, b"value", 0, value.number, value.width),
-        Port::Refused(refusal) => lines::triple(out, b"value", refusal.number, 0, 0),
-    }
+    valued(out, answer);
     true
 }
 

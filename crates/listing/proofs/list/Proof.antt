@@ -1,14 +1,9 @@
+-- `list`: every table and the buffer keep their lengths through the load and the rounds.
+-- Assumes nothing.
 use mathlib.Core.Path.{_∙_}
 use borrow.Author.Needs.{needs}
 use Rattle.listing.proofs.list.Statement.{statement}
 use Rattle.listing.proofs.list.Tie as tie
-use Rattle.listing.proofs.list.Reads as reads
-use Rattle.listing.proofs.list.Lts as lts
-use Rattle.listing.proofs.refused.Reads as refused-reads
-use Rattle.listing.proofs.run.Reads as run-reads
-use Rattle.listing.proofs.show_components.Reads as show-components-reads
-use Rattle.listing.proofs.show_wires.Reads as show-wires-reads
-use Rattle.load.proofs.load.Reads as load-reads
 
 load-requires : tie.Need-load-requires
 load-requires c κs = search needs
@@ -16,11 +11,8 @@ load-requires c κs = search needs
 enum-known-answer : tie.Need-enum-known-answer
 enum-known-answer c = search needs
 
-show-components-requires : tie.Need-show-components-requires
-show-components-requires c κs = search needs
-
-show-wires-requires : tie.Need-show-wires-requires
-show-wires-requires c κs = search needs
+show-net-requires : tie.Need-show-net-requires
+show-net-requires c κs = search needs
 
 run-requires : tie.Need-run-requires
 run-requires c κs = search needs
@@ -32,22 +24,42 @@ refused-requires : tie.Need-refused-requires
 refused-requires c κs = search needs
 
 same-length : tie.Need-same-length
-same-length c = c .before .before .before .before .before .before .before .before .before .before .before .before .before .before .before .before .before .before .before .before .before .before .before .before .before .before .before .before .before .before .before .before .before .before .before .before .before .before .before .before .before .before .before .before .before .before .before .before .load .kept .1 .0
+same-length c =
+    let rounds = c .before .before .before .before .before .before .before .before .before .before .before .before in
+    let shown = rounds .before .before .before .before .before .before .before .before .before .before .before in
+    let answered = shown .before .before .before .before .before .before .before .before .before .before .before in
+    let loaded = answered .before .before .before .before .before .before .before .before .before .before in
+    loaded .load .kept .1 .0
 
 same-length-2 : tie.Need-same-length-2
-same-length-2 c = c .before .before .before .before .before .before .before .before .before .before .before .before .run .kept .1 .0 ∙ c .before .before .before .before .before .before .before .before .before .before .before .before .before .before .before .before .before .before .before .before .before .before .before .before .before .before .before .before .before .before .before .before .before .before .before .before .before .before .before .before .before .before .before .before .before .before .before .before .load .kept .1 .1 .0
+same-length-2 c =
+    let rounds = c .before .before .before .before .before .before .before .before .before .before .before .before in
+    let shown = rounds .before .before .before .before .before .before .before .before .before .before .before in
+    let answered = shown .before .before .before .before .before .before .before .before .before .before .before in
+    let loaded = answered .before .before .before .before .before .before .before .before .before .before in
+    rounds .run .kept .1 .0 ∙ loaded .load .kept .1 .1 .0
 
 same-length-3 : tie.Need-same-length-3
-same-length-3 c = c .before .before .before .before .before .before .before .before .before .before .before .before .run .kept .1 .1 .0 ∙ c .before .before .before .before .before .before .before .before .before .before .before .before .before .before .before .before .before .before .before .before .before .before .before .before .before .before .before .before .before .before .before .before .before .before .before .before .before .before .before .before .before .before .before .before .before .before .before .before .load .kept .1 .1 .1 .0
+same-length-3 c =
+    let rounds = c .before .before .before .before .before .before .before .before .before .before .before .before in
+    let shown = rounds .before .before .before .before .before .before .before .before .before .before .before in
+    let answered = shown .before .before .before .before .before .before .before .before .before .before .before in
+    let loaded = answered .before .before .before .before .before .before .before .before .before .before in
+    rounds .run .kept .1 .1 .0 ∙ loaded .load .kept .1 .1 .1 .0
 
 same-length-4 : tie.Need-same-length-4
-same-length-4 c = c .before .before .before .before .before .before .before .before .before .before .before .before .before .before .before .before .before .before .before .before .before .before .before .before .before .before .before .before .before .before .before .before .before .before .before .before .before .before .before .before .before .before .before .before .before .before .before .before .load .kept .1 .1 .1 .1 .0
+same-length-4 c =
+    let rounds = c .before .before .before .before .before .before .before .before .before .before .before .before in
+    let shown = rounds .before .before .before .before .before .before .before .before .before .before .before in
+    let answered = shown .before .before .before .before .before .before .before .before .before .before .before in
+    let loaded = answered .before .before .before .before .before .before .before .before .before .before in
+    loaded .load .kept .1 .1 .1 .1 .0
 
 same-length-5 : tie.Need-same-length-5
-same-length-5 c = c .before .before .before .before .before .before .before .before .before .before .before .before .run .kept .1 .1 .1 .1 .0 ∙ c .before .before .before .before .before .before .before .before .before .before .before .before .before .before .before .before .before .before .before .before .before .before .before .before .before .before .before .before .before .before .before .before .before .before .before .before .before .before .before .before .before .before .before .before .before .before .before .before .load .kept .1 .1 .1 .1 .1 .0
+same-length-5 c = search needs
 
 same-length-6 : tie.Need-same-length-6
-same-length-6 c = c .before .before .before .before .before .before .before .before .before .before .before .before .run .kept .1 .1 .1 .1 .1 .0 ∙ c .before .before .before .before .before .before .before .before .before .before .before .before .before .before .before .before .before .before .before .before .before .before .before .before .before .before .before .before .before .before .before .before .before .before .before .before .before .before .before .before .before .before .before .before .before .before .before .before .load .kept .1 .1 .1 .1 .1 .1 .0
+same-length-6 c = search needs
 
 same-length-7 : tie.Need-same-length-7
 same-length-7 c = search needs
@@ -91,8 +103,7 @@ list-spec =
     (tie.spec
     load-requires
     enum-known-answer
-    show-components-requires
-    show-wires-requires
+    show-net-requires
     run-requires
     enum-known-answer-2
     refused-requires

@@ -1,14 +1,10 @@
+-- `round_line`: the part of the list that is shown is as long as its count.
+-- Assumes nothing.
 use mathlib.Core.Path.{sym}
 use lib.Seq.{length-take-le}
 use borrow.Author.Needs.{needs}
 use Rattle.listing.proofs.round_line.Statement.{statement}
 use Rattle.listing.proofs.round_line.Tie as tie
-use Rattle.listing.proofs.round_line.Reads as reads
-use Rattle.listing.proofs.round_line.Lts as lts
-use Rattle.listing.proofs.end.Reads as end-reads
-use Rattle.listing.proofs.put_counted.Reads as put-counted-reads
-use Rattle.text.proofs.put_bytes.Reads as put-bytes-reads
-use Rattle.text.proofs.put_shorts.Reads as put-shorts-reads
 
 slice-aggregate-put-counted : tie.Need-slice-aggregate-put-counted
 slice-aggregate-put-counted c = search needs

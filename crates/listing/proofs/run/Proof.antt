@@ -1,20 +1,22 @@
+-- `run`: the rounds end after the sixteenth, and every table keeps its length.
+-- Assumes nothing.
 use mathlib.Core.Path.{_≡_}
 use Prim.Native.Nat.{_≤_, _-_}
 use lib.ListN.{length}
 use borrow.Author.Needs.{needs}
 use Rattle.listing.proofs.run.Statement.{statement}
 use Rattle.listing.proofs.run.Tie as tie
-use Rattle.listing.proofs.run.Reads as reads
-use Rattle.listing.proofs.run.Lts as lts
-use Rattle.listing.proofs.one_round.Reads as one-round-reads
-use Rattle.listing.proofs.said.Reads as said-reads
 
 abbrev Inv-loop : tie.InvT-loop
-Inv-loop components inputs₀ outputs₀ wires current₀ following₀ standing₀ out₀ now₀ round₀ t14 t15 inputs outputs current following standing out now round =
-    (length inputs ≡ length inputs₀) × (length outputs ≡ length outputs₀) × (length current ≡ length current₀) × (length following ≡ length following₀) × (length standing ≡ length standing₀) × (length out ≡ length out₀) × (round ≤ 17)
+Inv-loop components inputs₀ outputs₀ wires current₀ following₀ standing₀ out₀ now₀ round₀ t14 t15
+    inputs outputs current following standing out now round =
+    (length inputs ≡ length inputs₀) × (length outputs ≡ length outputs₀) × (length current ≡ length current₀)
+    × (length following ≡ length following₀) × (length standing ≡ length standing₀) × (length out ≡ length out₀)
+    × (round ≤ 17)
 
 abbrev μ-loop : tie.MeasureT-loop
-μ-loop components inputs₀ outputs₀ wires current₀ following₀ standing₀ out₀ now₀ round₀ t14 t15 inputs outputs current following standing out now round =
+μ-loop components inputs₀ outputs₀ wires current₀ following₀ standing₀ out₀ now₀ round₀ t14 t15
+    inputs outputs current following standing out now round =
     17 - round
 
 loop-holds : tie.Need-loop-holds Inv-loop μ-loop

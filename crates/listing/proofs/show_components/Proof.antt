@@ -1,14 +1,11 @@
+-- `show_components`: the loop over the components ends, and the buffer keeps its length.
+-- Assumes nothing.
 use mathlib.Core.Path.{_≡_}
 use Prim.Native.Nat.{_≤_, _-_}
 use lib.ListN.{length}
 use borrow.Author.Needs.{needs}
 use Rattle.listing.proofs.show_components.Statement.{statement}
 use Rattle.listing.proofs.show_components.Tie as tie
-use Rattle.listing.proofs.show_components.Reads as reads
-use Rattle.listing.proofs.show_components.Lts as lts
-use Rattle.listing.proofs.component_line.Reads as component-line-reads
-use Rattle.listing.proofs.end.Reads as end-reads
-use Rattle.listing.proofs.put_counted.Reads as put-counted-reads
 
 abbrev Inv-loop : tie.InvT-loop
 Inv-loop out₀ components count all i₀ out i = (i ≤ count) × (length out ≡ length out₀)

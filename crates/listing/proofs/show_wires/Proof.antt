@@ -1,14 +1,11 @@
+-- `show_wires`: the loop over the wires ends, and the buffer keeps its length.
+-- Assumes nothing.
 use mathlib.Core.Path.{_≡_}
 use Prim.Native.Nat.{_≤_, _-_}
 use lib.ListN.{length}
 use borrow.Author.Needs.{needs}
 use Rattle.listing.proofs.show_wires.Statement.{statement}
 use Rattle.listing.proofs.show_wires.Tie as tie
-use Rattle.listing.proofs.show_wires.Reads as reads
-use Rattle.listing.proofs.show_wires.Lts as lts
-use Rattle.listing.proofs.end.Reads as end-reads
-use Rattle.listing.proofs.put_counted.Reads as put-counted-reads
-use Rattle.listing.proofs.wire_line.Reads as wire-line-reads
 
 abbrev Inv-loop : tie.InvT-loop
 Inv-loop out₀ wires count all k₀ out k = (k ≤ count) × (length out ≡ length out₀)

@@ -1,10 +1,10 @@
+-- `put`: a byte past the end is left out.
+-- Assumes nothing.
 use lib.ListN.{length}
 use Rattle.text.proofs.TextLaws.{min-past, set-past}
 use borrow.Author.Needs.{needs}
 use Rattle.text.proofs.put.Statement.{statement}
 use Rattle.text.proofs.put.Tie as tie
-use Rattle.text.proofs.put.Reads as reads
-use Rattle.text.proofs.put.Lts as lts
 
 slice-write-out : tie.Need-slice-write-out
 slice-write-out c = search needs

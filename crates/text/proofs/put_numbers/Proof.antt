@@ -1,34 +1,38 @@
-use mathlib.Core.Path.{_≡_}
-use Prim.Native.Nat.{_≤_, _-_}
-use lib.ListN.{length}
+-- `put_numbers`: the numbers still to come, put after those that were, are all of them put.
+-- Assumes nothing.
+use mathlib.Core.Path.{refl}
+use Prim.Native.Nat.{_-_, _≤_}
+use native.Mathlib.Omega.{arith}
+use lib.ListN.{length, drop}
+use Rattle.text.specs.Text.{spaced}
+use Rattle.text.proofs.TextLaws.{ToCome, begun, put-next, ended-spaced}
 use borrow.Author.Needs.{needs}
 use Rattle.text.proofs.put_numbers.Statement.{statement}
 use Rattle.text.proofs.put_numbers.Tie as tie
-use Rattle.text.proofs.put_numbers.Reads as reads
-use Rattle.text.proofs.put_numbers.Lts as lts
-use Rattle.text.proofs.put.Reads as put-reads
-use Rattle.text.proofs.put_number.Reads as put-number-reads
 
 abbrev Inv-loop : tie.InvT-loop
-Inv-loop out₀ at numbers next₀ i₀ out next i = (i ≤ length numbers) × (length out ≡ length out₀)
+Inv-loop out₀ at numbers next₀ i₀ out next i =
+    (i ≤ length numbers) × ToCome out₀ at (spaced numbers) out next (spaced (drop i numbers))
 
 abbrev μ-loop : tie.MeasureT-loop
 μ-loop out₀ at numbers next₀ i₀ out next i = length numbers - i
 
+within-requires : tie.Need-within-requires Inv-loop μ-loop
+within-requires c κs = search needs
+
 loop-holds : tie.Need-loop-holds Inv-loop μ-loop
-loop-holds c = search needs
+loop-holds c =
+    let a = c .before .before .before .before .args in
+    (omega arith, begun (a .out .now) (spaced (a .numbers .now)) (a .at) (c .within .result) (c .within .ensures))
 
-put-requires : tie.Need-put-requires Inv-loop μ-loop
-put-requires c κs = search needs
+mul-put-spaced : tie.Need-mul-put-spaced Inv-loop μ-loop
+mul-put-spaced c = search needs
 
-mul-put-number : tie.Need-mul-put-number Inv-loop μ-loop
-mul-put-number c = search needs
+shared-slice-read-put-spaced : tie.Need-shared-slice-read-put-spaced Inv-loop μ-loop
+shared-slice-read-put-spaced c = search needs
 
-shared-slice-read-put-number : tie.Need-shared-slice-read-put-number Inv-loop μ-loop
-shared-slice-read-put-number c = search needs
-
-put-number-requires : tie.Need-put-number-requires Inv-loop μ-loop
-put-number-requires c κs = search needs
+put-spaced-requires : tie.Need-put-spaced-requires Inv-loop μ-loop
+put-spaced-requires c κs = search needs
 
 add-i : tie.Need-add-i Inv-loop μ-loop
 add-i c = search needs
@@ -37,13 +41,23 @@ loop-less : tie.Need-loop-less Inv-loop μ-loop
 loop-less c = search needs
 
 loop-again : tie.Need-loop-again Inv-loop μ-loop
-loop-again c = search needs
+loop-again c =
+    let a = c .before .before .before .before .before .before .before .before .before .before .before .args in
+    let s = c .before .before .before .before .before .before .loop in
+    let r = c .before .before .put-spaced in (
+      omega arith,
+      put-next (a .out .now) (s .out) (r .last .0) (a .numbers .now) (a .at) (s .i) _ (s .next) (r .result)
+          (omega arith) refl (s .inv .1) (r .ensures .0) (r .ensures .1),
+    )
 
 same-length : tie.Need-same-length Inv-loop μ-loop
 same-length c = search needs
 
 returns : tie.Need-returns Inv-loop μ-loop
-returns c = search needs
+returns c =
+    let a = c .before .before .before .before .before .before .args in
+    let s = c .before .loop in
+    ended-spaced (a .out .now) (s .out) (a .numbers .now) (a .at) (s .i) (s .next) (s .inv .0) (omega arith) (s .inv .1)
 
 pub put-numbers-spec : {M : Type 1} → statement M
 put-numbers-spec =
@@ -51,11 +65,11 @@ put-numbers-spec =
     (tie.spec
     Inv-loop
     μ-loop
+    within-requires
     loop-holds
-    put-requires
-    mul-put-number
-    shared-slice-read-put-number
-    put-number-requires
+    mul-put-spaced
+    shared-slice-read-put-spaced
+    put-spaced-requires
     add-i
     loop-less
     loop-again

@@ -1,26 +1,28 @@
-use mathlib.Core.Path.{_≡_}
-use Prim.Native.Nat.{_≤_, _-_}
-use lib.ListN.{length}
+-- `put_shorts`: as `put_numbers`, of numbers of 16 bits.
+-- Assumes nothing.
+use Prim.Native.Nat.{_-_, _≤_}
+use native.Mathlib.Omega.{arith}
+use lib.ListN.{length, drop}
+use Rattle.text.specs.Text.{spaced}
+use Rattle.text.proofs.TextLaws.{ToCome, begun, put-next, ended-spaced}
 use borrow.Author.Needs.{needs}
 use Rattle.text.proofs.put_shorts.Statement.{statement}
 use Rattle.text.proofs.put_shorts.Tie as tie
-use Rattle.text.proofs.put_shorts.Reads as reads
-use Rattle.text.proofs.put_shorts.Lts as lts
-use Rattle.text.proofs.put.Reads as put-reads
-use Rattle.text.proofs.put_number.Reads as put-number-reads
-use Rattle.text.proofs.wide.Reads as wide-reads
 
 abbrev Inv-loop : tie.InvT-loop
-Inv-loop out₀ at numbers next₀ i₀ out next i = (i ≤ length numbers) × (length out ≡ length out₀)
+Inv-loop out₀ at numbers next₀ i₀ out next i =
+    (i ≤ length numbers) × ToCome out₀ at (spaced numbers) out next (spaced (drop i numbers))
 
 abbrev μ-loop : tie.MeasureT-loop
 μ-loop out₀ at numbers next₀ i₀ out next i = length numbers - i
 
-loop-holds : tie.Need-loop-holds Inv-loop μ-loop
-loop-holds c = search needs
+within-requires : tie.Need-within-requires Inv-loop μ-loop
+within-requires c κs = search needs
 
-put-requires : tie.Need-put-requires Inv-loop μ-loop
-put-requires c κs = search needs
+loop-holds : tie.Need-loop-holds Inv-loop μ-loop
+loop-holds c =
+    let a = c .before .before .before .before .args in
+    (omega arith, begun (a .out .now) (spaced (a .numbers .now)) (a .at) (c .within .result) (c .within .ensures))
 
 mul-wide : tie.Need-mul-wide Inv-loop μ-loop
 mul-wide c = search needs
@@ -31,8 +33,8 @@ shared-slice-read-wide c = search needs
 wide-requires : tie.Need-wide-requires Inv-loop μ-loop
 wide-requires c κs = search needs
 
-put-number-requires : tie.Need-put-number-requires Inv-loop μ-loop
-put-number-requires c κs = search needs
+put-spaced-requires : tie.Need-put-spaced-requires Inv-loop μ-loop
+put-spaced-requires c κs = search needs
 
 add-i : tie.Need-add-i Inv-loop μ-loop
 add-i c = search needs
@@ -41,13 +43,23 @@ loop-less : tie.Need-loop-less Inv-loop μ-loop
 loop-less c = search needs
 
 loop-again : tie.Need-loop-again Inv-loop μ-loop
-loop-again c = search needs
+loop-again c =
+    let a = c .before .before .before .before .before .before .before .before .before .before .before .before .args in
+    let s = c .before .before .before .before .before .before .before .loop in
+    let r = c .before .before .put-spaced in (
+      omega arith,
+      put-next (a .out .now) (s .out) (r .last .0) (a .numbers .now) (a .at) (s .i) _ (s .next) (r .result)
+          (omega arith) (c .before .before .before .wide .ensures) (s .inv .1) (r .ensures .0) (r .ensures .1),
+    )
 
 same-length : tie.Need-same-length Inv-loop μ-loop
 same-length c = search needs
 
 returns : tie.Need-returns Inv-loop μ-loop
-returns c = search needs
+returns c =
+    let a = c .before .before .before .before .before .before .args in
+    let s = c .before .loop in
+    ended-spaced (a .out .now) (s .out) (a .numbers .now) (a .at) (s .i) (s .next) (s .inv .0) (omega arith) (s .inv .1)
 
 pub put-shorts-spec : {M : Type 1} → statement M
 put-shorts-spec =
@@ -55,12 +67,12 @@ put-shorts-spec =
     (tie.spec
     Inv-loop
     μ-loop
+    within-requires
     loop-holds
-    put-requires
     mul-wide
     shared-slice-read-wide
     wide-requires
-    put-number-requires
+    put-spaced-requires
     add-i
     loop-less
     loop-again

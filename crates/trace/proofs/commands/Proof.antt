@@ -1,18 +1,22 @@
+-- `commands`: each command leaves fewer to come, and every table keeps its length.
+-- Assumes nothing.
 use mathlib.Core.Path.{_≡_}
 use lib.ListN.{length}
 use borrow.Author.Needs.{needs}
 use Rattle.trace.proofs.commands.Statement.{statement}
 use Rattle.trace.proofs.commands.Tie as tie
-use Rattle.trace.proofs.commands.Reads as reads
-use Rattle.trace.proofs.commands.Lts as lts
-use Rattle.trace.proofs.command.Reads as command-reads
 
 abbrev Inv-loop : tie.InvT-loop
-Inv-loop components₀ inputs₀ outputs₀ wires₀ current₀ following₀ standing₀ counts₀ lent₀ file₀ out₀ left₀ components inputs outputs wires current following standing counts lent file out left =
-    (length components ≡ length components₀) × (length inputs ≡ length inputs₀) × (length outputs ≡ length outputs₀) × (length wires ≡ length wires₀) × (length current ≡ length current₀) × (length following ≡ length following₀) × (length standing ≡ length standing₀) × (length counts ≡ length counts₀) × (length lent ≡ length lent₀) × (length file ≡ length file₀) × (length out ≡ length out₀)
+Inv-loop components₀ inputs₀ outputs₀ wires₀ current₀ following₀ standing₀ counts₀ lent₀ file₀ out₀ left₀
+    components inputs outputs wires current following standing counts lent file out left =
+    (length components ≡ length components₀) × (length inputs ≡ length inputs₀) × (length outputs ≡ length outputs₀)
+    × (length wires ≡ length wires₀) × (length current ≡ length current₀) × (length following ≡ length following₀)
+    × (length standing ≡ length standing₀) × (length counts ≡ length counts₀) × (length lent ≡ length lent₀)
+    × (length file ≡ length file₀) × (length out ≡ length out₀)
 
 abbrev μ-loop : tie.MeasureT-loop
-μ-loop components₀ inputs₀ outputs₀ wires₀ current₀ following₀ standing₀ counts₀ lent₀ file₀ out₀ left₀ components inputs outputs wires current following standing counts lent file out left =
+μ-loop components₀ inputs₀ outputs₀ wires₀ current₀ following₀ standing₀ counts₀ lent₀ file₀ out₀ left₀
+    components inputs outputs wires current following standing counts lent file out left =
     left
 
 loop-holds : tie.Need-loop-holds Inv-loop μ-loop

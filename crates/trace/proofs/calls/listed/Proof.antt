@@ -1,12 +1,10 @@
+-- `listed`: the part of the list that is shown is as long as its count.
+-- Assumes nothing.
 use mathlib.Core.Path.{sym}
 use lib.Seq.{length-take-le}
 use borrow.Author.Needs.{needs}
 use Rattle.trace.proofs.calls.listed.Statement.{statement}
 use Rattle.trace.proofs.calls.listed.Tie as tie
-use Rattle.trace.proofs.calls.listed.Reads as reads
-use Rattle.trace.proofs.calls.listed.Lts as lts
-use Rattle.trace.proofs.lines.numbered.Reads as numbered-reads
-use Rattle.trace.proofs.lines.short_numbered.Reads as short-numbered-reads
 
 enum-known-answer : tie.Need-enum-known-answer
 enum-known-answer c = search needs

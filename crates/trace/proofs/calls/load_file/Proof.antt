@@ -1,13 +1,10 @@
+-- `load_file`: the part of the buffer that stands for the file is as long as the file.
+-- Assumes nothing.
 use mathlib.Core.Path.{sym}
 use lib.Seq.{length-take-le}
 use borrow.Author.Needs.{needs}
 use Rattle.trace.proofs.calls.load_file.Statement.{statement}
 use Rattle.trace.proofs.calls.load_file.Tie as tie
-use Rattle.trace.proofs.calls.load_file.Reads as reads
-use Rattle.trace.proofs.calls.load_file.Lts as lts
-use Rattle.load.proofs.load.Reads as load-reads
-use Rattle.trace.proofs.calls.done.Reads as done-reads
-use Rattle.trace.proofs.files.read_file.Reads as read-file-reads
 
 read-file-requires : tie.Need-read-file-requires
 read-file-requires c κs = search needs

@@ -1,15 +1,10 @@
+-- `judge_file`: the part of the buffer that stands for the file is as long as the file.
+-- Assumes nothing.
 use mathlib.Core.Path.{sym}
 use lib.Seq.{length-take-le}
 use borrow.Author.Needs.{needs}
 use Rattle.trace.proofs.files.judge_file.Statement.{statement}
 use Rattle.trace.proofs.files.judge_file.Tie as tie
-use Rattle.trace.proofs.files.judge_file.Reads as reads
-use Rattle.trace.proofs.files.judge_file.Lts as lts
-use Rattle.flatten.proofs.judge.Reads as judge-reads
-use Rattle.trace.proofs.files.number_of.Reads as number-of-reads
-use Rattle.trace.proofs.files.position_of.Reads as position-of-reads
-use Rattle.trace.proofs.files.read_file.Reads as read-file-reads
-use Rattle.trace.proofs.lines.pair.Reads as pair-reads
 
 read-file-requires : tie.Need-read-file-requires
 read-file-requires c κs = search needs

@@ -1,13 +1,10 @@
+-- `read_file`: the part of the buffer that is filled is as long as the file.
+-- Assumes nothing.
 use mathlib.Core.Path.{sym}
 use lib.Seq.{length-take-le}
 use borrow.Author.Needs.{needs}
 use Rattle.trace.proofs.files.read_file.Statement.{statement}
 use Rattle.trace.proofs.files.read_file.Tie as tie
-use Rattle.trace.proofs.files.read_file.Reads as reads
-use Rattle.trace.proofs.files.read_file.Lts as lts
-use Rattle.trace.proofs.files.skip.Reads as skip-reads
-use Rattle.trace.proofs.input.fill.Reads as fill-reads
-use Rattle.trace.proofs.input.number.Reads as number-reads
 
 slice-aggregate-fill : tie.Need-slice-aggregate-fill
 slice-aggregate-fill c = search needs

@@ -1,15 +1,13 @@
+-- `skip`: each step leaves fewer bytes to skip, and the buffer keeps its length.
+-- Assumes nothing.
 use mathlib.Core.Path.{sym}
 use lib.Seq.{length-take-le}
 use mathlib.Core.Path.{_≡_}
-use Prim.Native.Nat.{_≤_, _-_}
+use Prim.Native.Nat.{_≤_}
 use lib.ListN.{length}
 use borrow.Author.Needs.{needs}
 use Rattle.trace.proofs.files.skip.Statement.{statement}
 use Rattle.trace.proofs.files.skip.Tie as tie
-use Rattle.trace.proofs.files.skip.Reads as reads
-use Rattle.trace.proofs.files.skip.Lts as lts
-use Rattle.trace.proofs.files.least.Reads as least-reads
-use Rattle.trace.proofs.input.fill.Reads as fill-reads
 
 abbrev Inv-loop : tie.InvT-loop
 Inv-loop count bytes₀ left₀ bytes left = (left ≤ count) × (length bytes ≡ length bytes₀)

@@ -1,10 +1,9 @@
+-- `number`: each byte leaves fewer to come, and the number stays within 64 bits.
+-- Assumes nothing.
 use Prim.Native.Nat.{_≤_}
 use borrow.Author.Needs.{needs}
 use Rattle.trace.proofs.input.number.Statement.{statement}
 use Rattle.trace.proofs.input.number.Tie as tie
-use Rattle.trace.proofs.input.number.Reads as reads
-use Rattle.trace.proofs.input.number.Lts as lts
-use Rattle.trace.proofs.input.byte_at.Reads as byte-at-reads
 
 abbrev Inv-loop : tie.InvT-loop
 Inv-loop bytes at count value₀ i₀ value i = i ≤ count

@@ -1,12 +1,10 @@
+-- `ask`: the part of each table that is lent is as long as was asked.
+-- Assumes nothing.
 use mathlib.Core.Path.{sym}
 use lib.Seq.{length-take-le}
 use borrow.Author.Needs.{needs}
 use Rattle.trace.proofs.lent.ask.Statement.{statement}
 use Rattle.trace.proofs.lent.ask.Tie as tie
-use Rattle.trace.proofs.lent.ask.Reads as reads
-use Rattle.trace.proofs.lent.ask.Lts as lts
-use Rattle.trace.proofs.kept.lending.Reads as lending-reads
-use Rattle.trace.proofs.lent.asking.Reads as asking-reads
 
 lending-requires : tie.Need-lending-requires
 lending-requires c κs = search needs

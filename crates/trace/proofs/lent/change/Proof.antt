@@ -1,12 +1,10 @@
+-- `change`: the part of each table that is lent is as long as was asked.
+-- Assumes nothing.
 use mathlib.Core.Path.{sym}
 use lib.Seq.{length-take-le}
 use borrow.Author.Needs.{needs}
 use Rattle.trace.proofs.lent.change.Statement.{statement}
 use Rattle.trace.proofs.lent.change.Tie as tie
-use Rattle.trace.proofs.lent.change.Reads as reads
-use Rattle.trace.proofs.lent.change.Lts as lts
-use Rattle.trace.proofs.kept.lending.Reads as lending-reads
-use Rattle.trace.proofs.lent.changing.Reads as changing-reads
 
 lending-requires : tie.Need-lending-requires
 lending-requires c κs = search needs

@@ -1,12 +1,11 @@
+-- `component_lines`: each component lies in the table, and the buffer keeps its length.
+-- Assumes nothing.
 use mathlib.Core.Path.{_≡_}
 use Prim.Native.Nat.{_≤_, _-_}
 use lib.ListN.{length}
 use borrow.Author.Needs.{needs}
 use Rattle.trace.proofs.show.component_lines.Statement.{statement}
 use Rattle.trace.proofs.show.component_lines.Tie as tie
-use Rattle.trace.proofs.show.component_lines.Reads as reads
-use Rattle.trace.proofs.show.component_lines.Lts as lts
-use Rattle.trace.proofs.lines.line.Reads as line-reads
 
 abbrev Inv-loop : tie.InvT-loop
 Inv-loop out₀ components count i₀ t7 out i = (i ≤ count) × (length out ≡ length out₀)

@@ -1,16 +1,10 @@
+-- `show_net`: the part of the counts that is shown is as long as was asked, and what is shown lies in its table.
+-- Assumes nothing.
 use mathlib.Core.Path.{sym}
 use lib.Seq.{length-take-le}
 use borrow.Author.Needs.{needs}
 use Rattle.trace.proofs.show.show_net.Statement.{statement}
 use Rattle.trace.proofs.show.show_net.Tie as tie
-use Rattle.trace.proofs.show.show_net.Reads as reads
-use Rattle.trace.proofs.show.show_net.Lts as lts
-use Rattle.trace.proofs.lines.line.Reads as line-reads
-use Rattle.trace.proofs.show.component_lines.Reads as component-lines-reads
-use Rattle.trace.proofs.show.counted.Reads as counted-reads
-use Rattle.trace.proofs.show.least.Reads as least-reads
-use Rattle.trace.proofs.show.wire_lines.Reads as wire-lines-reads
-use Rattle.trace.proofs.show.within.Reads as within-reads
 
 within-requires : tie.Need-within-requires
 within-requires c κs = search needs

@@ -1,14 +1,10 @@
+-- `show_state`: the part of each table that is shown is as long as its count.
+-- Assumes nothing.
 use mathlib.Core.Path.{sym}
 use lib.Seq.{length-take-le}
 use borrow.Author.Needs.{needs}
 use Rattle.trace.proofs.show.show_state.Statement.{statement}
 use Rattle.trace.proofs.show.show_state.Tie as tie
-use Rattle.trace.proofs.show.show_state.Reads as reads
-use Rattle.trace.proofs.show.show_state.Lts as lts
-use Rattle.trace.proofs.lines.line.Reads as line-reads
-use Rattle.trace.proofs.show.counted.Reads as counted-reads
-use Rattle.trace.proofs.show.list_lines.Reads as list-lines-reads
-use Rattle.trace.proofs.show.within.Reads as within-reads
 
 within-requires : tie.Need-within-requires
 within-requires c κs = search needs

@@ -1,12 +1,11 @@
+-- `wire_lines`: each wire lies in the table, and the buffer keeps its length.
+-- Assumes nothing.
 use mathlib.Core.Path.{_≡_}
 use Prim.Native.Nat.{_≤_, _-_}
 use lib.ListN.{length}
 use borrow.Author.Needs.{needs}
 use Rattle.trace.proofs.show.wire_lines.Statement.{statement}
 use Rattle.trace.proofs.show.wire_lines.Tie as tie
-use Rattle.trace.proofs.show.wire_lines.Reads as reads
-use Rattle.trace.proofs.show.wire_lines.Lts as lts
-use Rattle.trace.proofs.lines.short_line.Reads as short-line-reads
 
 abbrev Inv-loop : tie.InvT-loop
 Inv-loop out₀ wires count i₀ t7 out i = (i ≤ count) × (length out ≡ length out₀)

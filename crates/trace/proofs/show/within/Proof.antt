@@ -1,12 +1,11 @@
+-- `within`: the loop looks at seven counts, and the buffer keeps its length.
+-- Assumes nothing.
 use mathlib.Core.Path.{_≡_}
 use Prim.Native.Nat.{_≤_, _-_}
 use lib.ListN.{length}
 use borrow.Author.Needs.{needs}
 use Rattle.trace.proofs.show.within.Statement.{statement}
 use Rattle.trace.proofs.show.within.Tie as tie
-use Rattle.trace.proofs.show.within.Reads as reads
-use Rattle.trace.proofs.show.within.Lts as lts
-use Rattle.trace.proofs.lines.said.Reads as said-reads
 
 abbrev Inv-loop : tie.InvT-loop
 Inv-loop counts out₀ i₀ t4 out i = (i ≤ 7) × (length out ≡ length out₀)

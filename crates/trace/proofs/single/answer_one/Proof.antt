@@ -1,12 +1,10 @@
+-- `answer_one`: the parts of the lists that are lent are as long as was asked.
+-- Assumes nothing.
 use mathlib.Core.Path.{sym}
 use lib.Seq.{length-take-le}
 use borrow.Author.Needs.{needs}
 use Rattle.trace.proofs.single.answer_one.Statement.{statement}
 use Rattle.trace.proofs.single.answer_one.Tie as tie
-use Rattle.trace.proofs.single.answer_one.Reads as reads
-use Rattle.trace.proofs.single.answer_one.Lts as lts
-use Rattle.primitive.proofs.evaluate.Reads as evaluate-reads
-use Rattle.trace.proofs.single.print.Reads as print-reads
 
 slice-aggregate-evaluate : tie.Need-slice-aggregate-evaluate
 slice-aggregate-evaluate c = sym (length-take-le _ _ (search needs))

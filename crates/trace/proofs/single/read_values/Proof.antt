@@ -1,12 +1,10 @@
+-- `read_values`: the part of the buffer that is filled is as long as the values.
+-- Assumes nothing.
 use mathlib.Core.Path.{sym}
 use lib.Seq.{length-take-le}
 use borrow.Author.Needs.{needs}
 use Rattle.trace.proofs.single.read_values.Statement.{statement}
 use Rattle.trace.proofs.single.read_values.Tie as tie
-use Rattle.trace.proofs.single.read_values.Reads as reads
-use Rattle.trace.proofs.single.read_values.Lts as lts
-use Rattle.trace.proofs.input.fill.Reads as fill-reads
-use Rattle.trace.proofs.single.take_values.Reads as take-values-reads
 
 mul-end : tie.Need-mul-end
 mul-end c = search needs

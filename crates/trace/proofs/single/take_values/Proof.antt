@@ -1,15 +1,15 @@
+-- `take_values`: each value has a place in both lists, and the lists keep their lengths.
+-- Assumes nothing.
 use mathlib.Core.Path.{_≡_}
 use Prim.Native.Nat.{_≤_, _-_}
 use lib.ListN.{length}
 use borrow.Author.Needs.{needs}
 use Rattle.trace.proofs.single.take_values.Statement.{statement}
 use Rattle.trace.proofs.single.take_values.Tie as tie
-use Rattle.trace.proofs.single.take_values.Reads as reads
-use Rattle.trace.proofs.single.take_values.Lts as lts
-use Rattle.trace.proofs.input.number.Reads as number-reads
 
 abbrev Inv-loop : tie.InvT-loop
-Inv-loop bytes count numbers₀ widths₀ i₀ numbers widths i = (i ≤ count) × (length numbers ≡ length numbers₀) × (length widths ≡ length widths₀)
+Inv-loop bytes count numbers₀ widths₀ i₀ numbers widths i =
+    (i ≤ count) × (length numbers ≡ length numbers₀) × (length widths ≡ length widths₀)
 
 abbrev μ-loop : tie.MeasureT-loop
 μ-loop bytes count numbers₀ widths₀ i₀ numbers widths i = count - i
