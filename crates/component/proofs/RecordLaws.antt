@@ -1,13 +1,13 @@
 -- Laws of a record's kind: what the else of a `let .. else` knows, by the variant that its pattern names.
 -- Assumes nothing.
 use mathlib.Core.Path.{_≡_, refl, sym, ap, _∙_}
-use mathlib.Core.Logic.{⊎-elim}
+use mathlib.Core.Logic.{_⊎_, inl, inr, ⊎-elim}
 use mathlib.Core.List.{[], _∷_}
 use Prim.Native.Nat.{ℕ, _+_, _%_}
 use native.Mathlib.Omega.{arith}
 use types.Run.{OneOf}
 use denote.Enum.Declared.{tagOf}
-use Rattle.component.specs.Record.{formOf}
+use Rattle.component.specs.Record.{formOf, fieldsOf, noFields}
 use Rattle.component.specs.declared.Record.{Record}
 use Rattle.component.specs.declared.Record.the-variants.{Component, Connection, InputMap, OutputMap, Refused}
 use Rattle.component.proofs.Record.{the-type}
@@ -45,3 +45,14 @@ module _ (r : Record) where
   pub formOf-no-output-map : OneOf (0 ∷ 1 ∷ 2 ∷ 4 ∷ []) (tagOf the-type r) → formOf r ≡ 4 → ⊥
   formOf-no-output-map h =
       not-among r 0 1 2 4 4 h (λ z. omega arith) (λ z. omega arith) (λ z. omega arith) (λ z. omega arith)
+
+-- A record that is no component has no kind and no ports.
+pub fields-cases : (r : Record) → (formOf r ≡ 1) ⊎ (fieldsOf r ≡ noFields)
+fields-cases (Component o d f) = inl refl
+fields-cases (Connection o a b c d) = inr refl
+fields-cases (InputMap o a c d) = inr refl
+fields-cases (OutputMap o a b) = inr refl
+fields-cases Refused = inr refl
+
+pub fieldsOf-none : (r : Record) → OneOf (1 ∷ 2 ∷ 3 ∷ 4 ∷ []) (tagOf the-type r) → noFields ≡ fieldsOf r
+fieldsOf-none r h = ⊎-elim (λ e. absurd (formOf-no-component r h e)) (λ e. sym e) (fields-cases r)

@@ -86,9 +86,9 @@ ownerOf (InputMap o a c d) = o
 ownerOf (OutputMap o a b) = o
 ownerOf Refused = 0
 
--- What a record that is no component has for fields: of no kind, without ports.
+-- What a record that is no component has for fields: of a number that is no kind, without ports.
 abbrev pub noFields : Fields
-noFields = record { kind = 256; inputs = 0; outputs = 0; width = 0; parameter = 0 }
+noFields = record { kind = 255; inputs = 0; outputs = 0; width = 0; parameter = 0 }
 
 -- The fields of a component.
 abbrev pub fieldsOf : Record → Fields

@@ -200,34 +200,27 @@ fn counted(r: Record, ports: u16) -> usize
     0
 }
 
-// The inputs of the primitives before position p.
-fn inputs_before(file: &[u8], n: usize, p: usize) -> usize
-    requires { ⌜ p ≤ 1024 ⌝ }
-    ensures { λ r. ⌜ r ≡ inputsBefore (recordAt (now (file .entry))) n p ⌝ }
-{
-    let mut sum: usize = 0;
-    let mut q: usize = 0;
-    while q < p {
-        let r = record_at(file, q);
-        sum += counted(r, inputs_of(r));
-        q += 1;
-    }
-    sum
+// The inputs and the outputs of some primitives.
+struct Ports {
+    inputs: usize,
+    outputs: usize,
 }
 
-// The outputs of those primitives.
-fn outputs_before(file: &[u8], n: usize, p: usize) -> usize
+// Those of the primitives before position p.
+fn ports_before(file: &[u8], n: usize, p: usize) -> Ports
     requires { ⌜ p ≤ 1024 ⌝ }
-    ensures { λ r. ⌜ r ≡ outputsBefore (recordAt (now (file .entry))) n p ⌝ }
+    ensures { λ r. ⌜ (r .inputs ≡ inputsBefore (recordAt (now (file .entry))) n p) × (r .outputs ≡ outputsBefore (recordAt (now (file .entry))) n p) ⌝ }
 {
-    let mut sum: usize = 0;
+    let mut inputs: usize = 0;
+    let mut outputs: usize = 0;
     let mut q: usize = 0;
     while q < p {
         let r = record_at(file, q);
-        sum += counted(r, outputs_of(r));
+        inputs += counted(r, inputs_of(r));
+        outputs += counted(r, outputs_of(r));
         q += 1;
     }
-    sum
+    Ports { inputs, outputs }
 }
 
 // 11: the primitives so far, this one counted, have too many inputs or outputs. Crate flatten calls it for each of at most 1,024
@@ -239,7 +232,8 @@ pub fn check11(file: &[u8], n: usize, p: usize) -> bool
     if form_of(record_at(file, p)) != 1 {
         return false;
     }
-    (1024 < inputs_before(file, n, p + 1)) | (1024 < outputs_before(file, n, p + 1))
+    let ports = ports_before(file, n, p + 1);
+    (1024 < ports.inputs) | (1024 < ports.outputs)
 }
 
 // Whether the child's output that a record starts at exists.

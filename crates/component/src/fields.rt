@@ -5,6 +5,7 @@ ghost use Rattle.component.specs.Record.{toOf, inputOf, portOf, inputsOf
 use crate::ChildNo;
 use crate::Id;
 use crate::Record;
+use primitive::Fields;
 
 // The record kind; 0 where the record is refused.
 pub(crate) fn form_of(r: Record) -> u8
@@ -32,17 +33,20 @@ pub(crate) fn owner_of(r: Record) -> usize
     }
 }
 
-// The kind of a component; 256 where the record is none.
-fn kind_of(r: Record) -> u16
-    ensures { λ x. ⌜ x ≡ fieldsOf r .kind ⌝ }
+// The fields of a component; of no kind and without ports where the record is none.
+pub fn fields_of(r: Record) -> Fields
+    ensures { λ x. ⌜ x ≡ fieldsOf r ⌝ }
 {
-    match r {
-        Record::Component { fields, .. } => fields.kind as u16,
-        Record::Connection { .. } => 256,
-        Record::InputMap { .. } => 256,
-        Record::OutputMap { .. } => 256,
-        Record::Refused => 256,
-    }
+    let Record::Component { fields, .. } = r else {
+        return Fields {
+            kind: 255,
+            inputs: 0,
+            outputs: 0,
+            width: 0,
+            parameter: 0,
+        };
+    };
+    fields
 }
 
 // The id of a component.
@@ -62,26 +66,14 @@ pub(crate) fn id_of(r: Record) -> Id
 pub(crate) fn inputs_of(r: Record) -> u16
     ensures { λ x. ⌜ x ≡ inputsOf r ⌝ }
 {
-    match r {
-        Record::Component { fields, .. } => fields.inputs,
-        Record::Connection { .. } => 0,
-        Record::InputMap { .. } => 0,
-        Record::OutputMap { .. } => 0,
-        Record::Refused => 0,
-    }
+    fields_of(r).inputs
 }
 
 // How many outputs a component has.
 pub(crate) fn outputs_of(r: Record) -> u16
     ensures { λ x. ⌜ x ≡ outputsOf r ⌝ }
 {
-    match r {
-        Record::Component { fields, .. } => fields.outputs,
-        Record::Connection { .. } => 0,
-        Record::InputMap { .. } => 0,
-        Record::OutputMap { .. } => 0,
-        Record::Refused => 0,
-    }
+    fields_of(r).outputs
 }
 
 // The child that a connection or an output map starts at.
@@ -153,13 +145,12 @@ pub(crate) fn port_of(r: Record) -> u16
 pub(crate) fn is_composite(r: Record) -> bool
     ensures { λ x. ⌜ x ≡ composite r ⌝ }
 {
-    kind_of(r) == 0
+    fields_of(r).kind == 0
 }
 
 // A component of kinds 1 to 13.
 pub fn is_primitive(r: Record) -> bool
     ensures { λ x. ⌜ x ≡ isPrimitive r ⌝ }
 {
-    let kind = kind_of(r);
-    (1 <= kind) & (kind <= 13)
+    primitive::is_primitive(fields_of(r))
 }

@@ -11,6 +11,7 @@ ghost use Rattle.flatten.specs.Steps.{entered, unlike, IsStretch};
 use crate::Pin;
 use component::Record;
 use component::child_of;
+use component::fields_of;
 use component::from_of;
 use component::is_primitive;
 use component::out_map_of;
@@ -40,26 +41,14 @@ pub fn deepest() -> u8
 fn input_width_of(r: Record) -> u64
     ensures { λ x. ⌜ x ≡ inputWidth (fieldsOf r) ⌝ }
 {
-    match r {
-        Record::Component { fields, .. } => primitive::input_width(fields),
-        Record::Connection { .. } => 1,
-        Record::InputMap { .. } => 1,
-        Record::OutputMap { .. } => 1,
-        Record::Refused => 1,
-    }
+    primitive::input_width(fields_of(r))
 }
 
 // The bits of each output of a component; 1 where the record is none.
 fn output_width_of(r: Record) -> u64
     ensures { λ x. ⌜ x ≡ outputWidth (fieldsOf r) ⌝ }
 {
-    match r {
-        Record::Component { fields, .. } => primitive::output_width(fields),
-        Record::Connection { .. } => 1,
-        Record::InputMap { .. } => 1,
-        Record::OutputMap { .. } => 1,
-        Record::Refused => 1,
-    }
+    primitive::output_width(fields_of(r))
 }
 
 // Output i of component c, down through output maps to a primitive's output, with the depth left. Crate load calls it too; both have

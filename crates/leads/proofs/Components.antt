@@ -21,15 +21,8 @@ use Rattle.component.specs.declared.Record.{Record}
 use Rattle.component.specs.declared.Record.the-variants.{Component, Connection, InputMap, OutputMap, Refused}
 use Rattle.component.specs.Record.{formOf, ownerOf, fieldsOf, noFields, inputsOf, outputsOf, composite, isPrimitive}
 use Rattle.component.specs.Drawing.{deepest, isComponent, child, holds, deeper}
+use Rattle.component.proofs.RecordLaws.{fields-cases}
 use Rattle.leads.proofs.Accepted.{Passed}
-
--- A record that is no component has no kind and no ports.
-fields-cases : (r : Record) → (formOf r ≡ 1) ⊎ (fieldsOf r ≡ noFields)
-fields-cases (Component o d f) = inl refl
-fields-cases (Connection o a b c d) = inr refl
-fields-cases (InputMap o a c d) = inr refl
-fields-cases (OutputMap o a b) = inr refl
-fields-cases Refused = inr refl
 
 pub primitive-component : (r : Record) → isPrimitive r ≡ true → formOf r ≡ 1
 primitive-component r e = ⊎-elim (λ u. u) (λ u. absurd (false≢true (rw u at e))) (fields-cases r)

@@ -15,31 +15,15 @@ form-of-requires c κs = search needs
 returns : tie.Need-returns
 returns c = search (fails11-other)
 
-add-inputs-before : tie.Need-add-inputs-before
-add-inputs-before c = search needs
+add-ports-before : tie.Need-add-ports-before
+add-ports-before c = search needs
 
-inputs-before-requires : tie.Need-inputs-before-requires
-inputs-before-requires c κs = search needs
-
-add-outputs-before : tie.Need-add-outputs-before
-add-outputs-before c = search needs
-
-outputs-before-requires : tie.Need-outputs-before-requires
-outputs-before-requires c κs = search needs
+ports-before-requires : tie.Need-ports-before-requires
+ports-before-requires c κs = search needs
 
 -- a component
 returns-2 : tie.Need-returns-2
 returns-2 c = search (fails11-component)
 
 pub check11-spec : {M : Type 1} → statement M
-check11-spec =
-    tie.close
-    (tie.spec
-    record-at-requires
-    form-of-requires
-    returns
-    add-inputs-before
-    inputs-before-requires
-    add-outputs-before
-    outputs-before-requires
-    returns-2)
+check11-spec = tie.close (tie.spec record-at-requires form-of-requires returns add-ports-before ports-before-requires returns-2)
