@@ -17,6 +17,7 @@ pub use checks::check11;
 pub use checks::check12;
 pub use checks::check13;
 pub use checks::check14;
+pub use checks::deepest;
 pub use checks::enters;
 pub use checks::inputs_before;
 pub use checks::outputs_before;

@@ -1,7 +1,8 @@
--- Laws of a whole load: the tables that the passes leave are those of the definition, and each way out of a load is one of its cases.
+-- Laws of a whole load: the tables that the passes leave are those of the definition, and each way out of the judgement and of the
+-- load is one of its cases.
 -- Assumes nothing.
 use mathlib.Core.Path.{_≡_, refl, sym, ap, _∙_}
-use mathlib.Core.Bool.{Bool, true, false}
+use mathlib.Core.Bool.{Bool, true, false, cond}
 use mathlib.Core.List.{List}
 use Prim.Native.Nat.{ℕ, _+_, _≤_}
 use native.Mathlib.Omega.{arith}
@@ -15,11 +16,13 @@ use Rattle.component.specs.declared.Verdict.{Verdict}
 use Rattle.component.specs.declared.Verdict.the-variants.{Accepted, Refused}
 use Rattle.component.specs.Record.{recordAt, recordCount}
 use Rattle.flatten.specs.Descent.{flatWires}
-use Rattle.flatten.specs.Verdict.{sized, verdict}
+use Rattle.flatten.specs.Verdict.{sized, refused, verdict}
+use Rattle.leads.proofs.Accepted.{refused-not}
 use Rattle.leads.proofs.Theorems.{accepted-primitives-bound, accepted-inputs-bound}
 use Rattle.tables.specs.declared.Answer.the-variants.{Done, Refused as Declined}
 use Rattle.tables.specs.declared.Counts.{Counts}
 use Rattle.tables.specs.Tables.{Tables, tablesOf, fullSize}
+use Rattle.tables.proofs.SizesLaws.{fullSize-sound}
 use Rattle.tables.proofs.NamedLaws.{overlay-list, overlay-count}
 use Rattle.load.specs.declared.rows.Before.{Before}
 use Rattle.load.specs.Load.{wireWords, primitives, componentWords, standingAtLoad, loaded, loadVerdict, loadTables, loadAnswer, Loads}
@@ -93,33 +96,60 @@ module _ (s : List ℕ) (accepted : verdict s ≡ Accepted) (T : Tables) (is : 1
         standing = ek j;
       })
 
--- The ways out of a load.
+-- What an accepted load has passed: check 2, and the judgement of the file.
+pub record IsLoad (file : List ℕ) (T : Tables) : Type 0 where
+  pub full : fullSize T ≡ true
+  pub judged : verdict file ≡ Accepted
+
+pub load-passed : (file : List ℕ) (T : Tables) → loadVerdict file T ≡ Accepted → IsLoad file T
+unfolding loadVerdict
+load-passed file T accepted = by-size (sized file) (fullSize T) refl accepted
+  where
+    by-size : (b c : Bool) → fullSize T ≡ c → cond b (cond c (verdict file) (refused 2 0)) (refused 1 0) ≡ Accepted
+        → IsLoad file T
+    by-size true true s e = record { full = s; judged = e }
+    by-size true false s e = absurd (refused-not 2 0 e)
+    by-size false c s e = absurd (refused-not 1 0 e)
+
 module _ (s cs is os ws cur fol std : List ℕ) where
   abbrev lent : Counts → Tables
   lent = tablesOf cs is os ws cur fol std
 
-  -- 1
-  pub load-unsized : sized s ≡ false → Loads s lent lent (Declined (record { number = 1; position = 0 }))
-  unfolding loadAnswer loadTables loadVerdict
-  load-unsized e m = rw e (refl, refl)
+  -- The ways out of the judgement, whatever the counts: 1; 2; and 0 or 3 to 15.
+  pub judge-unsized : sized s ≡ false → (m : Counts) → refused 1 0 ≡ loadVerdict s (lent m)
+  unfolding loadVerdict
+  judge-unsized e m = rw e
 
   module _ (sz : sized s ≡ true) (k : Counts) where
-    -- 2
-    pub load-short : fullSize (lent k) ≡ false → Loads s lent lent (Declined (record { number = 2; position = 0 }))
-    unfolding loadAnswer loadTables loadVerdict fullSize
-    load-short e m = rw (sz, e) (refl, refl)
+    pub judge-short : fullSize (lent k) ≡ false → (m : Counts) → refused 2 0 ≡ loadVerdict s (lent m)
+    unfolding loadVerdict fullSize
+    judge-short e m = rw (sz, e)
 
-    module _ (full : fullSize (lent k) ≡ true) where
-      -- 3 to 15
-      pub load-refused : (r : Refusal) → verdict s ≡ Refused r → Loads s lent lent (Declined r)
-      unfolding loadAnswer loadTables loadVerdict fullSize
-      load-refused r e m = rw (sz, full, e) (refl, refl)
+    pub judge-file : fullSize (lent k) ≡ true → (v : Verdict) → v ≡ verdict s → (m : Counts) → v ≡ loadVerdict s (lent m)
+    unfolding loadVerdict fullSize
+    judge-file full v e m = rw (sz, full, e)
 
-      -- 0
-      pub load-done : (cs' is' os' ws' cur' fol' std' : List ℕ) (c : Counts) → verdict s ≡ Accepted
+  -- The ways out of a load whose verdict is v.
+  module _ (v : Verdict) (h : (m : Counts) → v ≡ loadVerdict s (lent m)) where
+    pub load-refused : (r : Refusal) → v ≡ Refused r → Loads s lent lent (Declined r)
+    unfolding loadAnswer loadTables
+    load-refused r e m = rw (sym (h m) ∙ e) (refl, refl)
+
+    module _ (e : v ≡ Accepted) where
+      -- The file is accepted, and each table is of full size.
+      pub load-ready : (verdict s ≡ Accepted) × (2048 ≤ length cs) × (1024 ≤ length is) × (1024 ≤ length os) × (4096 ≤ length ws)
+          × (256 ≤ length cur) × (256 ≤ length fol) × (256 ≤ length std)
+      load-ready =
+          let none : Counts =
+          record { components = 0; inputs = 0; outputs = 0; wires = 0; current = 0; following = 0; standing = 0 } in
+          let p = load-passed s (lent none) (sym (h none) ∙ e) in
+          let full = fullSize-sound (lent none) (p .full) in
+          (p .judged, full .components, full .inputs, full .outputs, full .wires, full .current, full .following, full .standing)
+
+      pub load-done : (cs' is' os' ws' cur' fol' std' : List ℕ) (c : Counts)
           → tablesOf cs' is' os' ws' cur' fol' std' c ≡ loaded (recordAt s) (recordCount s) (lent c)
           → Loads s lent (tablesOf cs' is' os' ws' cur' fol' std') (Done c)
-      unfolding loadAnswer loadTables loadVerdict fullSize loaded
-      load-done cs' is' os' ws' cur' fol' std' c e h m =
-          let counts = ap (λ (T : Tables). T .counts) h in
-          rw (sz, full, e) (ap Done counts, ap (tablesOf cs' is' os' ws' cur' fol' std') (sym counts) ∙ h)
+      unfolding loadAnswer loadTables loaded
+      load-done cs' is' os' ws' cur' fol' std' c d m =
+          let counts = ap (λ (T : Tables). T .counts) d in
+          rw (sym (h m) ∙ e) (ap Done counts, ap (tablesOf cs' is' os' ws' cur' fol' std') (sym counts) ∙ d)
