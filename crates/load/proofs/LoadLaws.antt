@@ -17,7 +17,7 @@ use Rattle.component.specs.declared.Verdict.the-variants.{Accepted, Refused}
 use Rattle.component.specs.Record.{recordAt, recordCount}
 use Rattle.flatten.specs.Descent.{flatWires}
 use Rattle.flatten.specs.Verdict.{sized, refused, verdict}
-use Rattle.leads.proofs.Accepted.{refused-not}
+use Rattle.leads.proofs.Accepted.{refused-not, accepted-passed}
 use Rattle.leads.proofs.Theorems.{accepted-primitives-bound, accepted-inputs-bound}
 use Rattle.tables.specs.declared.Answer.the-variants.{Done, Refused as Declined}
 use Rattle.tables.specs.declared.Counts.{Counts}
@@ -46,7 +46,7 @@ module _ (s : List ℕ) (accepted : verdict s ≡ Accepted) (t : List ℕ) where
       → k ≡ length (standingAtLoad (recordAt s) (recordCount s)) → 256 ≤ length t → (k ≤ length v) × (k ≤ length t)
   copy-room u v k e d full =
       let long = overlay-count (standingAtLoad (recordAt s) (recordCount s)) u k d in
-      (rw e long, omega (arith, standing-bound s accepted))
+      (rw e long, omega (arith, standing-bound (recordAt s) (recordCount s) (accepted-passed s accepted)))
 
 -- What the passes leave of the tables T, whose inputs and current list are of full size, for an accepted file.
 module _ (s : List ℕ) (accepted : verdict s ≡ Accepted) (T : Tables) (is : 1024 ≤ length (T .inputs)) (cur : 256 ≤ length (T .current))

@@ -22,7 +22,8 @@ use Rattle.component.specs.Record.{recordAt, recordCount, fieldsOf, isPrimitive
 use Rattle.component.specs.Drawing.{primitivesBefore}
 use Rattle.flatten.specs.Descent.{flat}
 use Rattle.flatten.specs.Verdict.{verdict}
-use Rattle.leads.proofs.Primitives.{primitivesBefore-step, primitivesBefore-skip}
+use Rattle.leads.proofs.Accepted.{Passed, accepted-passed}
+use Rattle.leads.proofs.Primitives.{primitivesBefore-step, primitivesBefore-skip, primitives-bound}
 use Rattle.leads.proofs.Theorems.{accepted-primitives-bound}
 use Rattle.load.specs.declared.names.Stood.{Stood}
 use Rattle.load.specs.declared.rows.Drawn.{Drawn}
@@ -106,18 +107,23 @@ module _ (at : ℕ → Record) (n : ℕ) where
       by-kind q true = refl
       by-kind q false = refl
 
+-- The standing list of a drawing that passes every check names at most 256 components.
+pub standing-bound : (at : ℕ → Record) (n : ℕ) → Passed at n → length (standingAtLoad at n) ≤ 256
+standing-bound at n d =
+    let test : ℕ → Bool = λ x. is Const (fieldsOf (at x)) || is Clock (fieldsOf (at x)) in
+    let all = primitives at n in
+    omega (arith, length-map (keep test all) (flat at n), keep-length test all, primitives-bound at n d)
+
 -- Laying the standing list of an accepted file, in a table t of full size.
 module _ (s : List ℕ) (accepted : verdict s ≡ Accepted) where
-  -- It names at most 256 components.
-  pub standing-bound : length (standingAtLoad (recordAt s) (recordCount s)) ≤ 256
-  standing-bound =
-      let test : ℕ → Bool = λ x. is Const (fieldsOf (recordAt s x)) || is Clock (fieldsOf (recordAt s x)) in
-      let all = primitives (recordAt s) (recordCount s) in
-      omega (arith, length-map (keep test all) (flat (recordAt s) (recordCount s)), keep-length test all, accepted-primitives-bound s accepted)
-
   module _ (t : List ℕ) (full : 256 ≤ length t) where
     standing-all : length (joined (standingAt (recordAt s) (recordCount s)) (from 0 (recordCount s))) ≤ length t
-    standing-all = omega (arith, standing-bound, ap (λ (l : List ℕ). length l) (standing-joined (recordAt s) (recordCount s)))
+    standing-all =
+        omega (
+          arith,
+          standing-bound (recordAt s) (recordCount s) (accepted-passed s accepted),
+          ap (λ (l : List ℕ). length l) (standing-joined (recordAt s) (recordCount s)),
+        )
 
     module _ (p : ℕ) (u : List ℕ) (k : Stood) (ek : k .components ≡ flat (recordAt s) (recordCount s) p)
         (laid : Laid (standingAt (recordAt s) (recordCount s)) p t u (k .count)) where

@@ -22,8 +22,9 @@ use Rattle.component.specs.declared.Verdict.the-variants.{Accepted}
 use Rattle.component.specs.Record.{recordAt, recordCount, fieldsOf, outputsOf, isPrimitive}
 use Rattle.component.specs.Drawing.{primitivesBefore, outputsBefore}
 use Rattle.flatten.specs.Verdict.{verdict}
-use Rattle.leads.proofs.Primitives.{primitivesBefore-sound}
-use Rattle.leads.proofs.Theorems.{accepted-outputs-bound, accepted-obeys}
+use Rattle.leads.proofs.Accepted.{Passed, accepted-passed}
+use Rattle.leads.proofs.Primitives.{primitivesBefore-sound, primitive-obeyed}
+use Rattle.leads.proofs.Theorems.{accepted-outputs-bound}
 use Rattle.load.specs.declared.rows.Drawn.{Drawn}
 use Rattle.load.specs.declared.rows.Drawn.the-variants.{Primitive, Other}
 use Rattle.load.specs.Load.{primitives}
@@ -77,26 +78,23 @@ outputs-joined at n p = joined-keep (λ q. isPrimitive (at q)) (startingOf at) (
     by-kind q true = refl
     by-kind q false = refl
 
-module _ (s : List ℕ) (accepted : verdict s ≡ Accepted) where
-  -- The starting values of an accepted file's primitives are as many as their outputs.
-  pub starting-before : (p : ℕ)
-      → length (joined (startingOf (recordAt s)) (primitivesBefore (recordAt s) (recordCount s) p)) ≡ outputsBefore (recordAt s) (recordCount s) p
-  starting-before p =
-      joined-length (startingOf (recordAt s)) before
-      ∙ total-members (λ q. length (startingOf (recordAt s) q)) (λ q. outputsOf (recordAt s q)) before
-      (λ q u. let e = primitivesBefore-sound (recordAt s) (recordCount s) q p u .0 in
-      starting-length (fieldsOf (recordAt s q)) (rw e (accepted-obeys s accepted q e)))
-    where
-      before : List ℕ
-      before = primitivesBefore (recordAt s) (recordCount s) p
+-- The starting values of the primitives of a drawing that passes every check are as many as their outputs.
+pub starting-before : (at : ℕ → Record) (n : ℕ) → Passed at n → (p : ℕ)
+    → length (joined (startingOf at) (primitivesBefore at n p)) ≡ outputsBefore at n p
+starting-before at n d p =
+    joined-length (startingOf at) (primitivesBefore at n p)
+    ∙ total-members (λ q. length (startingOf at q)) (λ q. outputsOf (at q)) (primitivesBefore at n p)
+    (λ q u. starting-length (fieldsOf (at q)) (primitive-obeyed at n d q (primitivesBefore-sound at n q p u .0)))
 
+-- Laying the outputs of an accepted file, in a table t of full size.
+module _ (s : List ℕ) (accepted : verdict s ≡ Accepted) where
   module _ (t : List ℕ) (full : 1024 ≤ length t) where
     outputs-all : length (joined (outputsAt (recordAt s)) (from 0 (recordCount s))) ≤ length t
     outputs-all =
         omega (
           arith,
           ap (λ (l : List ℕ). length l) (outputs-joined (recordAt s) (recordCount s) (recordCount s)),
-          starting-before (recordCount s),
+          starting-before (recordAt s) (recordCount s) (accepted-passed s accepted) (recordCount s),
           accepted-outputs-bound s accepted,
         )
 

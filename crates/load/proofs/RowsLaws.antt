@@ -11,7 +11,7 @@ use denote.Enum.Declared.{tagOf}
 use lib.ListN.{length, length-append}
 use lib.Seq.{sets}
 use Rattle.lists.specs.Lists.{from, keep, total, joined, overlay}
-use Rattle.lists.proofs.MembersLaws.{keep-append, total-append, from-append}
+use Rattle.lists.proofs.MembersLaws.{total-append}
 use Rattle.lists.proofs.OverlayLaws.{joined-width}
 use Rattle.primitive.specs.declared.table.Fields.{Fields}
 use Rattle.primitive.specs.Kinds.{primitive}
@@ -25,7 +25,7 @@ use Rattle.component.proofs.Record.{the-type}
 use Rattle.component.proofs.RecordLaws.{formOf-no-component}
 use Rattle.flatten.specs.Verdict.{verdict}
 use Rattle.leads.proofs.Components.{primitive-component}
-use Rattle.leads.proofs.Primitives.{primitivesBefore-step, primitivesBefore-skip, portsBefore-step}
+use Rattle.leads.proofs.Primitives.{primitivesBefore-append, primitivesBefore-step, primitivesBefore-skip, portsBefore-step}
 use Rattle.leads.proofs.Theorems.{accepted-primitives-bound, accepted-inputs-bound, accepted-outputs-bound}
 use Rattle.load.specs.declared.rows.Drawn.{Drawn}
 use Rattle.load.specs.declared.rows.Drawn.the-variants.{Primitive, Other}
@@ -87,11 +87,10 @@ module _ (at : ℕ → Record) (n : ℕ) where
       ap (λ (l : List ℕ). length l) (sym (rows-joined p)) ∙ joined-width (componentWords at n) 8 (λ q. refl) (primitivesBefore at n p)
 
   -- All primitives are those before p, and others.
-  primitives-split : (p : ℕ) → p ≤ n → primitives at n ≡ primitivesBefore at n p ++ keep (λ q. isPrimitive (at q)) (from (0 + p) (n - p))
+  primitives-split : (p : ℕ) → p ≤ n → primitives at n ≡ primitivesBefore at n p ++ keep (λ q. isPrimitive (at q)) (from p (n - p))
   primitives-split p h =
       let e : n ≡ p + (n - p) = omega arith in
-      ap (primitivesBefore at n) e ∙ ap (keep (λ q. isPrimitive (at q))) (from-append 0 p (n - p))
-      ∙ keep-append (λ q. isPrimitive (at q)) (from 0 p) (from (0 + p) (n - p))
+      ap (primitivesBefore at n) e ∙ primitivesBefore-append at n p (n - p)
 
   pub primitivesBefore-few : (p : ℕ) → p ≤ n → length (primitivesBefore at n p) ≤ length (primitives at n)
   primitivesBefore-few p h = omega (arith, simp length-append at (ap (λ (l : List ℕ). length l) (primitives-split p h)))

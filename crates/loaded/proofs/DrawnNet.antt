@@ -24,11 +24,10 @@ use Rattle.leads.proofs.Accepted.{Passed}
 use Rattle.leads.proofs.Components.{primitive-component}
 use Rattle.leads.proofs.Ends.{IsInput, wires-leave, wires-enter, wires-width}
 use Rattle.leads.proofs.Bound.{entered}
-use Rattle.leads.proofs.Primitives.{flat-onto, id-inj}
+use Rattle.leads.proofs.Primitives.{primitive-obeyed, flat-onto, id-inj}
 use Rattle.leads.proofs.FlatWires.{flatWires-sound, flatWires-distinct}
 use Rattle.tables.specs.Tables.{Tables, fieldsAt, idAt, firstInput, firstOutput, inputPlace, indexes}
 use Rattle.net.specs.Net.{kindsObeyed, idsDistinct, inputsBelow, outputsBelow, portsFollow, isOutput, isInput, wiresFit, inputsOnce}
-use Rattle.loaded.proofs.Ports.{primitive-obeyed}
 use Rattle.loaded.proofs.Drawn.{IsDrawn, drawn-primitive, drawn-every, drawn-isOutput, drawn-isInput, drawn-inputPlace-inj}
 
 module _ (at : ℕ → Record) (n : ℕ) (p : Passed at n) (U : Tables) (d : IsDrawn at n U) where
