@@ -12,7 +12,10 @@ use lib.ListN.{length, getD, take, length-append}
 use lib.Seq.{getD-append-seam, take-append-seam}
 use lib.Dec.{eqb, ltb}
 use Rattle.lists.specs.Lists.{from, keep, any, total}
-use Rattle.lists.proofs.MembersLaws.{In, Distinct, or-left-false, or-right-false, any-none, keep-sound, keep-complete, keep-append, total-append, in-getD, from0-sound, from0-complete, from-append, from-last, from-length, distinct-place, distinct-keep, distinct-from, distinct-map, distinct-bound}
+use Rattle.lists.proofs.MembersLaws.{In, Distinct, or-left-false, or-right-false, any-none, keep-sound, keep-complete}
+use Rattle.lists.proofs.MembersLaws.{keep-append, total-append, in-getD, from0-sound, from0-complete, from-append}
+use Rattle.lists.proofs.MembersLaws.{from-last, from-length, distinct-place, distinct-keep, distinct-from, distinct-map}
+use Rattle.lists.proofs.MembersLaws.{distinct-bound}
 use Rattle.primitive.specs.Kinds.{primitive, obeys}
 use Rattle.component.specs.declared.Record.{Record}
 use Rattle.component.specs.Record.{formOf, fieldsOf, idOf, inputsOf, outputsOf, isPrimitive}
@@ -171,7 +174,8 @@ module _ (at : ℕ → Record) (n : ℕ) (d : Passed at n) where
   primitive-obeys c e = component-obeys c (primitive-component (at c) e)
 
   -- The same, as an evaluation asks it.
-  pub primitive-obeyed : (c : ℕ) → isPrimitive (at c) ≡ true → (primitive (fieldsOf (at c)) && obeys (fieldsOf (at c))) ≡ true
+  pub primitive-obeyed : (c : ℕ) → isPrimitive (at c) ≡ true
+      → (primitive (fieldsOf (at c)) && obeys (fieldsOf (at c))) ≡ true
   primitive-obeyed c e = rw e (primitive-obeys c e)
 
   id-earlier : (b c : ℕ) → b < c → formOf (at c) ≡ 1 → idOf (at b) ≡ idOf (at c) → ⊥

@@ -1,5 +1,5 @@
--- Laws of a whole load: the tables that the passes leave are those of the definition, and each way out of the judgement and of the
--- load is one of its cases.
+-- Laws of a whole load: the tables that the passes leave are those of the definition, and each way out of the judgement
+-- and of the load is one of its cases.
 -- Assumes nothing.
 use mathlib.Core.Path.{_≡_, refl, sym, ap, _∙_}
 use mathlib.Core.Bool.{Bool, true, false, cond}
@@ -11,7 +11,6 @@ use lib.Seq.{sets}
 use Rattle.lists.specs.Lists.{from, joined, overlay}
 use Rattle.lists.proofs.MembersLaws.{from-length}
 use Rattle.primitive.specs.declared.answers.Refusal.{Refusal}
-use Rattle.component.specs.declared.Record.{Record}
 use Rattle.component.specs.declared.Verdict.{Verdict}
 use Rattle.component.specs.declared.Verdict.the-variants.{Accepted, Refused}
 use Rattle.component.specs.Record.{recordAt, recordCount}
@@ -25,14 +24,16 @@ use Rattle.tables.specs.Tables.{Tables, tablesOf, fullSize}
 use Rattle.tables.proofs.SizesLaws.{fullSize-sound}
 use Rattle.tables.proofs.NamedLaws.{overlay-list, overlay-count}
 use Rattle.load.specs.declared.rows.Before.{Before}
-use Rattle.load.specs.Load.{wireWords, primitives, componentWords, standingAtLoad, loaded, loadVerdict, loadTables, loadAnswer, Loads}
+use Rattle.load.specs.Load.{wireWords, primitives, componentWords, standingAtLoad, loaded, loadVerdict}
+use Rattle.load.specs.Load.{loadTables, loadAnswer, Loads}
 use Rattle.load.specs.Laying.{beforeAt, startingOf}
 use Rattle.load.proofs.LayingLaws.{sets-overlay}
 use Rattle.load.proofs.NamesLaws.{standing-bound}
 
 -- There is room for what the passes write.
 module _ (s : List ℕ) (accepted : verdict s ≡ Accepted) (t : List ℕ) where
-  pub inputs-room : (b : Before) → b ≡ beforeAt (recordAt s) (recordCount s) (recordCount s) → 1024 ≤ length t → 0 + b .inputs ≤ length t
+  pub inputs-room : (b : Before) → b ≡ beforeAt (recordAt s) (recordCount s) (recordCount s) → 1024 ≤ length t
+      → 0 + b .inputs ≤ length t
   inputs-room b e full = omega (arith, ap (λ (x : Before). x .inputs) e, accepted-inputs-bound s accepted)
 
   pub current-room : (b : Before) → b ≡ beforeAt (recordAt s) (recordCount s) (recordCount s) → 256 ≤ length t
@@ -49,9 +50,11 @@ module _ (s : List ℕ) (accepted : verdict s ≡ Accepted) (t : List ℕ) where
       (rw e long, omega (arith, standing-bound (recordAt s) (recordCount s) (accepted-passed s accepted)))
 
 -- What the passes leave of the tables T, whose inputs and current list are of full size, for an accepted file.
-module _ (s : List ℕ) (accepted : verdict s ≡ Accepted) (T : Tables) (is : 1024 ≤ length (T .inputs)) (cur : 256 ≤ length (T .current))
+module _ (s : List ℕ) (accepted : verdict s ≡ Accepted) (T : Tables) (is : 1024 ≤ length (T .inputs))
+    (cur : 256 ≤ length (T .current))
     (b : Before) (eb : b ≡ beforeAt (recordAt s) (recordCount s) (recordCount s)) where
-  filled-inputs : (u : List ℕ) → u ≡ sets (T .inputs) 0 (replicate (b .inputs) 0) → u ≡ loaded (recordAt s) (recordCount s) T .inputs
+  filled-inputs : (u : List ℕ) → u ≡ sets (T .inputs) 0 (replicate (b .inputs) 0)
+      → u ≡ loaded (recordAt s) (recordCount s) T .inputs
   unfolding loaded
   filled-inputs u e =
       let few = accepted-inputs-bound s accepted in
@@ -59,7 +62,8 @@ module _ (s : List ℕ) (accepted : verdict s ≡ Accepted) (T : Tables) (is : 1
       e ∙ sets-overlay (replicate (b .inputs) 0) (T .inputs) (omega (arith, ap (λ (x : Before). x .inputs) eb))
       ∙ ap (λ (x : Before). overlay (replicate (x .inputs) 0) (T .inputs)) eb
 
-  filled-current : (u : List ℕ) → u ≡ sets (T .current) 0 (from 0 (b .components)) → u ≡ loaded (recordAt s) (recordCount s) T .current
+  filled-current : (u : List ℕ) → u ≡ sets (T .current) 0 (from 0 (b .components))
+      → u ≡ loaded (recordAt s) (recordCount s) T .current
   unfolding loaded
   filled-current u e =
       let few = accepted-primitives-bound s accepted in
@@ -68,7 +72,8 @@ module _ (s : List ℕ) (accepted : verdict s ≡ Accepted) (T : Tables) (is : 1
       ∙ ap (λ (x : Before). overlay (from 0 (x .components)) (T .current)) eb
 
   pub filled : (cs ins os ws cs' fs ss : List ℕ) (w k : ℕ)
-      → cs ≡ overlay (joined (componentWords (recordAt s) (recordCount s)) (primitives (recordAt s) (recordCount s))) (T .components)
+      → cs ≡ overlay (joined (componentWords (recordAt s) (recordCount s)) (primitives (recordAt s) (recordCount s)))
+      (T .components)
       → ins ≡ sets (T .inputs) 0 (replicate (b .inputs) 0)
       → os ≡ overlay (joined (startingOf (recordAt s)) (primitives (recordAt s) (recordCount s))) (T .outputs)
       → ws ≡ overlay (joined wireWords (flatWires (recordAt s) (recordCount s))) (T .wires)
@@ -77,7 +82,16 @@ module _ (s : List ℕ) (accepted : verdict s ≡ Accepted) (T : Tables) (is : 1
       → ss ≡ overlay (standingAtLoad (recordAt s) (recordCount s)) (T .standing)
       → k ≡ length (standingAtLoad (recordAt s) (recordCount s))
       → fs ≡ overlay (take k ss) (T .following)
-      → tablesOf cs ins os ws cs' fs ss (record { components = b .components; inputs = b .inputs; outputs = b .outputs; wires = w; current = b .components; following = k; standing = k })
+      → tablesOf cs ins os ws cs' fs ss
+      (record {
+        components = b .components;
+        inputs = b .inputs;
+        outputs = b .outputs;
+        wires = w;
+        current = b .components;
+        following = k;
+        standing = k;
+      })
       ≡ loaded (recordAt s) (recordCount s) T
   unfolding loaded
   filled cs ins os ws cs' fs ss w k ecs eins eos ews ew ecur ess ek efs =
@@ -125,7 +139,8 @@ module _ (s cs is os ws cur fol std : List ℕ) where
     unfolding loadVerdict fullSize
     judge-short e m = rw (sz, e)
 
-    pub judge-file : fullSize (lent k) ≡ true → (v : Verdict) → v ≡ verdict s → (m : Counts) → v ≡ loadVerdict s (lent m)
+    pub judge-file : fullSize (lent k) ≡ true → (v : Verdict) → v ≡ verdict s → (m : Counts)
+        → v ≡ loadVerdict s (lent m)
     unfolding loadVerdict fullSize
     judge-file full v e m = rw (sz, full, e)
 
@@ -137,14 +152,15 @@ module _ (s cs is os ws cur fol std : List ℕ) where
 
     module _ (e : v ≡ Accepted) where
       -- The file is accepted, and each table is of full size.
-      pub load-ready : (verdict s ≡ Accepted) × (2048 ≤ length cs) × (1024 ≤ length is) × (1024 ≤ length os) × (4096 ≤ length ws)
+      pub load-ready : (verdict s ≡ Accepted) × (2048 ≤ length cs) × (1024 ≤ length is) × (1024 ≤ length os)
+          × (4096 ≤ length ws)
           × (256 ≤ length cur) × (256 ≤ length fol) × (256 ≤ length std)
       load-ready =
           let none : Counts =
           record { components = 0; inputs = 0; outputs = 0; wires = 0; current = 0; following = 0; standing = 0 } in
           let p = load-passed s (lent none) (sym (h none) ∙ e) in
-          let full = fullSize-sound (lent none) (p .full) in
-          (p .judged, full .components, full .inputs, full .outputs, full .wires, full .current, full .following, full .standing)
+          let f = fullSize-sound (lent none) (p .full) in
+          (p .judged, f .components, f .inputs, f .outputs, f .wires, f .current, f .following, f .standing)
 
       pub load-done : (cs' is' os' ws' cur' fol' std' : List ℕ) (c : Counts)
           → tablesOf cs' is' os' ws' cur' fol' std' c ≡ loaded (recordAt s) (recordCount s) (lent c)

@@ -8,7 +8,7 @@ use native.Mathlib.Omega.{arith}
 use borrow.Author.Tests.{eqb-true, eq-eqb, ne-eqb}
 use lib.ListN.{length, set, replicate, length-replicate}
 use lib.Seq.{sets}
-use Rattle.lists.specs.Lists.{from, total, joined, overlay}
+use Rattle.lists.specs.Lists.{from, joined, overlay}
 use Rattle.lists.proofs.MembersLaws.{joined-length}
 use Rattle.lists.proofs.OverlayLaws.{total-members}
 use Rattle.primitive.specs.declared.kinds.Kind.the-variants.{Const}
@@ -36,7 +36,8 @@ pub outputs-none : (drawn : Drawn) → drawn ≡ Other → (t : List ℕ) (k : �
     → (t ≡ sets t k (outputsBy drawn)) × (k ≡ k + length (outputsBy drawn))
 outputs-none drawn e t k = rw e (refl, omega arith)
 
-module _ (id : Id) (f : Fields) (drawn : Drawn) (e : drawn ≡ Primitive id f) (c : ℕ) (ec : c ≡ numberOf Const) (t : List ℕ) (k : ℕ) where
+module _ (id : Id) (f : Fields) (drawn : Drawn) (e : drawn ≡ Primitive id f) (c : ℕ) (ec : c ≡ numberOf Const)
+    (t : List ℕ) (k : ℕ) where
   pub outputs-const : f .kind ≡ c → outputsBy drawn ≡ f .parameter ∷ []
   outputs-const h = rw (e, eq-eqb (f .kind) 13 (h ∙ ec))
 
@@ -46,19 +47,26 @@ module _ (id : Id) (f : Fields) (drawn : Drawn) (e : drawn ≡ Primitive id f) (
   pub const-room : f .kind ≡ c → k + length (outputsBy drawn) ≤ length t → k < length t
   const-room h room = omega (arith, ap (λ (l : List ℕ). length l) (outputs-const h))
 
-  pub const-laid : f .kind ≡ c → (set t k (f .parameter) ≡ sets t k (outputsBy drawn)) × (k + 1 ≡ k + length (outputsBy drawn))
+  pub const-laid : f .kind ≡ c
+      → (set t k (f .parameter) ≡ sets t k (outputsBy drawn)) × (k + 1 ≡ k + length (outputsBy drawn))
   const-laid h = rw (outputs-const h) (refl, refl)
 
   module _ (h : f .kind ≡ c → ⊥) (x : ℕ) (ex : x ≡ f .outputs) where
     pub zeros-count : k + x ≡ k + length (outputsBy drawn)
-    zeros-count = omega (arith, ap (λ (l : List ℕ). length l) (outputs-zeros h), length-replicate {A = ℕ} (f .outputs) 0)
+    zeros-count =
+        omega (
+          arith,
+          ap (λ (l : List ℕ). length l) (outputs-zeros h),
+          length-replicate {A = ℕ} (f .outputs) 0,
+        )
 
     pub zeros-room : k + length (outputsBy drawn) ≤ length t → k + x ≤ length t
     zeros-room room = omega (arith, zeros-count)
 
     pub zeros-laid : (u : List ℕ) → u ≡ sets t k (replicate x 0)
         → (u ≡ sets t k (outputsBy drawn)) × (k + x ≡ k + length (outputsBy drawn))
-    zeros-laid u d = (d ∙ ap (λ (i : ℕ). sets t k (replicate i 0)) ex ∙ ap (sets t k) (sym (outputs-zeros h)), zeros-count)
+    zeros-laid u d =
+        (d ∙ ap (λ (i : ℕ). sets t k (replicate i 0)) ex ∙ ap (sets t k) (sym (outputs-zeros h)), zeros-count)
 
 -- A component that obeys the table of kinds has as many starting values as outputs.
 pub starting-length : (f : Fields) → (primitive f && obeys f) ≡ true → length (starting f) ≡ f .outputs
@@ -71,8 +79,11 @@ starting-length f o = by-kind (is Const f) refl
     by-kind false e = length-replicate (f .outputs) 0
 
 -- The starting values of the primitives, record by record.
-pub outputs-joined : (at : ℕ → Record) (n p : ℕ) → joined (startingOf at) (primitivesBefore at n p) ≡ joined (outputsAt at) (from 0 p)
-outputs-joined at n p = joined-keep (λ q. isPrimitive (at q)) (startingOf at) (outputsAt at) (λ q. by-kind q (isPrimitive (at q))) (from 0 p)
+pub outputs-joined : (at : ℕ → Record) (n p : ℕ)
+    → joined (startingOf at) (primitivesBefore at n p) ≡ joined (outputsAt at) (from 0 p)
+outputs-joined at n p =
+    joined-keep (λ q. isPrimitive (at q)) (startingOf at) (outputsAt at) (λ q. by-kind q (isPrimitive (at q)))
+    (from 0 p)
   where
     by-kind : (q : ℕ) (b : Bool) → cond b (startingOf at q) [] ≡ outputsBy (seenIf b (at q))
     by-kind q true = refl
@@ -108,7 +119,11 @@ module _ (s : List ℕ) (accepted : verdict s ≡ Accepted) where
       module _ (drawn : Drawn) (ed : drawn ≡ seen (recordAt s p)) where
         pub outputs-requires : p < recordCount s → k + length (outputsBy drawn) ≤ length u
         outputs-requires l =
-            omega (arith, laid-room _ t p u k laid (recordCount s) l outputs-all, ap (λ (x : Drawn). length (outputsBy x)) ed)
+            omega (
+              arith,
+              laid-room _ t p u k laid (recordCount s) l outputs-all,
+              ap (λ (x : Drawn). length (outputsBy x)) ed,
+            )
 
         pub outputs-step : (v : List ℕ) (m : ℕ) → v ≡ sets u k (outputsBy drawn) → m ≡ k + length (outputsBy drawn)
             → Laid (outputsAt (recordAt s)) (p + 1) t v m

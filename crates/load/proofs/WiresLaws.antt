@@ -1,6 +1,8 @@
--- Laws of the wires at load: those of one connection, written while its target goes down through the input maps, and all of them.
+-- Laws of the wires at load: those of one connection, written while its target goes down through the input maps, and
+-- all of them.
 --   led s n f ts    the words of the wires from the output f, by flat index, to the inputs ts of the drawing
---   Leading         the invariant of the loop over input maps: what is written and what the maps to come give is what the input gives
+--   Leading         the invariant of the loop over input maps: what is written and what the maps to come give is what
+--                   the input gives
 -- Not here: laws of the source and the targets (DescentLaws of crate flatten).
 -- Assumes nothing.
 use mathlib.Core.Path.{_≡_, refl, sym, ap, _∙_, subst}
@@ -33,7 +35,8 @@ use Rattle.flatten.specs.declared.descent.Entered.the-variants.{To, Nothing}
 use Rattle.flatten.specs.Descent.{source, targets, sourceOf, targetsOf, wiresAt, wires, flat, flatPin, flatWires}
 use Rattle.flatten.specs.Steps.{entered, IsStretch}
 use Rattle.flatten.specs.Verdict.{verdict}
-use Rattle.flatten.proofs.DescentLaws.{given, targets-bottom, targets-ends, targets-stretch, given-to, given-nothing, joined-end}
+use Rattle.flatten.proofs.DescentLaws.{given, targets-bottom, targets-ends, targets-stretch, given-to, given-nothing}
+use Rattle.flatten.proofs.DescentLaws.{joined-end}
 use Rattle.leads.proofs.Accepted.{Passed, accepted-sized, accepted-passed}
 use Rattle.leads.proofs.Components.{primitive-component, component-number}
 use Rattle.leads.proofs.Descent.{source-sound}
@@ -49,8 +52,10 @@ led s n f ts = joined (leadWords (recordAt s) n f) ts
 
 pub record Leading (s : List ℕ) (n d c i : ℕ) (f : Pin) (t : List ℕ) (k q e : ℕ) (u : List ℕ) (m : ℕ) : Type 0 where
   pub size : length u ≡ length t
-  pub table : sets u m (led s n f (joined (given (recordAt s) n (d - 1) c i) (from q (e - q)))) ≡ sets t k (led s n f (targets (recordAt s) n d c i))
-  pub place : m + length (led s n f (joined (given (recordAt s) n (d - 1) c i) (from q (e - q)))) ≡ k + length (led s n f (targets (recordAt s) n d c i))
+  pub table : sets u m (led s n f (joined (given (recordAt s) n (d - 1) c i) (from q (e - q))))
+      ≡ sets t k (led s n f (targets (recordAt s) n d c i))
+  pub place : m + length (led s n f (joined (given (recordAt s) n (d - 1) c i) (from q (e - q))))
+      ≡ k + length (led s n f (targets (recordAt s) n d c i))
 
 module _ (s : List ℕ) (n d c i : ℕ) (f : Pin) (t : List ℕ) (k : ℕ) where
   -- No depth left.
@@ -76,7 +81,9 @@ module _ (s : List ℕ) (n d c i : ℕ) (f : Pin) (t : List ℕ) (k : ℕ) where
           → Written t k (led s n f (targets (recordAt s) n d c i)) u (k + 4)
       lead-here u x ex eu =
           record {
-            table = eu ∙ ap (λ (y : Pin). sets t k (wireWords (record { src = f; dst = y }))) ex ∙ ap (sets t k) (sym led-here);
+            table =
+                eu ∙ ap (λ (y : Pin). sets t k (wireWords (record { src = f; dst = y }))) ex
+                ∙ ap (sets t k) (sym led-here);
             place = omega (arith, ap (λ (l : List ℕ). length l) led-here);
           }
 
@@ -103,7 +110,8 @@ module _ (s : List ℕ) (n d c i : ℕ) (f : Pin) (t : List ℕ) (k : ℕ) where
       unfolding rest now-led
       led-on =
           ap (led s n f) (given-to (recordAt s) n (d - 1) c i q e x j l (sym eg ∙ h))
-          ∙ joined-append (leadWords (recordAt s) n f) (targets (recordAt s) n (d - 1) x j) (joined (given (recordAt s) n (d - 1) c i) (from (q + 1) (e - (q + 1))))
+          ∙ joined-append (leadWords (recordAt s) n f) (targets (recordAt s) n (d - 1) x j)
+          (joined (given (recordAt s) n (d - 1) c i) (from (q + 1) (e - (q + 1))))
 
       pub leading-room : k + length (led s n f (targets (recordAt s) n d c i)) ≤ length t
           → m + length (led s n f (targets (recordAt s) n (d - 1) x j)) ≤ length u
@@ -120,7 +128,14 @@ module _ (s : List ℕ) (n d c i : ℕ) (f : Pin) (t : List ℕ) (k : ℕ) where
             table =
                 (λ j. sets (y .table j) (y .place j) rest) ∙ sym (sets-append u m now-led rest)
                 ∙ ap (sets u m) (sym led-on) ∙ inv .table;
-            place = omega (arith, y .place, inv .place, ap (λ (z : List ℕ). length z) led-on, length-append now-led rest);
+            place =
+                omega (
+                  arith,
+                  y .place,
+                  inv .place,
+                  ap (λ (z : List ℕ). length z) led-on,
+                  length-append now-led rest,
+                );
           }
 
     pub leading-nothing : (g : Entered) → q < e → g ≡ Nothing → g ≡ entered (recordAt s) n c i q
@@ -157,7 +172,8 @@ primitive-number s n c cs lo hi fs r b h er eb p =
 
 -- The wires of the record at p: it is no connection; a connection.
 module _ (s : List ℕ) (n : ℕ) where
-  pub connect-other : (p : ℕ) (r : Record) (t : List ℕ) (k : ℕ) → r ≡ recordAt s p → OneOf (0 ∷ 2 ∷ 3 ∷ 4 ∷ []) (tagOf the-type r)
+  pub connect-other : (p : ℕ) (r : Record) (t : List ℕ) (k : ℕ) → r ≡ recordAt s p
+      → OneOf (0 ∷ 2 ∷ 3 ∷ 4 ∷ []) (tagOf the-type r)
       → Written t k (wiresGiven (recordAt s) n p) t k
   connect-other p r t k e y =
       let z : wiresGiven (recordAt s) n p ≡ [] = rw (← e, ne-eqb (formOf r) 2 (formOf-no-connection r y)) in
@@ -167,12 +183,14 @@ module _ (s : List ℕ) (n : ℕ) where
     form-is : formOf (recordAt s p) ≡ 2
     form-is = ap formOf (sym e ∙ y)
 
-    module _ (m c : ℕ) (x : Pin) (em : m ≡ deepest) (ec : c ≡ child (recordAt s) n w (f .0)) (ex : x ≡ source (recordAt s) n m c a) where
+    module _ (m c : ℕ) (x : Pin) (em : m ≡ deepest) (ec : c ≡ child (recordAt s) n w (f .0))
+        (ex : x ≡ source (recordAt s) n m c a) where
       source-is : x ≡ sourceOf (recordAt s) n p
       unfolding sourceOf
       source-is =
           ex ∙ ap (λ (j : ℕ). source (recordAt s) n j c a) em ∙ ap (λ (j : ℕ). source (recordAt s) n deepest j a) ec
-          ∙ ap (λ (z : Record). source (recordAt s) n deepest (child (recordAt s) n (ownerOf z) (fromOf z)) (outputOf z)) (sym y ∙ e)
+          ∙ ap (λ (z : Record). source (recordAt s) n deepest (child (recordAt s) n (ownerOf z) (fromOf z))
+          (outputOf z)) (sym y ∙ e)
 
       -- The source is a primitive's, and its number is below 256.
       pub source-number : (cs lo hi fs : List ℕ) → Ready s n cs lo hi fs → p < n → x .comp < 256
@@ -180,24 +198,29 @@ module _ (s : List ℕ) (n : ℕ) where
       source-number cs lo hi fs h l =
           let d = subst (Passed (recordAt s)) (sym (h .count)) (accepted-passed s (h .accepted)) in
           let there = connection-ends (recordAt s) n d p l form-is .0 in
-          let comes = source-sound (recordAt s) n d 0 deepest (child (recordAt s) n (ownerOf (recordAt s p)) (fromOf (recordAt s p)))
+          let comes = source-sound (recordAt s) n d 0 deepest
+          (child (recordAt s) n (ownerOf (recordAt s p)) (fromOf (recordAt s p)))
           (outputOf (recordAt s p)) (zero-add deepest) refl there in
           rw source-is
           (component-number (recordAt s) n d (sourceOf (recordAt s) n p .comp)
-          (primitive-component (recordAt s (sourceOf (recordAt s) n p .comp)) (from-there (recordAt s) n d _ _ _ there comes .of-primitive)))
+          (primitive-component (recordAt s (sourceOf (recordAt s) n p .comp))
+          (from-there (recordAt s) n d _ _ _ there comes .of-primitive)))
 
-      module _ (l q : ℕ) (i : Pin) (el : l ≡ deepest) (eq : q ≡ child (recordAt s) n w (g .0)) (ei : i ≡ flatPin (recordAt s) n x) where
+      module _ (l q : ℕ) (i : Pin) (el : l ≡ deepest) (eq : q ≡ child (recordAt s) n w (g .0))
+          (ei : i ≡ flatPin (recordAt s) n x) where
         targets-are : targets (recordAt s) n l q b ≡ targetsOf (recordAt s) n p
         unfolding targetsOf
         targets-are =
             ap (λ (j : ℕ). targets (recordAt s) n j q b) el ∙ ap (λ (j : ℕ). targets (recordAt s) n deepest j b) eq
-            ∙ ap (λ (z : Record). targets (recordAt s) n deepest (child (recordAt s) n (ownerOf z) (toOf z)) (inputOf z)) (sym y ∙ e)
+            ∙ ap (λ (z : Record). targets (recordAt s) n deepest (child (recordAt s) n (ownerOf z) (toOf z))
+            (inputOf z)) (sym y ∙ e)
 
         pub wires-are : led s n i (targets (recordAt s) n l q b) ≡ wiresGiven (recordAt s) n p
         wires-are =
             ap (led s n i) targets-are
             ∙ ap (λ (z : Pin). led s n z (targetsOf (recordAt s) n p)) (ei ∙ ap (flatPin (recordAt s) n) source-is)
-            ∙ ap (λ (z : Bool). cond z (led s n (flatPin (recordAt s) n (sourceOf (recordAt s) n p)) (targetsOf (recordAt s) n p)) [])
+            ∙ ap (λ (z : Bool). cond z
+            (led s n (flatPin (recordAt s) n (sourceOf (recordAt s) n p)) (targetsOf (recordAt s) n p)) [])
             (sym (eq-eqb (formOf (recordAt s p)) 2 form-is))
 
         pub connect-room : (t : List ℕ) (k : ℕ) → k + length (wiresGiven (recordAt s) n p) ≤ length t
@@ -209,11 +232,13 @@ module _ (s : List ℕ) (n : ℕ) where
         connect-written t u k v h = subst (λ (z : List ℕ). Written t k z u v) wires-are h
 
 -- Lists made of others.
-joined-map : {A B C : Type 0} (f : B → List C) (g : A → B) (xs : List A) → joined f (map g xs) ≡ joined (λ a. f (g a)) xs
+joined-map : {A B C : Type 0} (f : B → List C) (g : A → B) (xs : List A)
+    → joined f (map g xs) ≡ joined (λ a. f (g a)) xs
 joined-map f g [] = refl
 joined-map {C = C} f g (x ∷ xs) = ap (λ (l : List C). f (g x) ++ l) (joined-map f g xs)
 
-joined-joined : {A B C : Type 0} (f : B → List C) (g : A → List B) (xs : List A) → joined f (joined g xs) ≡ joined (λ a. joined f (g a)) xs
+joined-joined : {A B C : Type 0} (f : B → List C) (g : A → List B) (xs : List A)
+    → joined f (joined g xs) ≡ joined (λ a. joined f (g a)) xs
 joined-joined f g [] = refl
 joined-joined {C = C} f g (x ∷ xs) =
     joined-append f (g x) (joined g xs) ∙ ap (λ (l : List C). joined f (g x) ++ l) (joined-joined f g xs)
@@ -223,20 +248,24 @@ module _ (at : ℕ → Record) (n : ℕ) where
   pub wires-joined : joined wireWords (flatWires at n) ≡ joined (wiresGiven at n) (from 0 n)
   wires-joined =
       joined-map wireWords (flatWire at n) (wires at n)
-      ∙ joined-joined (λ (w : Wire). wireWords (flatWire at n w)) (λ p. cond (eqb (formOf (at p)) 2) (wiresAt at n p) []) (from 0 n)
+      ∙ joined-joined (λ (w : Wire). wireWords (flatWire at n w))
+      (λ p. cond (eqb (formOf (at p)) 2) (wiresAt at n p) []) (from 0 n)
       ∙ (λ j. joined (λ p. by-form p (eqb (formOf (at p)) 2) j) (from 0 n))
     where
       by-form : (p : ℕ) (b : Bool) → joined (λ (w : Wire). wireWords (flatWire at n w)) (cond b (wiresAt at n p) [])
           ≡ cond b (joined (leadWords at n (flatPin at n (sourceOf at n p))) (targetsOf at n p)) []
       by-form p true =
-          joined-map (λ (w : Wire). wireWords (flatWire at n w)) (λ t. record { src = sourceOf at n p; dst = t }) (targetsOf at n p)
+          joined-map (λ (w : Wire). wireWords (flatWire at n w)) (λ t. record { src = sourceOf at n p; dst = t })
+          (targetsOf at n p)
       by-form p false = refl
 
   pub wires-length : length (joined (wiresGiven at n) (from 0 n)) ≡ 4 * length (flatWires at n)
-  wires-length = ap (λ (l : List ℕ). length l) (sym wires-joined) ∙ joined-width wireWords 4 (λ w. refl) (flatWires at n)
+  wires-length =
+      ap (λ (l : List ℕ). length l) (sym wires-joined) ∙ joined-width wireWords 4 (λ w. refl) (flatWires at n)
 
 -- Laying the wires of an accepted file, in a table t of full size.
-module _ (s : List ℕ) (n : ℕ) (cs lo hi fs : List ℕ) (h : Ready s n cs lo hi fs) (t : List ℕ) (full : 4096 ≤ length t) where
+module _ (s : List ℕ) (n : ℕ) (cs lo hi fs : List ℕ) (h : Ready s n cs lo hi fs) (t : List ℕ)
+    (full : 4096 ≤ length t) where
   wires-all : length (joined (wiresGiven (recordAt s) n) (from 0 n)) ≤ length t
   wires-all =
       omega (
@@ -250,10 +279,12 @@ module _ (s : List ℕ) (n : ℕ) (cs lo hi fs : List ℕ) (h : Ready s n cs lo 
     pub wires-requires : p < n → (p < n) × (k + length (wiresGiven (recordAt s) n p) ≤ length u)
     wires-requires l = (l, laid-room _ t p u k laid n l wires-all)
 
-    pub wires-step : (v : List ℕ) (m : ℕ) → Written u k (wiresGiven (recordAt s) n p) v m → Laid (wiresGiven (recordAt s) n) (p + 1) t v m
+    pub wires-step : (v : List ℕ) (m : ℕ) → Written u k (wiresGiven (recordAt s) n p) v m
+        → Laid (wiresGiven (recordAt s) n) (p + 1) t v m
     wires-step v m w = laid-step _ t p u k laid (wiresGiven (recordAt s) n p) v m refl (w .table) (w .place)
 
-    pub wires-end : p ≡ n → (u ≡ overlay (joined wireWords (flatWires (recordAt s) n)) t) × (k ≡ 4 * length (flatWires (recordAt s) n))
+    pub wires-end : p ≡ n
+        → (u ≡ overlay (joined wireWords (flatWires (recordAt s) n)) t) × (k ≡ 4 * length (flatWires (recordAt s) n))
     wires-end e = (
       laid-end _ t p u k laid n e wires-all ∙ ap (λ (l : List ℕ). overlay l t) (sym (wires-joined (recordAt s) n)),
       laid-count _ t p u k laid n e ∙ wires-length (recordAt s) n,

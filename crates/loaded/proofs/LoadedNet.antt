@@ -21,9 +21,11 @@ use Rattle.component.specs.declared.Record.{Record}
 use Rattle.component.specs.Record.{fieldsOf, inputsOf, isPrimitive}
 use Rattle.flatten.specs.Descent.{flat}
 use Rattle.leads.proofs.Accepted.{Passed}
-use Rattle.leads.proofs.Primitives.{primitive-obeyed, flat-below, flat-inj, primitivesBefore-sound, primitivesBefore-distinct, primitives-bound, inputs-bound, outputs-bound}
+use Rattle.leads.proofs.Primitives.{primitive-obeyed, flat-below, flat-inj, primitivesBefore-sound}
+use Rattle.leads.proofs.Primitives.{primitivesBefore-distinct, primitives-bound, inputs-bound, outputs-bound}
 use Rattle.leads.proofs.FlatWires.{flatWires-bound}
-use Rattle.tables.specs.Tables.{Tables, fieldsAt, firstOutput, inputsAt, outputsAt, currentList, followingList, standingList}
+use Rattle.tables.specs.Tables.{Tables, fieldsAt, firstOutput, inputsAt, outputsAt, currentList, followingList}
+use Rattle.tables.specs.Tables.{standingList}
 use Rattle.load.specs.Load.{primitives, standingAtLoad, loaded}
 use Rattle.load.proofs.NamesLaws.{standing-bound}
 use Rattle.load.proofs.PortsLaws.{starting-length}
@@ -109,7 +111,8 @@ module _ (at : ℕ → Record) (n : ℕ) (d : Passed at n) (T : Tables) where
   unfolding loaded
   loaded-names-current =
       ap (names L) (loaded-current at n T)
-      ∙ named L (from 0 (flat at n n)) (record { exist = from0-sound (flat at n n); once = distinct-from 0 (flat at n n) })
+      ∙ named L (from 0 (flat at n n))
+      (record { exist = from0-sound (flat at n n); once = distinct-from 0 (flat at n n) })
 
   standing-names : names L (standingAtLoad at n) ≡ true
   unfolding loaded

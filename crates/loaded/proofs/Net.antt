@@ -15,8 +15,10 @@ use Rattle.load.proofs.LoadLaws.{load-passed}
 use Rattle.net.specs.Net.{isNet}
 use Rattle.loaded.proofs.Sizes.{loaded-lengths, fullSize-kept}
 use Rattle.loaded.proofs.Drawn.{loaded-drawn}
-use Rattle.loaded.proofs.DrawnNet.{drawn-kindsObeyed, drawn-idsDistinct, drawn-portsFollow, drawn-wiresFit, drawn-inputsOnce}
-use Rattle.loaded.proofs.LoadedNet.{loaded-countsWithin, loaded-valuesFit, loaded-constsHeld, loaded-names-current, loaded-names-following, loaded-names-standing}
+use Rattle.loaded.proofs.DrawnNet.{drawn-kindsObeyed, drawn-idsDistinct, drawn-portsFollow, drawn-wiresFit}
+use Rattle.loaded.proofs.DrawnNet.{drawn-inputsOnce}
+use Rattle.loaded.proofs.LoadedNet.{loaded-countsWithin, loaded-valuesFit, loaded-constsHeld}
+use Rattle.loaded.proofs.LoadedNet.{loaded-names-current, loaded-names-following, loaded-names-standing}
 use Rattle.loaded.proofs.Bytes.{recordAt-id}
 
 -- The tables that a drawing that passes every check is loaded into are a net, if its ids have 32 bits.
@@ -54,7 +56,8 @@ module _ (file : List ℕ) (T : Tables) (accepted : loadVerdict file T ≡ Accep
   load-fullSize =
       ap fullSize load-loaded
       ∙ fullSize-kept T (loaded (recordAt file) (recordCount file) T)
-      (loaded-lengths (recordAt file) (recordCount file) load-checked T (load-passed file T accepted .full)) (load-passed file T accepted .full)
+      (loaded-lengths (recordAt file) (recordCount file) load-checked T (load-passed file T accepted .full))
+      (load-passed file T accepted .full)
 
   -- and the tables are a net.
   pub load-net : IsBytes file → isNet (loadTables file T) ≡ true

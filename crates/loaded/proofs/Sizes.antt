@@ -58,7 +58,8 @@ module _ (at : ℕ → Record) (n : ℕ) (T : Tables) where
   unfolding loaded
   loaded-standing = overlay-front (standingAtLoad at n) (T .standing)
 
--- What the load of a drawing that passes every check writes has room in tables of full size, so that they keep their lengths.
+-- What the load of a drawing that passes every check writes has room in tables of full size, so that they keep their
+-- lengths.
 module _ (at : ℕ → Record) (n : ℕ) (d : Passed at n) where
   pub loaded-lengths : (T : Tables) → fullSize T ≡ true → SameLengths T (loaded at n T)
   unfolding loaded

@@ -28,7 +28,8 @@ use Rattle.loaded.proofs.Ports.{loaded-input, loaded-outputs}
 use Rattle.loaded.proofs.Sizes.{SameLengths, loaded-current, loaded-following, loaded-standing, loaded-lengths}
 use Rattle.loaded.proofs.Net.{load-checked, load-loaded, load-fullSize, load-net}
 use Rattle.loaded.proofs.SameNet.{SameNet}
-use Rattle.loaded.proofs.Drawn.{IsDrawn, loaded-drawn, drawn-kept, PrimitiveAt, drawn-primitive, drawn-below, leads-wired, wired-leads, wire-drawn}
+use Rattle.loaded.proofs.Drawn.{IsDrawn, loaded-drawn, drawn-kept, PrimitiveAt, drawn-primitive, drawn-below}
+use Rattle.loaded.proofs.Drawn.{leads-wired, wired-leads, wire-drawn}
 
 module _ (file : List ℕ) where
   abbrev at : ℕ → Record

@@ -6,12 +6,6 @@ use Rattle.load.proofs.LoadLaws.{judge-unsized, judge-short, judge-file
 use borrow.Author.Needs.{needs}
 use Rattle.load.proofs.judge_load.Statement.{statement}
 use Rattle.load.proofs.judge_load.Tie as tie
-use Rattle.load.proofs.judge_load.Reads as reads
-use Rattle.load.proofs.judge_load.Lts as lts
-use Rattle.flatten.proofs.is_sized.Reads as is-sized-reads
-use Rattle.flatten.proofs.judge.Reads as judge-reads
-use Rattle.load.proofs.unused.Reads as unused-reads
-use Rattle.tables.proofs.full_size.Reads as full-size-reads
 
 is-sized-requires : tie.Need-is-sized-requires
 is-sized-requires c κs = search needs
@@ -19,7 +13,8 @@ is-sized-requires c κs = search needs
 returns : tie.Need-returns
 returns c =
     let a = c .before .before .before .before .before .before .before .before .before .before .args in
-    judge-unsized (a .file .now) (a .components .now) (a .inputs .now) (a .outputs .now) (a .wires .now) (a .current .now) (a .following .now)
+    judge-unsized (a .file .now) (a .components .now) (a .inputs .now) (a .outputs .now) (a .wires .now)
+    (a .current .now) (a .following .now)
     (a .standing .now) (sym (c .before .is-sized .ensures) ∙ not-true _ (c .if1 .taken))
 
 unused-requires : tie.Need-unused-requires
@@ -32,7 +27,8 @@ returns-2 : tie.Need-returns-2
 returns-2 c =
     let d = c .before .before .before in
     let a = d .before .before .before .before .before .before .before .before .before .before .args in
-    judge-short (a .file .now) (a .components .now) (a .inputs .now) (a .outputs .now) (a .wires .now) (a .current .now) (a .following .now)
+    judge-short (a .file .now) (a .components .now) (a .inputs .now) (a .outputs .now) (a .wires .now) (a .current .now)
+    (a .following .now)
     (a .standing .now) (sym (d .before .is-sized .ensures) ∙ not-false _ (d .if1 .left)) _
     (sym (c .before .full-size .ensures) ∙ not-true _ (c .if2 .taken))
 
@@ -43,7 +39,8 @@ returns-3 : tie.Need-returns-3
 returns-3 c =
     let d = c .before .before .before .before in
     let a = d .before .before .before .before .before .before .before .before .before .before .args in
-    judge-file (a .file .now) (a .components .now) (a .inputs .now) (a .outputs .now) (a .wires .now) (a .current .now) (a .following .now)
+    judge-file (a .file .now) (a .components .now) (a .inputs .now) (a .outputs .now) (a .wires .now) (a .current .now)
+    (a .following .now)
     (a .standing .now) (sym (d .before .is-sized .ensures) ∙ not-false _ (d .if1 .left)) _
     (sym (c .before .before .full-size .ensures) ∙ not-false _ (c .before .if2 .left)) _ (c .judge .ensures)
 

@@ -4,10 +4,6 @@ use Rattle.load.proofs.LoadLaws.{load-refused, load-ready, load-done}
 use borrow.Author.Needs.{needs}
 use Rattle.load.proofs.load.Statement.{statement}
 use Rattle.load.proofs.load.Tie as tie
-use Rattle.load.proofs.load.Reads as reads
-use Rattle.load.proofs.load.Lts as lts
-use Rattle.load.proofs.fill.Reads as fill-reads
-use Rattle.load.proofs.judge_load.Reads as judge-load-reads
 
 judge-load-requires : tie.Need-judge-load-requires
 judge-load-requires c κs = search needs
@@ -44,10 +40,12 @@ enum-told c = search needs
 
 fill-requires : tie.Need-fill-requires
 fill-requires c κs =
-    let j = c .before .before .before .before .before .before .before .before .before in
-    let a = j .before .before .before .before .before .before .before .before .before .before .before .before .before .before .before .before .args in
-    load-ready (a .file .now) (a .components .now) (a .inputs .now) (a .outputs .now) (a .wires .now) (a .current .now) (a .following .now)
-    (a .standing .now) _ (j .judge-load .ensures) (c .before .before .before .before .before .before .before .enum-told .given .1)
+    let told = c .before .before .before .before .before .before .before in
+    let j = told .before .before in
+    let d = j .before .before .before .before .before .before .before .before in
+    let a = d .before .before .before .before .before .before .before .before .args in
+    load-ready (a .file .now) (a .components .now) (a .inputs .now) (a .outputs .now) (a .wires .now) (a .current .now)
+    (a .following .now) (a .standing .now) _ (j .judge-load .ensures) (told .enum-told .given .1)
 
 same-length-8 : tie.Need-same-length-8
 same-length-8 c = search needs

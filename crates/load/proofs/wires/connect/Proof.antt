@@ -4,14 +4,6 @@ use Rattle.load.proofs.WiresLaws.{connect-other, source-number, connect
 use borrow.Author.Needs.{needs}
 use Rattle.load.proofs.wires.connect.Statement.{statement}
 use Rattle.load.proofs.wires.connect.Tie as tie
-use Rattle.load.proofs.wires.connect.Reads as reads
-use Rattle.load.proofs.wires.connect.Lts as lts
-use Rattle.component.proofs.child_of.Reads as child-of-reads
-use Rattle.component.proofs.record_at.Reads as record-at-reads
-use Rattle.component.proofs.deepest.Reads as deepest-reads
-use Rattle.flatten.proofs.source_of.Reads as source-of-reads
-use Rattle.load.proofs.wires.flat_pin.Reads as flat-pin-reads
-use Rattle.load.proofs.wires.lead.Reads as lead-reads
 
 record-at-requires : tie.Need-record-at-requires
 record-at-requires c κs = search needs
@@ -39,7 +31,8 @@ flat-pin-requires c κs =
     let r = c .before .before .before .before .before .before in
     let s = r .before .before .before .before .before .before .before .before in (
       s .pre .0 .indexes,
-      source-number (s .args .file .now) (s .args .n) (s .args .p) _ _ _ _ _ _ (r .record-at .ensures) (c .before .before .before .before .owner .given .1)
+      source-number (s .args .file .now) (s .args .n) (s .args .p) _ _ _ _ _ _ (r .record-at .ensures)
+          (c .before .before .before .before .owner .given .1)
           _ _ _ (c .before .deepest .ensures) (c .before .before .child-of .ensures) (c .source-of .ensures)
           _ _ _ _ (s .pre .0) (s .pre .1 .1 .0),
     )
@@ -63,8 +56,10 @@ lead-requires c κs =
       s .pre .0,
       (
         f .flat-pin .ensures .1,
-        connect-room (s .args .file .now) (s .args .n) (s .args .p) _ _ _ _ _ _ (r .record-at .ensures) (f .before .before .before .before .before .owner .given .1)
-            _ _ _ (f .before .before .deepest .ensures) (f .before .before .before .child-of .ensures) (f .before .source-of .ensures)
+        connect-room (s .args .file .now) (s .args .n) (s .args .p) _ _ _ _ _ _ (r .record-at .ensures)
+            (f .before .before .before .before .before .owner .given .1)
+            _ _ _ (f .before .before .deepest .ensures) (f .before .before .before .child-of .ensures)
+            (f .before .source-of .ensures)
             _ _ _ (c .before .deepest2 .ensures) (c .before .before .child-of2 .ensures) (f .flat-pin .ensures .0)
             (s .args .wires .now) (s .args .at) (s .pre .1 .1 .1),
       ),
@@ -78,9 +73,12 @@ returns-2 c =
     let f = c .before .before .before .before .before .before in
     let r = f .before .before .before .before .before .before .before in
     let s = r .before .before .before .before .before .before .before .before in
-    connect-written (s .args .file .now) (s .args .n) (s .args .p) _ _ _ _ _ _ (r .record-at .ensures) (f .before .before .before .before .before .owner .given .1)
-    _ _ _ (f .before .before .deepest .ensures) (f .before .before .before .child-of .ensures) (f .before .source-of .ensures)
-    _ _ _ (c .before .before .before .before .deepest2 .ensures) (c .before .before .before .before .before .child-of2 .ensures) (f .flat-pin .ensures .0)
+    connect-written (s .args .file .now) (s .args .n) (s .args .p) _ _ _ _ _ _ (r .record-at .ensures)
+    (f .before .before .before .before .before .owner .given .1)
+    _ _ _ (f .before .before .deepest .ensures) (f .before .before .before .child-of .ensures)
+    (f .before .source-of .ensures)
+    _ _ _ (c .before .before .before .before .deepest2 .ensures)
+    (c .before .before .before .before .before .child-of2 .ensures) (f .flat-pin .ensures .0)
     _ _ _ _ (c .before .before .lead .ensures)
 
 pub connect-spec : {M : Type 1} → statement M

@@ -2,12 +2,9 @@
 -- Assumes nothing.
 use mathlib.Core.Path.{ap}
 use native.Mathlib.Omega.{arith}
-use Rattle.flatten.specs.declared.Pin.{Pin}
 use borrow.Author.Needs.{needs}
 use Rattle.load.proofs.wires.flat_pin.Statement.{statement}
 use Rattle.load.proofs.wires.flat_pin.Tie as tie
-use Rattle.load.proofs.wires.flat_pin.Reads as reads
-use Rattle.load.proofs.wires.flat_pin.Lts as lts
 
 mul-t6 : tie.Need-mul-t6
 mul-t6 c = search needs

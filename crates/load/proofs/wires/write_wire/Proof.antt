@@ -7,8 +7,6 @@ use Rattle.load.proofs.LayingLaws.{stores-entry}
 use borrow.Author.Needs.{needs}
 use Rattle.load.proofs.wires.write_wire.Statement.{statement}
 use Rattle.load.proofs.wires.write_wire.Tie as tie
-use Rattle.load.proofs.wires.write_wire.Reads as reads
-use Rattle.load.proofs.wires.write_wire.Lts as lts
 
 cast-wires : tie.Need-cast-wires
 cast-wires c = search needs
