@@ -93,7 +93,7 @@ pub fn check5(file: &[u8], n: usize, p: usize) -> bool
 }
 
 // The greatest depth, the root's being 1.
-fn deepest() -> u8
+pub fn deepest() -> u8
     ensures { λ r. ⌜ r ≡ deepest ⌝ }
 {
     16

@@ -17,6 +17,7 @@ pub use checks::check11;
 pub use checks::check12;
 pub use checks::check13;
 pub use checks::check14;
+pub use checks::deepest;
 pub use fields::fields_of;
 pub use fields::from_of;
 pub use fields::is_primitive;

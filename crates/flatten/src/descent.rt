@@ -4,13 +4,14 @@ ghost use mathlib.Core.Path.{_≡_};
 ghost use Rattle.lists.specs.Lists.{any};
 ghost use Rattle.primitive.specs.Kinds.{inputWidth, outputWidth};
 ghost use Rattle.component.specs.Record.{recordAt, fieldsOf};
-ghost use Rattle.component.specs.Drawing.{deepest, child, outMap};
+ghost use Rattle.component.specs.Drawing.{child, outMap};
 ghost use Rattle.component.specs.Index.{IsTable, IsRange};
 ghost use Rattle.flatten.specs.Descent.{source, targets, fails15};
 ghost use Rattle.flatten.specs.Steps.{entered, unlike, IsStretch};
 use crate::Pin;
 use component::Record;
 use component::child_of;
+use component::deepest;
 use component::fields_of;
 use component::from_of;
 use component::is_primitive;
@@ -28,13 +29,6 @@ pub enum Entered {
 pub struct Stretch {
     pub first: usize,
     pub end: usize,
-}
-
-// The greatest depth, the root's being 1.
-pub fn deepest() -> u8
-    ensures { λ r. ⌜ r ≡ deepest ⌝ }
-{
-    16
 }
 
 // The bits of each input of a component; 1 where the record is none.

@@ -121,7 +121,7 @@ fn judge_records(
 }
 
 // Not 1: the file is not empty, a multiple of 24, and of at most 1,024 records.
-fn is_sized(file: &[u8]) -> bool
+pub fn is_sized(file: &[u8]) -> bool
     ensures { λ r. ⌜ r ≡ sized (now (file .entry)) ⌝ }
 {
     let length = file.len();

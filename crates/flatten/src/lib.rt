@@ -4,10 +4,10 @@ mod judgement;
 
 pub use descent::Entered;
 pub use descent::Stretch;
-pub use descent::deepest;
 pub use descent::enter;
 pub use descent::source_of;
 pub use descent::stretch_of;
+pub use judgement::is_sized;
 pub use judgement::judge;
 
 // A port of a component: in a drawing by the component's number, in the tables by its flat index.

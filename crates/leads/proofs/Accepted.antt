@@ -21,7 +21,7 @@ use Rattle.component.specs.Record.{recordAt, recordCount}
 use Rattle.flatten.specs.Verdict.{Check, check, checks, refused, said, judged, sized, verdict}
 
 -- A refusal is no acceptance.
-refused-not : (k p : ℕ) → refused k p ≡ Accepted → ⊥
+pub refused-not : (k p : ℕ) → refused k p ≡ Accepted → ⊥
 refused-not k p e = let z : _≡_ {A = ℕ} 0 1 = cc in omega arith
 
 -- Where the judgement is "accepted", no record fails any of the checks.

@@ -9,7 +9,8 @@ use native.Mathlib.Omega.{arith}
 use lib.ListN.{length, length-map}
 use lib.Dec.{eqb}
 use Rattle.lists.specs.Lists.{from, joined}
-use Rattle.lists.proofs.MembersLaws.{In, Distinct, distinct-bound, from0-complete, from-length, joined-complete, joined-length, map-append, map-complete, map-sound, total-cong}
+use Rattle.lists.proofs.MembersLaws.{In, Distinct, distinct-bound, from0-complete, from-length, joined-complete}
+use Rattle.lists.proofs.MembersLaws.{joined-length, map-append, map-complete, map-sound, total-cong}
 use Rattle.component.specs.declared.Record.{Record}
 use Rattle.component.specs.Record.{formOf, inputsOf}
 use Rattle.component.specs.Drawing.{primitivesBefore, inputsBefore}

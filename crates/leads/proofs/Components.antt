@@ -15,7 +15,8 @@ use lib.ListN.{length, getD}
 use lib.Dec.{eqb, leb}
 use Rattle.lists.specs.Lists.{from, keep}
 use Rattle.lists.proofs.ListsLaws.{and-left, and-right}
-use Rattle.lists.proofs.MembersLaws.{In, or-left-false, or-right-false, or-cases, and-right-false, getD-cases, keep-sound, from-sound, distinct-place, distinct-keep, distinct-from}
+use Rattle.lists.proofs.MembersLaws.{In, or-left-false, or-right-false, or-cases, and-right-false, getD-cases}
+use Rattle.lists.proofs.MembersLaws.{keep-sound, from-sound, distinct-place, distinct-keep, distinct-from}
 use Rattle.primitive.specs.declared.table.Fields.{Fields}
 use Rattle.component.specs.declared.Record.{Record}
 use Rattle.component.specs.declared.Record.the-variants.{Component, Connection, InputMap, OutputMap, Refused}

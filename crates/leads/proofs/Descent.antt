@@ -14,15 +14,18 @@ use lib.ListN.{length}
 use lib.Dec.{eqb}
 use Rattle.lists.specs.Lists.{from, joined}
 use Rattle.lists.proofs.ListsLaws.{and-left, and-right}
-use Rattle.lists.proofs.MembersLaws.{In, in-cond, in-getD, getD-cases, keep-sound, from0-sound, from0-complete, joined-sound, joined-complete}
+use Rattle.lists.proofs.MembersLaws.{In, in-cond, in-getD, getD-cases, keep-sound, from0-sound, from0-complete}
+use Rattle.lists.proofs.MembersLaws.{joined-sound, joined-complete}
 use Rattle.component.specs.declared.Record.{Record}
-use Rattle.component.specs.Record.{formOf, ownerOf, fromOf, outputOf, toOf, inputOf, portOf, outputsOf, composite, isPrimitive}
+use Rattle.component.specs.Record.{formOf, ownerOf, fromOf, outputOf, toOf, inputOf, portOf, outputsOf, composite}
+use Rattle.component.specs.Record.{isPrimitive}
 use Rattle.component.specs.Drawing.{deepest, child, deeper, mapsIn, outMaps, outMap, fromThere}
 use Rattle.flatten.specs.declared.Pin.{Pin}
 use Rattle.flatten.specs.Descent.{pin, source, targets}
 use Rattle.flatten.specs.Leads.{From, starts, through, Into, ends, maps}
 use Rattle.leads.proofs.Accepted.{Passed}
-use Rattle.leads.proofs.Components.{primitive-component, composite-component, output-component, component-deep, component-below, component-composite, owner-composite, child-owner}
+use Rattle.leads.proofs.Components.{primitive-component, composite-component, output-component, component-deep}
+use Rattle.leads.proofs.Components.{component-below, component-composite, owner-composite, child-owner}
 
 module _ (at : ℕ → Record) (n : ℕ) where
   -- What a record that maps input i of composite c is.

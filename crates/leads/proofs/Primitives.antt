@@ -3,7 +3,7 @@
 -- First laws of any drawing, then what the checks add.
 -- Assumes nothing.
 use mathlib.Core.Path.{_≡_, refl, sym, ap, _∙_}
-use mathlib.Core.Bool.{Bool, true, false, cond, not, _||_}
+use mathlib.Core.Bool.{Bool, true, false, cond, not, _&&_, _||_}
 use mathlib.Core.List.{List, [], _∷_, _++_, map, append-nil}
 use Prim.Native.Nat.{ℕ, zero, suc, _+_, _-_, _≤_, _<_}
 use native.Mathlib.Omega.{arith}
@@ -12,8 +12,11 @@ use lib.ListN.{length, getD, take, length-append}
 use lib.Seq.{getD-append-seam, take-append-seam}
 use lib.Dec.{eqb, ltb}
 use Rattle.lists.specs.Lists.{from, keep, any, total}
-use Rattle.lists.proofs.MembersLaws.{In, Distinct, or-left-false, or-right-false, any-none, keep-sound, keep-complete, keep-append, total-append, in-getD, from0-sound, from0-complete, from-append, from-last, from-length, distinct-place, distinct-keep, distinct-from, distinct-map, distinct-bound}
-use Rattle.primitive.specs.Kinds.{obeys}
+use Rattle.lists.proofs.MembersLaws.{In, Distinct, or-left-false, or-right-false, any-none, keep-sound, keep-complete}
+use Rattle.lists.proofs.MembersLaws.{keep-append, total-append, in-getD, from0-sound, from0-complete, from-append}
+use Rattle.lists.proofs.MembersLaws.{from-last, from-length, distinct-place, distinct-keep, distinct-from, distinct-map}
+use Rattle.lists.proofs.MembersLaws.{distinct-bound}
+use Rattle.primitive.specs.Kinds.{primitive, obeys}
 use Rattle.component.specs.declared.Record.{Record}
 use Rattle.component.specs.Record.{formOf, fieldsOf, idOf, inputsOf, outputsOf, isPrimitive}
 use Rattle.component.specs.Drawing.{primitivesBefore, inputsBefore, outputsBefore}
@@ -37,7 +40,7 @@ module _ (at : ℕ → Record) (n : ℕ) where
   primitivesBefore-skip p e = primitivesBefore-on p ∙ rw (e, append-nil)
 
   -- The primitives before a position are the first of those before a later one.
-  primitivesBefore-append : (c k : ℕ)
+  pub primitivesBefore-append : (c k : ℕ)
       → primitivesBefore at n (c + k) ≡ primitivesBefore at n c ++ keep (λ q. isPrimitive (at q)) (from c k)
   primitivesBefore-append c k =
       let b : 0 + c ≡ c = omega arith in
@@ -169,6 +172,11 @@ module _ (at : ℕ → Record) (n : ℕ) (d : Passed at n) where
 
   pub primitive-obeys : (c : ℕ) → isPrimitive (at c) ≡ true → obeys (fieldsOf (at c)) ≡ true
   primitive-obeys c e = component-obeys c (primitive-component (at c) e)
+
+  -- The same, as an evaluation asks it.
+  pub primitive-obeyed : (c : ℕ) → isPrimitive (at c) ≡ true
+      → (primitive (fieldsOf (at c)) && obeys (fieldsOf (at c))) ≡ true
+  primitive-obeyed c e = rw e (primitive-obeys c e)
 
   id-earlier : (b c : ℕ) → b < c → formOf (at c) ≡ 1 → idOf (at b) ≡ idOf (at c) → ⊥
   id-earlier b c h e s =

@@ -23,7 +23,8 @@ use Rattle.leads.proofs.Wires.{wire, wires-lead, leads-wires}
 use Rattle.leads.proofs.Ends.{IsOutput, IsInput, wires-leave, wires-enter, wires-width}
 use Rattle.leads.proofs.Bound.{entered, wires-distinct, wires-bound}
 use Rattle.leads.proofs.FlatWires.{flatWires-lead, leads-flatWires, flatWires-distinct, flatWires-bound}
-use Rattle.leads.proofs.Primitives.{flat-below, flat-inj, primitives-bound, inputs-bound, outputs-bound, primitive-obeys, ids-distinct}
+use Rattle.leads.proofs.Primitives.{flat-below, flat-inj, primitives-bound, inputs-bound, outputs-bound}
+use Rattle.leads.proofs.Primitives.{primitive-obeys, ids-distinct}
 
 module _ (file : List ℕ) where
   abbrev at : ℕ → Record

@@ -9,7 +9,8 @@ use borrow.Author.Tests.{eqb-true, ltb-true, not-false}
 use lib.Dec.{eqb}
 use Rattle.lists.specs.Lists.{from}
 use Rattle.lists.proofs.ListsLaws.{and-left, and-right}
-use Rattle.lists.proofs.MembersLaws.{In, in-cond, from0-sound, from0-complete, joined-sound, joined-complete, map-sound, map-complete}
+use Rattle.lists.proofs.MembersLaws.{In, in-cond, from0-sound, from0-complete, joined-sound, joined-complete, map-sound}
+use Rattle.lists.proofs.MembersLaws.{map-complete}
 use Rattle.component.specs.declared.Record.{Record}
 use Rattle.component.specs.Record.{formOf, ownerOf, fromOf, outputOf, toOf, inputOf, inputsOf, outputsOf}
 use Rattle.component.specs.Drawing.{deepest, child, fromThere, toThere}

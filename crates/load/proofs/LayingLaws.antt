@@ -2,14 +2,14 @@
 --   sets: words written behind words, and from the front of a table
 --   stores: the words of one entry, by their offsets
 --   joined: what the records give, one after the other, one record more
---   Laid g p t u k    u is the table t with what the records before p give at its front, g q being what record q gives; k is the
---                     place behind it
+--   Laid g p t u k    u is the table t with what the records before p give at its front, g q being what record q
+--                     gives; k is the place behind it
 -- Not here: laws of overlay and of entries of one width (OverlayLaws).
 -- Assumes nothing.
 use mathlib.Core.Path.{_≡_, refl, sym, ap, _∙_}
 use mathlib.Core.Bool.{Bool, true, false, cond}
 use mathlib.Core.List.{List, [], _∷_, _++_, append-nil}
-use Prim.Native.Nat.{ℕ, zero, suc, _+_, _-_, _≤_, _<_}
+use Prim.Native.Nat.{ℕ, suc, _+_, _-_, _≤_, _<_}
 use native.Mathlib.Nat.{zero-add}
 use native.Mathlib.Numerals.{add-one}
 use native.Mathlib.Omega.{arith}
@@ -18,7 +18,6 @@ use lib.Seq.{sets, sets-eq, length-sets}
 use Rattle.lists.specs.Lists.{from, keep, joined, overlay}
 use Rattle.lists.proofs.MembersLaws.{from-last, from-append, from-length}
 use Rattle.lists.proofs.OverlayLaws.{joined-append}
-use Rattle.load.specs.Laying.{Written}
 
 -- Words written behind words.
 pub sets-append : (t : List ℕ) (k : ℕ) (xs ys : List ℕ) → sets t k (xs ++ ys) ≡ sets (sets t k xs) (k + length xs) ys
@@ -28,11 +27,13 @@ sets-append t k (x ∷ xs) ys =
     sets-append (set t k x) (suc k) xs ys ∙ ap (λ (j : ℕ). sets (sets (set t k x) (suc k) xs) j ys) e
 
 -- One word more.
-pub sets-next : (t : List ℕ) (k : ℕ) (xs : List ℕ) (x : ℕ) → set (sets t k xs) (k + length xs) x ≡ sets t k (xs ++ (x ∷ []))
+pub sets-next : (t : List ℕ) (k : ℕ) (xs : List ℕ) (x : ℕ)
+    → set (sets t k xs) (k + length xs) x ≡ sets t k (xs ++ (x ∷ []))
 sets-next t k xs x = sym (sets-append t k xs (x ∷ []))
 
 -- One zero more.
-pub zeros-step : (t u : List ℕ) (k i : ℕ) → u ≡ sets t k (replicate i 0) → set u (k + i) 0 ≡ sets t k (replicate (i + 1) 0)
+pub zeros-step : (t u : List ℕ) (k i : ℕ) → u ≡ sets t k (replicate i 0)
+    → set u (k + i) 0 ≡ sets t k (replicate (i + 1) 0)
 zeros-step t u k i e =
     let many : k + i ≡ k + length (replicate {A = ℕ} i 0) = omega (arith, length-replicate {A = ℕ} i 0) in
     ap (λ (l : List ℕ). set l (k + i) 0) e ∙ ap (λ (j : ℕ). set (sets t k (replicate i 0)) j 0) many
@@ -70,7 +71,8 @@ stores-entry t k x xs = stores-sets (set t k x) k 1 xs ∙ ap (λ (i : ℕ). set
 module _ (g : ℕ → List ℕ) where
   pub joined-snoc : (p : ℕ) → joined g (from 0 (p + 1)) ≡ joined g (from 0 p) ++ g p
   joined-snoc p =
-      ap (λ (k : ℕ). joined g (from 0 k)) (add-one p) ∙ ap (joined g) (from-last p) ∙ joined-append g (from 0 p) (p ∷ [])
+      ap (λ (k : ℕ). joined g (from 0 k)) (add-one p) ∙ ap (joined g) (from-last p)
+      ∙ joined-append g (from 0 p) (p ∷ [])
       ∙ ap (λ (l : List ℕ). joined g (from 0 p) ++ l) (append-nil (g p))
 
   pub joined-prefix : (p m : ℕ) → p ≤ m → length (joined g (from 0 p)) ≤ length (joined g (from 0 m))
@@ -82,7 +84,8 @@ module _ (g : ℕ → List ℕ) where
       omega (arith, simp length-append at (ap (λ (l : List ℕ). length l) d))
 
 -- What those that pass a test give is what each gives under the test.
-pub joined-keep : {A B : Type 0} (T : A → Bool) (f g : A → List B) → ((a : A) → cond (T a) (f a) [] ≡ g a) → (xs : List A)
+pub joined-keep : {A B : Type 0} (T : A → Bool) (f g : A → List B) → ((a : A) → cond (T a) (f a) [] ≡ g a)
+    → (xs : List A)
     → joined f (keep T xs) ≡ joined g xs
 joined-keep T f g e [] = refl
 joined-keep {B = B} T f g e (x ∷ xs) =
@@ -112,11 +115,19 @@ module _ (g : ℕ → List ℕ) (t : List ℕ) where
         let kz : k ≡ 0 + length (joined g (from 0 p)) = omega (arith, h .place) in
         record {
           table =
-              d ∙ ap (λ (l : List ℕ). sets l k xs) (h .table) ∙ ap (λ (j : ℕ). sets (sets t 0 (joined g (from 0 p))) j xs) kz
+              d ∙ ap (λ (l : List ℕ). sets l k xs) (h .table)
+              ∙ ap (λ (j : ℕ). sets (sets t 0 (joined g (from 0 p))) j xs) kz
               ∙ sym (sets-append t 0 (joined g (from 0 p)) xs)
               ∙ ap (λ (l : List ℕ). sets t 0 (joined g (from 0 p) ++ l)) e ∙ ap (sets t 0) (sym one);
           place =
-              omega (arith, f, h .place, ap (λ (l : List ℕ). length l) e, ap (λ (l : List ℕ). length l) one, length-append (joined g (from 0 p)) (g p));
+              omega (
+                arith,
+                f,
+                h .place,
+                ap (λ (l : List ℕ). length l) e,
+                ap (λ (l : List ℕ). length l) one,
+                length-append (joined g (from 0 p)) (g p),
+              );
         }
 
     -- There is room for what record p gives, if there is for what all of n records give.

@@ -1,7 +1,8 @@
--- Laws of a whole load: the tables that the passes leave are those of the definition, and each way out of a load is one of its cases.
+-- Laws of a whole load: the tables that the passes leave are those of the definition, and each way out of the judgement
+-- and of the load is one of its cases.
 -- Assumes nothing.
 use mathlib.Core.Path.{_≡_, refl, sym, ap, _∙_}
-use mathlib.Core.Bool.{Bool, true, false}
+use mathlib.Core.Bool.{Bool, true, false, cond}
 use mathlib.Core.List.{List}
 use Prim.Native.Nat.{ℕ, _+_, _≤_}
 use native.Mathlib.Omega.{arith}
@@ -10,26 +11,29 @@ use lib.Seq.{sets}
 use Rattle.lists.specs.Lists.{from, joined, overlay}
 use Rattle.lists.proofs.MembersLaws.{from-length}
 use Rattle.primitive.specs.declared.answers.Refusal.{Refusal}
-use Rattle.component.specs.declared.Record.{Record}
 use Rattle.component.specs.declared.Verdict.{Verdict}
 use Rattle.component.specs.declared.Verdict.the-variants.{Accepted, Refused}
 use Rattle.component.specs.Record.{recordAt, recordCount}
 use Rattle.flatten.specs.Descent.{flatWires}
-use Rattle.flatten.specs.Verdict.{sized, verdict}
+use Rattle.flatten.specs.Verdict.{sized, refused, verdict}
+use Rattle.leads.proofs.Accepted.{refused-not, accepted-passed}
 use Rattle.leads.proofs.Theorems.{accepted-primitives-bound, accepted-inputs-bound}
 use Rattle.tables.specs.declared.Answer.the-variants.{Done, Refused as Declined}
 use Rattle.tables.specs.declared.Counts.{Counts}
 use Rattle.tables.specs.Tables.{Tables, tablesOf, fullSize}
+use Rattle.tables.proofs.SizesLaws.{fullSize-sound}
 use Rattle.tables.proofs.NamedLaws.{overlay-list, overlay-count}
 use Rattle.load.specs.declared.rows.Before.{Before}
-use Rattle.load.specs.Load.{wireWords, primitives, componentWords, standingAtLoad, loaded, loadVerdict, loadTables, loadAnswer, Loads}
+use Rattle.load.specs.Load.{wireWords, primitives, componentWords, standingAtLoad, loaded, loadVerdict}
+use Rattle.load.specs.Load.{loadTables, loadAnswer, Loads}
 use Rattle.load.specs.Laying.{beforeAt, startingOf}
 use Rattle.load.proofs.LayingLaws.{sets-overlay}
 use Rattle.load.proofs.NamesLaws.{standing-bound}
 
 -- There is room for what the passes write.
 module _ (s : List ℕ) (accepted : verdict s ≡ Accepted) (t : List ℕ) where
-  pub inputs-room : (b : Before) → b ≡ beforeAt (recordAt s) (recordCount s) (recordCount s) → 1024 ≤ length t → 0 + b .inputs ≤ length t
+  pub inputs-room : (b : Before) → b ≡ beforeAt (recordAt s) (recordCount s) (recordCount s) → 1024 ≤ length t
+      → 0 + b .inputs ≤ length t
   inputs-room b e full = omega (arith, ap (λ (x : Before). x .inputs) e, accepted-inputs-bound s accepted)
 
   pub current-room : (b : Before) → b ≡ beforeAt (recordAt s) (recordCount s) (recordCount s) → 256 ≤ length t
@@ -43,12 +47,14 @@ module _ (s : List ℕ) (accepted : verdict s ≡ Accepted) (t : List ℕ) where
       → k ≡ length (standingAtLoad (recordAt s) (recordCount s)) → 256 ≤ length t → (k ≤ length v) × (k ≤ length t)
   copy-room u v k e d full =
       let long = overlay-count (standingAtLoad (recordAt s) (recordCount s)) u k d in
-      (rw e long, omega (arith, standing-bound s accepted))
+      (rw e long, omega (arith, standing-bound (recordAt s) (recordCount s) (accepted-passed s accepted)))
 
 -- What the passes leave of the tables T, whose inputs and current list are of full size, for an accepted file.
-module _ (s : List ℕ) (accepted : verdict s ≡ Accepted) (T : Tables) (is : 1024 ≤ length (T .inputs)) (cur : 256 ≤ length (T .current))
+module _ (s : List ℕ) (accepted : verdict s ≡ Accepted) (T : Tables) (is : 1024 ≤ length (T .inputs))
+    (cur : 256 ≤ length (T .current))
     (b : Before) (eb : b ≡ beforeAt (recordAt s) (recordCount s) (recordCount s)) where
-  filled-inputs : (u : List ℕ) → u ≡ sets (T .inputs) 0 (replicate (b .inputs) 0) → u ≡ loaded (recordAt s) (recordCount s) T .inputs
+  filled-inputs : (u : List ℕ) → u ≡ sets (T .inputs) 0 (replicate (b .inputs) 0)
+      → u ≡ loaded (recordAt s) (recordCount s) T .inputs
   unfolding loaded
   filled-inputs u e =
       let few = accepted-inputs-bound s accepted in
@@ -56,7 +62,8 @@ module _ (s : List ℕ) (accepted : verdict s ≡ Accepted) (T : Tables) (is : 1
       e ∙ sets-overlay (replicate (b .inputs) 0) (T .inputs) (omega (arith, ap (λ (x : Before). x .inputs) eb))
       ∙ ap (λ (x : Before). overlay (replicate (x .inputs) 0) (T .inputs)) eb
 
-  filled-current : (u : List ℕ) → u ≡ sets (T .current) 0 (from 0 (b .components)) → u ≡ loaded (recordAt s) (recordCount s) T .current
+  filled-current : (u : List ℕ) → u ≡ sets (T .current) 0 (from 0 (b .components))
+      → u ≡ loaded (recordAt s) (recordCount s) T .current
   unfolding loaded
   filled-current u e =
       let few = accepted-primitives-bound s accepted in
@@ -65,7 +72,8 @@ module _ (s : List ℕ) (accepted : verdict s ≡ Accepted) (T : Tables) (is : 1
       ∙ ap (λ (x : Before). overlay (from 0 (x .components)) (T .current)) eb
 
   pub filled : (cs ins os ws cs' fs ss : List ℕ) (w k : ℕ)
-      → cs ≡ overlay (joined (componentWords (recordAt s) (recordCount s)) (primitives (recordAt s) (recordCount s))) (T .components)
+      → cs ≡ overlay (joined (componentWords (recordAt s) (recordCount s)) (primitives (recordAt s) (recordCount s)))
+      (T .components)
       → ins ≡ sets (T .inputs) 0 (replicate (b .inputs) 0)
       → os ≡ overlay (joined (startingOf (recordAt s)) (primitives (recordAt s) (recordCount s))) (T .outputs)
       → ws ≡ overlay (joined wireWords (flatWires (recordAt s) (recordCount s))) (T .wires)
@@ -74,7 +82,16 @@ module _ (s : List ℕ) (accepted : verdict s ≡ Accepted) (T : Tables) (is : 1
       → ss ≡ overlay (standingAtLoad (recordAt s) (recordCount s)) (T .standing)
       → k ≡ length (standingAtLoad (recordAt s) (recordCount s))
       → fs ≡ overlay (take k ss) (T .following)
-      → tablesOf cs ins os ws cs' fs ss (record { components = b .components; inputs = b .inputs; outputs = b .outputs; wires = w; current = b .components; following = k; standing = k })
+      → tablesOf cs ins os ws cs' fs ss
+      (record {
+        components = b .components;
+        inputs = b .inputs;
+        outputs = b .outputs;
+        wires = w;
+        current = b .components;
+        following = k;
+        standing = k;
+      })
       ≡ loaded (recordAt s) (recordCount s) T
   unfolding loaded
   filled cs ins os ws cs' fs ss w k ecs eins eos ews ew ecur ess ek efs =
@@ -93,33 +110,62 @@ module _ (s : List ℕ) (accepted : verdict s ≡ Accepted) (T : Tables) (is : 1
         standing = ek j;
       })
 
--- The ways out of a load.
+-- What an accepted load has passed: check 2, and the judgement of the file.
+pub record IsLoad (file : List ℕ) (T : Tables) : Type 0 where
+  pub full : fullSize T ≡ true
+  pub judged : verdict file ≡ Accepted
+
+pub load-passed : (file : List ℕ) (T : Tables) → loadVerdict file T ≡ Accepted → IsLoad file T
+unfolding loadVerdict
+load-passed file T accepted = by-size (sized file) (fullSize T) refl accepted
+  where
+    by-size : (b c : Bool) → fullSize T ≡ c → cond b (cond c (verdict file) (refused 2 0)) (refused 1 0) ≡ Accepted
+        → IsLoad file T
+    by-size true true s e = record { full = s; judged = e }
+    by-size true false s e = absurd (refused-not 2 0 e)
+    by-size false c s e = absurd (refused-not 1 0 e)
+
 module _ (s cs is os ws cur fol std : List ℕ) where
   abbrev lent : Counts → Tables
   lent = tablesOf cs is os ws cur fol std
 
-  -- 1
-  pub load-unsized : sized s ≡ false → Loads s lent lent (Declined (record { number = 1; position = 0 }))
-  unfolding loadAnswer loadTables loadVerdict
-  load-unsized e m = rw e (refl, refl)
+  -- The ways out of the judgement, whatever the counts: 1; 2; and 0 or 3 to 15.
+  pub judge-unsized : sized s ≡ false → (m : Counts) → refused 1 0 ≡ loadVerdict s (lent m)
+  unfolding loadVerdict
+  judge-unsized e m = rw e
 
   module _ (sz : sized s ≡ true) (k : Counts) where
-    -- 2
-    pub load-short : fullSize (lent k) ≡ false → Loads s lent lent (Declined (record { number = 2; position = 0 }))
-    unfolding loadAnswer loadTables loadVerdict fullSize
-    load-short e m = rw (sz, e) (refl, refl)
+    pub judge-short : fullSize (lent k) ≡ false → (m : Counts) → refused 2 0 ≡ loadVerdict s (lent m)
+    unfolding loadVerdict fullSize
+    judge-short e m = rw (sz, e)
 
-    module _ (full : fullSize (lent k) ≡ true) where
-      -- 3 to 15
-      pub load-refused : (r : Refusal) → verdict s ≡ Refused r → Loads s lent lent (Declined r)
-      unfolding loadAnswer loadTables loadVerdict fullSize
-      load-refused r e m = rw (sz, full, e) (refl, refl)
+    pub judge-file : fullSize (lent k) ≡ true → (v : Verdict) → v ≡ verdict s → (m : Counts)
+        → v ≡ loadVerdict s (lent m)
+    unfolding loadVerdict fullSize
+    judge-file full v e m = rw (sz, full, e)
 
-      -- 0
-      pub load-done : (cs' is' os' ws' cur' fol' std' : List ℕ) (c : Counts) → verdict s ≡ Accepted
+  -- The ways out of a load whose verdict is v.
+  module _ (v : Verdict) (h : (m : Counts) → v ≡ loadVerdict s (lent m)) where
+    pub load-refused : (r : Refusal) → v ≡ Refused r → Loads s lent lent (Declined r)
+    unfolding loadAnswer loadTables
+    load-refused r e m = rw (sym (h m) ∙ e) (refl, refl)
+
+    module _ (e : v ≡ Accepted) where
+      -- The file is accepted, and each table is of full size.
+      pub load-ready : (verdict s ≡ Accepted) × (2048 ≤ length cs) × (1024 ≤ length is) × (1024 ≤ length os)
+          × (4096 ≤ length ws)
+          × (256 ≤ length cur) × (256 ≤ length fol) × (256 ≤ length std)
+      load-ready =
+          let none : Counts =
+          record { components = 0; inputs = 0; outputs = 0; wires = 0; current = 0; following = 0; standing = 0 } in
+          let p = load-passed s (lent none) (sym (h none) ∙ e) in
+          let f = fullSize-sound (lent none) (p .full) in
+          (p .judged, f .components, f .inputs, f .outputs, f .wires, f .current, f .following, f .standing)
+
+      pub load-done : (cs' is' os' ws' cur' fol' std' : List ℕ) (c : Counts)
           → tablesOf cs' is' os' ws' cur' fol' std' c ≡ loaded (recordAt s) (recordCount s) (lent c)
           → Loads s lent (tablesOf cs' is' os' ws' cur' fol' std') (Done c)
-      unfolding loadAnswer loadTables loadVerdict fullSize loaded
-      load-done cs' is' os' ws' cur' fol' std' c e h m =
-          let counts = ap (λ (T : Tables). T .counts) h in
-          rw (sz, full, e) (ap Done counts, ap (tablesOf cs' is' os' ws' cur' fol' std') (sym counts) ∙ h)
+      unfolding loadAnswer loadTables loaded
+      load-done cs' is' os' ws' cur' fol' std' c d m =
+          let counts = ap (λ (T : Tables). T .counts) d in
+          rw (sym (h m) ∙ e) (ap Done counts, ap (tablesOf cs' is' os' ws' cur' fol' std') (sym counts) ∙ d)

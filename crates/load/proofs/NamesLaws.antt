@@ -22,18 +22,20 @@ use Rattle.component.specs.Record.{recordAt, recordCount, fieldsOf, isPrimitive
 use Rattle.component.specs.Drawing.{primitivesBefore}
 use Rattle.flatten.specs.Descent.{flat}
 use Rattle.flatten.specs.Verdict.{verdict}
-use Rattle.leads.proofs.Primitives.{primitivesBefore-step, primitivesBefore-skip}
+use Rattle.leads.proofs.Accepted.{Passed, accepted-passed}
+use Rattle.leads.proofs.Primitives.{primitivesBefore-step, primitivesBefore-skip, primitives-bound}
 use Rattle.leads.proofs.Theorems.{accepted-primitives-bound}
 use Rattle.load.specs.declared.names.Stood.{Stood}
 use Rattle.load.specs.declared.rows.Drawn.{Drawn}
 use Rattle.load.specs.declared.rows.Drawn.the-variants.{Primitive, Other}
 use Rattle.load.specs.Load.{primitives, standingAtLoad}
-use Rattle.load.specs.Laying.{seenIf, seen, standingIf, standingBy, stoodBy, standingAt, IsFlat}
+use Rattle.load.specs.Laying.{seenIf, seen, standingIf, standingBy, stoodBy, standingAt}
 use Rattle.load.proofs.LayingLaws.{joined-keep, Laid, laid-room, laid-step, laid-end, laid-count}
 use Rattle.load.proofs.RowsLaws.{primitivesBefore-few}
 
 -- Laying one record into the standing list: a primitive that does not stand; one that does.
-module _ (id : Id) (f : Fields) (s : Stood) (drawn : Drawn) (e : drawn ≡ Primitive id f) (b : Bool) (h : b ≡ (is Const f || is Clock f))
+module _ (id : Id) (f : Fields) (s : Stood) (drawn : Drawn) (e : drawn ≡ Primitive id f) (b : Bool)
+    (h : b ≡ (is Const f || is Clock f))
     (t : List ℕ) where
   pub stand-not : not b ≡ true → (t ≡ sets t (s .count) (standingBy drawn (s .components)))
       × (record { components = s .components + 1; count = s .count } ≡ stoodBy drawn s)
@@ -45,12 +47,14 @@ module _ (id : Id) (f : Fields) (s : Stood) (drawn : Drawn) (e : drawn ≡ Primi
       let one : s .count + 1 ≤ length t = rw (e, z) at room in
       omega arith
 
-  pub stand-laid : not b ≡ false → (set t (s .count) (s .components) ≡ sets t (s .count) (standingBy drawn (s .components)))
+  pub stand-laid : not b ≡ false
+      → (set t (s .count) (s .components) ≡ sets t (s .count) (standingBy drawn (s .components)))
       × (record { components = s .components + 1; count = s .count + 1 } ≡ stoodBy drawn s)
   stand-laid k = let z : (is Const f || is Clock f) ≡ true = sym h ∙ not-false b k in rw (e, z) (refl, refl)
 
 -- How many more the standing list names after a record.
-stood-count : (drawn : Drawn) (s : Stood) → stoodBy drawn s .count ≡ s .count + length (standingBy drawn (s .components))
+stood-count : (drawn : Drawn) (s : Stood)
+    → stoodBy drawn s .count ≡ s .count + length (standingBy drawn (s .components))
 stood-count (Primitive d f) s = by-test (is Const f || is Clock f)
   where
     by-test : (b : Bool) → cond b (s .count + 1) (s .count) ≡ s .count + length (standingIf b (s .components))
@@ -78,7 +82,8 @@ module _ (at : ℕ → Record) (n : ℕ) where
       omega arith
 
   pub flat-same : (c x : ℕ) → isPrimitive (at c) ≡ false → x ≡ flat at n c → x ≡ flat at n (c + 1)
-  flat-same c x e h = h ∙ ap (λ (l : List ℕ). length l) (sym (primitivesBefore-skip at n c e)) ∙ ap (flat at n) (sym (add-one c))
+  flat-same c x e h =
+      h ∙ ap (λ (l : List ℕ). length l) (sym (primitivesBefore-skip at n c e)) ∙ ap (flat at n) (sym (add-one c))
 
   -- It is at most c.
   pub flat-few : (c : ℕ) → flat at n c ≤ c
@@ -97,36 +102,45 @@ module _ (at : ℕ → Record) (n : ℕ) where
   pub standing-joined : standingAtLoad at n ≡ joined (standingAt at n) (from 0 n)
   standing-joined =
       map-keep test (flat at n) (primitives at n)
-      ∙ joined-keep (λ q. isPrimitive (at q)) (λ q. standingIf (test q) (flat at n q)) (standingAt at n) (λ q. by-kind q (isPrimitive (at q))) (from 0 n)
+      ∙ joined-keep (λ q. isPrimitive (at q)) (λ q. standingIf (test q) (flat at n q)) (standingAt at n)
+      (λ q. by-kind q (isPrimitive (at q))) (from 0 n)
     where
       test : ℕ → Bool
       test q = is Const (fieldsOf (at q)) || is Clock (fieldsOf (at q))
 
-      by-kind : (q : ℕ) (b : Bool) → cond b (standingIf (test q) (flat at n q)) [] ≡ standingBy (seenIf b (at q)) (flat at n q)
+      by-kind : (q : ℕ) (b : Bool)
+          → cond b (standingIf (test q) (flat at n q)) [] ≡ standingBy (seenIf b (at q)) (flat at n q)
       by-kind q true = refl
       by-kind q false = refl
 
+-- The standing list of a drawing that passes every check names at most 256 components.
+pub standing-bound : (at : ℕ → Record) (n : ℕ) → Passed at n → length (standingAtLoad at n) ≤ 256
+standing-bound at n d =
+    let test : ℕ → Bool = λ x. is Const (fieldsOf (at x)) || is Clock (fieldsOf (at x)) in
+    let all = primitives at n in
+    omega (arith, length-map (keep test all) (flat at n), keep-length test all, primitives-bound at n d)
+
 -- Laying the standing list of an accepted file, in a table t of full size.
 module _ (s : List ℕ) (accepted : verdict s ≡ Accepted) where
-  -- It names at most 256 components.
-  pub standing-bound : length (standingAtLoad (recordAt s) (recordCount s)) ≤ 256
-  standing-bound =
-      let test : ℕ → Bool = λ x. is Const (fieldsOf (recordAt s x)) || is Clock (fieldsOf (recordAt s x)) in
-      let all = primitives (recordAt s) (recordCount s) in
-      omega (arith, length-map (keep test all) (flat (recordAt s) (recordCount s)), keep-length test all, accepted-primitives-bound s accepted)
-
   module _ (t : List ℕ) (full : 256 ≤ length t) where
     standing-all : length (joined (standingAt (recordAt s) (recordCount s)) (from 0 (recordCount s))) ≤ length t
-    standing-all = omega (arith, standing-bound, ap (λ (l : List ℕ). length l) (standing-joined (recordAt s) (recordCount s)))
+    standing-all =
+        omega (
+          arith,
+          standing-bound (recordAt s) (recordCount s) (accepted-passed s accepted),
+          ap (λ (l : List ℕ). length l) (standing-joined (recordAt s) (recordCount s)),
+        )
 
     module _ (p : ℕ) (u : List ℕ) (k : Stood) (ek : k .components ≡ flat (recordAt s) (recordCount s) p)
         (laid : Laid (standingAt (recordAt s) (recordCount s)) p t u (k .count)) where
       pub standing-end : p ≡ recordCount s
-          → (u ≡ overlay (standingAtLoad (recordAt s) (recordCount s)) t) × (k .count ≡ length (standingAtLoad (recordAt s) (recordCount s)))
+          → (u ≡ overlay (standingAtLoad (recordAt s) (recordCount s)) t)
+          × (k .count ≡ length (standingAtLoad (recordAt s) (recordCount s)))
       standing-end e = (
         laid-end _ t p u _ laid (recordCount s) e standing-all
             ∙ ap (λ (l : List ℕ). overlay l t) (sym (standing-joined (recordAt s) (recordCount s))),
-        laid-count _ t p u _ laid (recordCount s) e ∙ ap (λ (l : List ℕ). length l) (sym (standing-joined (recordAt s) (recordCount s))),
+        laid-count _ t p u _ laid (recordCount s) e
+            ∙ ap (λ (l : List ℕ). length l) (sym (standing-joined (recordAt s) (recordCount s))),
       )
 
       module _ (drawn : Drawn) (ed : drawn ≡ seen (recordAt s p)) where
@@ -136,11 +150,21 @@ module _ (s : List ℕ) (accepted : verdict s ≡ Accepted) where
         pub standing-requires : p < recordCount s
             → (k .count + length (standingBy drawn (k .components)) ≤ length u) × (k .components ≤ 256)
         standing-requires l = (
-          omega (arith, laid-room _ t p u _ laid (recordCount s) l standing-all, ap (λ (x : List ℕ). length x) standing-is),
-          omega (arith, ek, primitivesBefore-few (recordAt s) (recordCount s) p (omega arith), accepted-primitives-bound s accepted),
+          omega (
+            arith,
+            laid-room _ t p u _ laid (recordCount s) l standing-all,
+            ap (λ (x : List ℕ). length x) standing-is,
+          ),
+          omega (
+            arith,
+            ek,
+            primitivesBefore-few (recordAt s) (recordCount s) p (omega arith),
+            accepted-primitives-bound s accepted,
+          ),
         )
 
-        module _ (v : List ℕ) (m : Stood) (ev : v ≡ sets u (k .count) (standingBy drawn (k .components))) (em : m ≡ stoodBy drawn k) where
+        module _ (v : List ℕ) (m : Stood) (ev : v ≡ sets u (k .count) (standingBy drawn (k .components)))
+            (em : m ≡ stoodBy drawn k) where
           pub standing-components : m .components ≡ flat (recordAt s) (recordCount s) (p + 1)
           standing-components =
               ap (λ (x : Stood). x .components) em ∙ ap (λ (x : Drawn). stoodBy x k .components) ed

@@ -8,7 +8,7 @@ use native.Mathlib.Omega.{arith}
 use borrow.Author.Tests.{eqb-true, eq-eqb, ne-eqb}
 use lib.ListN.{length, set, replicate, length-replicate}
 use lib.Seq.{sets}
-use Rattle.lists.specs.Lists.{from, total, joined, overlay}
+use Rattle.lists.specs.Lists.{from, joined, overlay}
 use Rattle.lists.proofs.MembersLaws.{joined-length}
 use Rattle.lists.proofs.OverlayLaws.{total-members}
 use Rattle.primitive.specs.declared.kinds.Kind.the-variants.{Const}
@@ -22,8 +22,9 @@ use Rattle.component.specs.declared.Verdict.the-variants.{Accepted}
 use Rattle.component.specs.Record.{recordAt, recordCount, fieldsOf, outputsOf, isPrimitive}
 use Rattle.component.specs.Drawing.{primitivesBefore, outputsBefore}
 use Rattle.flatten.specs.Verdict.{verdict}
-use Rattle.leads.proofs.Primitives.{primitivesBefore-sound}
-use Rattle.leads.proofs.Theorems.{accepted-outputs-bound, accepted-obeys}
+use Rattle.leads.proofs.Accepted.{Passed, accepted-passed}
+use Rattle.leads.proofs.Primitives.{primitivesBefore-sound, primitive-obeyed}
+use Rattle.leads.proofs.Theorems.{accepted-outputs-bound}
 use Rattle.load.specs.declared.rows.Drawn.{Drawn}
 use Rattle.load.specs.declared.rows.Drawn.the-variants.{Primitive, Other}
 use Rattle.load.specs.Load.{primitives}
@@ -35,7 +36,8 @@ pub outputs-none : (drawn : Drawn) → drawn ≡ Other → (t : List ℕ) (k : �
     → (t ≡ sets t k (outputsBy drawn)) × (k ≡ k + length (outputsBy drawn))
 outputs-none drawn e t k = rw e (refl, omega arith)
 
-module _ (id : Id) (f : Fields) (drawn : Drawn) (e : drawn ≡ Primitive id f) (c : ℕ) (ec : c ≡ numberOf Const) (t : List ℕ) (k : ℕ) where
+module _ (id : Id) (f : Fields) (drawn : Drawn) (e : drawn ≡ Primitive id f) (c : ℕ) (ec : c ≡ numberOf Const)
+    (t : List ℕ) (k : ℕ) where
   pub outputs-const : f .kind ≡ c → outputsBy drawn ≡ f .parameter ∷ []
   outputs-const h = rw (e, eq-eqb (f .kind) 13 (h ∙ ec))
 
@@ -45,19 +47,26 @@ module _ (id : Id) (f : Fields) (drawn : Drawn) (e : drawn ≡ Primitive id f) (
   pub const-room : f .kind ≡ c → k + length (outputsBy drawn) ≤ length t → k < length t
   const-room h room = omega (arith, ap (λ (l : List ℕ). length l) (outputs-const h))
 
-  pub const-laid : f .kind ≡ c → (set t k (f .parameter) ≡ sets t k (outputsBy drawn)) × (k + 1 ≡ k + length (outputsBy drawn))
+  pub const-laid : f .kind ≡ c
+      → (set t k (f .parameter) ≡ sets t k (outputsBy drawn)) × (k + 1 ≡ k + length (outputsBy drawn))
   const-laid h = rw (outputs-const h) (refl, refl)
 
   module _ (h : f .kind ≡ c → ⊥) (x : ℕ) (ex : x ≡ f .outputs) where
     pub zeros-count : k + x ≡ k + length (outputsBy drawn)
-    zeros-count = omega (arith, ap (λ (l : List ℕ). length l) (outputs-zeros h), length-replicate {A = ℕ} (f .outputs) 0)
+    zeros-count =
+        omega (
+          arith,
+          ap (λ (l : List ℕ). length l) (outputs-zeros h),
+          length-replicate {A = ℕ} (f .outputs) 0,
+        )
 
     pub zeros-room : k + length (outputsBy drawn) ≤ length t → k + x ≤ length t
     zeros-room room = omega (arith, zeros-count)
 
     pub zeros-laid : (u : List ℕ) → u ≡ sets t k (replicate x 0)
         → (u ≡ sets t k (outputsBy drawn)) × (k + x ≡ k + length (outputsBy drawn))
-    zeros-laid u d = (d ∙ ap (λ (i : ℕ). sets t k (replicate i 0)) ex ∙ ap (sets t k) (sym (outputs-zeros h)), zeros-count)
+    zeros-laid u d =
+        (d ∙ ap (λ (i : ℕ). sets t k (replicate i 0)) ex ∙ ap (sets t k) (sym (outputs-zeros h)), zeros-count)
 
 -- A component that obeys the table of kinds has as many starting values as outputs.
 pub starting-length : (f : Fields) → (primitive f && obeys f) ≡ true → length (starting f) ≡ f .outputs
@@ -70,33 +79,33 @@ starting-length f o = by-kind (is Const f) refl
     by-kind false e = length-replicate (f .outputs) 0
 
 -- The starting values of the primitives, record by record.
-pub outputs-joined : (at : ℕ → Record) (n p : ℕ) → joined (startingOf at) (primitivesBefore at n p) ≡ joined (outputsAt at) (from 0 p)
-outputs-joined at n p = joined-keep (λ q. isPrimitive (at q)) (startingOf at) (outputsAt at) (λ q. by-kind q (isPrimitive (at q))) (from 0 p)
+pub outputs-joined : (at : ℕ → Record) (n p : ℕ)
+    → joined (startingOf at) (primitivesBefore at n p) ≡ joined (outputsAt at) (from 0 p)
+outputs-joined at n p =
+    joined-keep (λ q. isPrimitive (at q)) (startingOf at) (outputsAt at) (λ q. by-kind q (isPrimitive (at q)))
+    (from 0 p)
   where
     by-kind : (q : ℕ) (b : Bool) → cond b (startingOf at q) [] ≡ outputsBy (seenIf b (at q))
     by-kind q true = refl
     by-kind q false = refl
 
-module _ (s : List ℕ) (accepted : verdict s ≡ Accepted) where
-  -- The starting values of an accepted file's primitives are as many as their outputs.
-  pub starting-before : (p : ℕ)
-      → length (joined (startingOf (recordAt s)) (primitivesBefore (recordAt s) (recordCount s) p)) ≡ outputsBefore (recordAt s) (recordCount s) p
-  starting-before p =
-      joined-length (startingOf (recordAt s)) before
-      ∙ total-members (λ q. length (startingOf (recordAt s) q)) (λ q. outputsOf (recordAt s q)) before
-      (λ q u. let e = primitivesBefore-sound (recordAt s) (recordCount s) q p u .0 in
-      starting-length (fieldsOf (recordAt s q)) (rw e (accepted-obeys s accepted q e)))
-    where
-      before : List ℕ
-      before = primitivesBefore (recordAt s) (recordCount s) p
+-- The starting values of the primitives of a drawing that passes every check are as many as their outputs.
+pub starting-before : (at : ℕ → Record) (n : ℕ) → Passed at n → (p : ℕ)
+    → length (joined (startingOf at) (primitivesBefore at n p)) ≡ outputsBefore at n p
+starting-before at n d p =
+    joined-length (startingOf at) (primitivesBefore at n p)
+    ∙ total-members (λ q. length (startingOf at q)) (λ q. outputsOf (at q)) (primitivesBefore at n p)
+    (λ q u. starting-length (fieldsOf (at q)) (primitive-obeyed at n d q (primitivesBefore-sound at n q p u .0)))
 
+-- Laying the outputs of an accepted file, in a table t of full size.
+module _ (s : List ℕ) (accepted : verdict s ≡ Accepted) where
   module _ (t : List ℕ) (full : 1024 ≤ length t) where
     outputs-all : length (joined (outputsAt (recordAt s)) (from 0 (recordCount s))) ≤ length t
     outputs-all =
         omega (
           arith,
           ap (λ (l : List ℕ). length l) (outputs-joined (recordAt s) (recordCount s) (recordCount s)),
-          starting-before (recordCount s),
+          starting-before (recordAt s) (recordCount s) (accepted-passed s accepted) (recordCount s),
           accepted-outputs-bound s accepted,
         )
 
@@ -110,7 +119,11 @@ module _ (s : List ℕ) (accepted : verdict s ≡ Accepted) where
       module _ (drawn : Drawn) (ed : drawn ≡ seen (recordAt s p)) where
         pub outputs-requires : p < recordCount s → k + length (outputsBy drawn) ≤ length u
         outputs-requires l =
-            omega (arith, laid-room _ t p u k laid (recordCount s) l outputs-all, ap (λ (x : Drawn). length (outputsBy x)) ed)
+            omega (
+              arith,
+              laid-room _ t p u k laid (recordCount s) l outputs-all,
+              ap (λ (x : Drawn). length (outputsBy x)) ed,
+            )
 
         pub outputs-step : (v : List ℕ) (m : ℕ) → v ≡ sets u k (outputsBy drawn) → m ≡ k + length (outputsBy drawn)
             → Laid (outputsAt (recordAt s)) (p + 1) t v m

@@ -1,8 +1,9 @@
--- Laws of the passes over the primitives: what a record is seen as, what stands before each primitive, and what each pass lays.
+-- Laws of the passes over the primitives: what a record is seen as, what stands before each primitive, and what each
+-- pass lays.
 -- Assumes nothing.
 use mathlib.Core.Path.{_≡_, refl, sym, ap, _∙_}
-use mathlib.Core.Bool.{Bool, true, false, cond, _&&_, _||_, false≢true}
-use mathlib.Core.List.{List, [], _∷_, _++_, map}
+use mathlib.Core.Bool.{Bool, true, false, cond}
+use mathlib.Core.List.{List, [], _∷_, _++_}
 use Prim.Native.Nat.{ℕ, suc, _+_, _-_, _*_, _≤_, _<_}
 use native.Mathlib.Numerals.{add-one}
 use native.Mathlib.Omega.{arith}
@@ -11,7 +12,7 @@ use denote.Enum.Declared.{tagOf}
 use lib.ListN.{length, length-append}
 use lib.Seq.{sets}
 use Rattle.lists.specs.Lists.{from, keep, total, joined, overlay}
-use Rattle.lists.proofs.MembersLaws.{keep-append, total-append, from-append}
+use Rattle.lists.proofs.MembersLaws.{total-append}
 use Rattle.lists.proofs.OverlayLaws.{joined-width}
 use Rattle.primitive.specs.declared.table.Fields.{Fields}
 use Rattle.primitive.specs.Kinds.{primitive}
@@ -19,13 +20,14 @@ use Rattle.component.specs.declared.Id.{Id}
 use Rattle.component.specs.declared.Record.{Record}
 use Rattle.component.specs.declared.Record.the-variants.{Component}
 use Rattle.component.specs.declared.Verdict.the-variants.{Accepted}
-use Rattle.component.specs.Record.{recordAt, recordCount, formOf, fieldsOf, inputsOf, outputsOf, isPrimitive}
-use Rattle.component.specs.Drawing.{primitivesBefore, inputsBefore, outputsBefore}
+use Rattle.component.specs.Record.{recordAt, recordCount, inputsOf, outputsOf, isPrimitive}
+use Rattle.component.specs.Drawing.{primitivesBefore}
 use Rattle.component.proofs.Record.{the-type}
 use Rattle.component.proofs.RecordLaws.{formOf-no-component}
 use Rattle.flatten.specs.Verdict.{verdict}
 use Rattle.leads.proofs.Components.{primitive-component}
-use Rattle.leads.proofs.Primitives.{primitivesBefore-step, primitivesBefore-skip, portsBefore-step}
+use Rattle.leads.proofs.Primitives.{primitivesBefore-append, primitivesBefore-step, primitivesBefore-skip}
+use Rattle.leads.proofs.Primitives.{portsBefore-step}
 use Rattle.leads.proofs.Theorems.{accepted-primitives-bound, accepted-inputs-bound, accepted-outputs-bound}
 use Rattle.load.specs.declared.rows.Drawn.{Drawn}
 use Rattle.load.specs.declared.rows.Drawn.the-variants.{Primitive, Other}
@@ -59,7 +61,8 @@ module _ (at : ℕ → Record) (n : ℕ) where
           → beforeBy (seenIf b (at p)) (beforeAt at n p) ≡ beforeAt at n (suc p)
       by-kind true e =
           let many : length (primitivesBefore at n p) + 1 ≡ length (primitivesBefore at n (suc p)) =
-          sym (ap (λ (l : List ℕ). length l) (primitivesBefore-step at n p e) ∙ length-append (primitivesBefore at n p) (p ∷ [])) in
+          sym (ap (λ (l : List ℕ). length l) (primitivesBefore-step at n p e) ∙ length-append (primitivesBefore at n p)
+          (p ∷ [])) in
           λ j. record {
             components = many j;
             inputs = sym (portsBefore-step at n inputsOf p e) j;
@@ -75,7 +78,9 @@ module _ (at : ℕ → Record) (n : ℕ) where
 
   -- The words of the primitives, record by record.
   pub rows-joined : (p : ℕ) → joined (componentWords at n) (primitivesBefore at n p) ≡ joined (rowAt at n) (from 0 p)
-  rows-joined p = joined-keep (λ q. isPrimitive (at q)) (componentWords at n) (rowAt at n) (λ q. by-kind q (isPrimitive (at q))) (from 0 p)
+  rows-joined p =
+      joined-keep (λ q. isPrimitive (at q)) (componentWords at n) (rowAt at n) (λ q. by-kind q (isPrimitive (at q)))
+      (from 0 p)
     where
       by-kind : (q : ℕ) (b : Bool) → cond b (componentWords at n q) []
           ≡ rowBy (seenIf b (at q)) (beforeAt at n q)
@@ -84,14 +89,15 @@ module _ (at : ℕ → Record) (n : ℕ) where
 
   pub rows-length : (p : ℕ) → length (joined (rowAt at n) (from 0 p)) ≡ 8 * length (primitivesBefore at n p)
   rows-length p =
-      ap (λ (l : List ℕ). length l) (sym (rows-joined p)) ∙ joined-width (componentWords at n) 8 (λ q. refl) (primitivesBefore at n p)
+      ap (λ (l : List ℕ). length l) (sym (rows-joined p))
+      ∙ joined-width (componentWords at n) 8 (λ q. refl) (primitivesBefore at n p)
 
   -- All primitives are those before p, and others.
-  primitives-split : (p : ℕ) → p ≤ n → primitives at n ≡ primitivesBefore at n p ++ keep (λ q. isPrimitive (at q)) (from (0 + p) (n - p))
+  primitives-split : (p : ℕ) → p ≤ n
+      → primitives at n ≡ primitivesBefore at n p ++ keep (λ q. isPrimitive (at q)) (from p (n - p))
   primitives-split p h =
       let e : n ≡ p + (n - p) = omega arith in
-      ap (primitivesBefore at n) e ∙ ap (keep (λ q. isPrimitive (at q))) (from-append 0 p (n - p))
-      ∙ keep-append (λ q. isPrimitive (at q)) (from 0 p) (from (0 + p) (n - p))
+      ap (primitivesBefore at n) e ∙ primitivesBefore-append at n p (n - p)
 
   pub primitivesBefore-few : (p : ℕ) → p ≤ n → length (primitivesBefore at n p) ≤ length (primitives at n)
   primitivesBefore-few p h = omega (arith, simp length-append at (ap (λ (l : List ℕ). length l) (primitives-split p h)))
@@ -105,7 +111,8 @@ module _ (id : Id) (f : Fields) (b : Before) (drawn : Drawn) (e : drawn ≡ Prim
   pub row-room : 8 * b .components + length (rowBy drawn b) ≤ length t → 8 * b .components + 8 ≤ length t
   row-room h = rw e at h
 
-  pub row-laid : (u : List ℕ) (x y : ℕ) → u ≡ sets t (8 * b .components) (componentBy id f b) → x ≡ f .inputs → y ≡ f .outputs
+  pub row-laid : (u : List ℕ) (x y : ℕ) → u ≡ sets t (8 * b .components) (componentBy id f b) → x ≡ f .inputs
+      → y ≡ f .outputs
       → (u ≡ sets t (8 * b .components) (rowBy drawn b))
       × (record { components = b .components + 1; inputs = b .inputs + x; outputs = b .outputs + y } ≡ beforeBy drawn b)
   row-laid u x y h i o = rw (e, i, o) (h, refl)
@@ -113,12 +120,18 @@ module _ (id : Id) (f : Fields) (b : Before) (drawn : Drawn) (e : drawn ≡ Prim
 -- Laying the entries of the records of an accepted file, in a table t of full size.
 module _ (s : List ℕ) (accepted : verdict s ≡ Accepted) (t : List ℕ) (full : 2048 ≤ length t) where
   rows-all : length (joined (rowAt (recordAt s) (recordCount s)) (from 0 (recordCount s))) ≤ length t
-  rows-all = omega (arith, rows-length (recordAt s) (recordCount s) (recordCount s), accepted-primitives-bound s accepted)
+  rows-all =
+      omega (
+        arith,
+        rows-length (recordAt s) (recordCount s) (recordCount s),
+        accepted-primitives-bound s accepted,
+      )
 
   module _ (p : ℕ) (u : List ℕ) (b : Before) (eb : b ≡ beforeAt (recordAt s) (recordCount s) p)
       (laid : Laid (rowAt (recordAt s) (recordCount s)) p t u (8 * b .components)) where
     pub rows-end : p ≡ recordCount s
-        → (u ≡ overlay (joined (componentWords (recordAt s) (recordCount s)) (primitives (recordAt s) (recordCount s))) t)
+        → (u ≡ overlay
+        (joined (componentWords (recordAt s) (recordCount s)) (primitives (recordAt s) (recordCount s))) t)
         × (b ≡ beforeAt (recordAt s) (recordCount s) (recordCount s))
     rows-end e = (
       laid-end _ t p u _ laid (recordCount s) e rows-all
@@ -135,12 +148,28 @@ module _ (s : List ℕ) (accepted : verdict s ≡ Accepted) (t : List ℕ) (full
       rows-requires =
           let h : p ≤ recordCount s = omega arith in (
             omega (arith, laid-room _ t p u _ laid (recordCount s) l rows-all, ap (λ (x : List ℕ). length x) row-is),
-            omega (arith, ap (λ (x : Before). x .components) eb, primitivesBefore-few (recordAt s) (recordCount s) p h, accepted-primitives-bound s accepted),
-            omega (arith, ap (λ (x : Before). x .inputs) eb, portsBefore-few (recordAt s) (recordCount s) inputsOf p h, accepted-inputs-bound s accepted),
-            omega (arith, ap (λ (x : Before). x .outputs) eb, portsBefore-few (recordAt s) (recordCount s) outputsOf p h, accepted-outputs-bound s accepted),
+            omega (
+              arith,
+              ap (λ (x : Before). x .components) eb,
+              primitivesBefore-few (recordAt s) (recordCount s) p h,
+              accepted-primitives-bound s accepted,
+            ),
+            omega (
+              arith,
+              ap (λ (x : Before). x .inputs) eb,
+              portsBefore-few (recordAt s) (recordCount s) inputsOf p h,
+              accepted-inputs-bound s accepted,
+            ),
+            omega (
+              arith,
+              ap (λ (x : Before). x .outputs) eb,
+              portsBefore-few (recordAt s) (recordCount s) outputsOf p h,
+              accepted-outputs-bound s accepted,
+            ),
           )
 
-      module _ (v : List ℕ) (c : Before) (ev : v ≡ sets u (8 * b .components) (rowBy drawn b)) (ec : c ≡ beforeBy drawn b) where
+      module _ (v : List ℕ) (c : Before) (ev : v ≡ sets u (8 * b .components) (rowBy drawn b))
+          (ec : c ≡ beforeBy drawn b) where
         pub rows-before : c ≡ beforeAt (recordAt s) (recordCount s) (p + 1)
         rows-before = ec ∙ (λ j. beforeBy (ed j) (eb j)) ∙ beforeAt-step (recordAt s) (recordCount s) p
 

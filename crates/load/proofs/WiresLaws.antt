@@ -1,6 +1,8 @@
--- Laws of the wires at load: those of one connection, written while its target goes down through the input maps, and all of them.
---   led s n f o ts    the words of the wires from port o of flat index f to the inputs ts of the drawing
---   Leading           the invariant of the loop over input maps: what is written and what the maps to come give is what the input gives
+-- Laws of the wires at load: those of one connection, written while its target goes down through the input maps, and
+-- all of them.
+--   led s n f ts    the words of the wires from the output f, by flat index, to the inputs ts of the drawing
+--   Leading         the invariant of the loop over input maps: what is written and what the maps to come give is what
+--                   the input gives
 -- Not here: laws of the source and the targets (DescentLaws of crate flatten).
 -- Assumes nothing.
 use mathlib.Core.Path.{_≡_, refl, sym, ap, _∙_, subst}
@@ -33,7 +35,8 @@ use Rattle.flatten.specs.declared.descent.Entered.the-variants.{To, Nothing}
 use Rattle.flatten.specs.Descent.{source, targets, sourceOf, targetsOf, wiresAt, wires, flat, flatPin, flatWires}
 use Rattle.flatten.specs.Steps.{entered, IsStretch}
 use Rattle.flatten.specs.Verdict.{verdict}
-use Rattle.flatten.proofs.DescentLaws.{given, targets-bottom, targets-ends, targets-stretch, given-to, given-nothing, joined-end}
+use Rattle.flatten.proofs.DescentLaws.{given, targets-bottom, targets-ends, targets-stretch, given-to, given-nothing}
+use Rattle.flatten.proofs.DescentLaws.{joined-end}
 use Rattle.leads.proofs.Accepted.{Passed, accepted-sized, accepted-passed}
 use Rattle.leads.proofs.Components.{primitive-component, component-number}
 use Rattle.leads.proofs.Descent.{source-sound}
@@ -44,19 +47,21 @@ use Rattle.load.specs.Load.{wireWords}
 use Rattle.load.specs.Laying.{Written, Ready, leadWords, wiresGiven}
 use Rattle.load.proofs.LayingLaws.{sets-append, Laid, laid-room, laid-step, laid-end, laid-count}
 
-abbrev pub led : List ℕ → ℕ → ℕ → ℕ → List Pin → List ℕ
-led s n f o ts = joined (leadWords (recordAt s) n f o) ts
+abbrev pub led : List ℕ → ℕ → Pin → List Pin → List ℕ
+led s n f ts = joined (leadWords (recordAt s) n f) ts
 
-pub record Leading (s : List ℕ) (n d c i f o : ℕ) (t : List ℕ) (k q e : ℕ) (u : List ℕ) (m : ℕ) : Type 0 where
+pub record Leading (s : List ℕ) (n d c i : ℕ) (f : Pin) (t : List ℕ) (k q e : ℕ) (u : List ℕ) (m : ℕ) : Type 0 where
   pub size : length u ≡ length t
-  pub table : sets u m (led s n f o (joined (given (recordAt s) n (d - 1) c i) (from q (e - q)))) ≡ sets t k (led s n f o (targets (recordAt s) n d c i))
-  pub place : m + length (led s n f o (joined (given (recordAt s) n (d - 1) c i) (from q (e - q)))) ≡ k + length (led s n f o (targets (recordAt s) n d c i))
+  pub table : sets u m (led s n f (joined (given (recordAt s) n (d - 1) c i) (from q (e - q))))
+      ≡ sets t k (led s n f (targets (recordAt s) n d c i))
+  pub place : m + length (led s n f (joined (given (recordAt s) n (d - 1) c i) (from q (e - q))))
+      ≡ k + length (led s n f (targets (recordAt s) n d c i))
 
-module _ (s : List ℕ) (n d c i f o : ℕ) (t : List ℕ) (k : ℕ) where
+module _ (s : List ℕ) (n d c i : ℕ) (f : Pin) (t : List ℕ) (k : ℕ) where
   -- No depth left.
-  pub lead-bottom : d ≡ 0 → Written t k (led s n f o (targets (recordAt s) n d c i)) t k
+  pub lead-bottom : d ≡ 0 → Written t k (led s n f (targets (recordAt s) n d c i)) t k
   lead-bottom h =
-      let e : led s n f o (targets (recordAt s) n d c i) ≡ [] = ap (led s n f o) (targets-bottom (recordAt s) n d c i h) in
+      let e : led s n f (targets (recordAt s) n d c i) ≡ [] = ap (led s n f) (targets-bottom (recordAt s) n d c i h) in
       record { table = ap (sets t k) (sym e); place = omega (arith, ap (λ (l : List ℕ). length l) e) }
 
   module _ (r : Record) (b : Bool) (h : d ≡ 0 → ⊥) (er : r ≡ recordAt s c) (eb : b ≡ isPrimitive r) where
@@ -65,54 +70,57 @@ module _ (s : List ℕ) (n d c i f o : ℕ) (t : List ℕ) (k : ℕ) where
 
     -- A primitive: one wire.
     module _ (p : b ≡ true) where
-      led-here : led s n f o (targets (recordAt s) n d c i) ≡ f ∷ o ∷ flat (recordAt s) n c ∷ i ∷ []
-      led-here = ap (led s n f o) (targets-ends (recordAt s) n d c i h (primitive-is true p))
+      led-here : led s n f (targets (recordAt s) n d c i) ≡ f .comp ∷ f .port ∷ flat (recordAt s) n c ∷ i ∷ []
+      led-here = ap (led s n f) (targets-ends (recordAt s) n d c i h (primitive-is true p))
 
-      pub lead-room : k + length (led s n f o (targets (recordAt s) n d c i)) ≤ length t → k + 4 ≤ length t
+      pub lead-room : k + length (led s n f (targets (recordAt s) n d c i)) ≤ length t → k + 4 ≤ length t
       lead-room room = omega (arith, ap (λ (l : List ℕ). length l) led-here)
 
-      pub lead-here : (u : List ℕ) (x : ℕ) → x ≡ flat (recordAt s) n c
-          → u ≡ sets t k (wireWords (record { src = record { comp = f; port = o }; dst = record { comp = x; port = i } }))
-          → Written t k (led s n f o (targets (recordAt s) n d c i)) u (k + 4)
+      pub lead-here : (u : List ℕ) (x : Pin) → x ≡ flatPin (recordAt s) n (record { comp = c; port = i })
+          → u ≡ sets t k (wireWords (record { src = f; dst = x }))
+          → Written t k (led s n f (targets (recordAt s) n d c i)) u (k + 4)
       lead-here u x ex eu =
           record {
-            table = eu ∙ ap (λ (y : ℕ). sets t k (f ∷ o ∷ y ∷ i ∷ [])) ex ∙ ap (sets t k) (sym led-here);
+            table =
+                eu ∙ ap (λ (y : Pin). sets t k (wireWords (record { src = f; dst = y }))) ex
+                ∙ ap (sets t k) (sym led-here);
             place = omega (arith, ap (λ (l : List ℕ). length l) led-here);
           }
 
     -- A composite: the loop over its input maps starts.
-    pub leading-start : (a e : ℕ) → b ≡ false → IsStretch (recordAt s) n c a e → Leading s n d c i f o t k a e t k
+    pub leading-start : (a e : ℕ) → b ≡ false → IsStretch (recordAt s) n c a e → Leading s n d c i f t k a e t k
     leading-start a e p z =
         let y = targets-stretch (recordAt s) n d c i a e h (primitive-is false p) z in
         record {
           size = refl;
-          table = ap (λ (ts : List Pin). sets t k (led s n f o ts)) (sym y);
-          place = ap (λ (ts : List Pin). k + length (led s n f o ts)) (sym y);
+          table = ap (λ (ts : List Pin). sets t k (led s n f ts)) (sym y);
+          place = ap (λ (ts : List Pin). k + length (led s n f ts)) (sym y);
         }
 
   -- One turn: the map at q leads on; it leads nowhere; and the end.
-  module _ (q e : ℕ) (u : List ℕ) (m : ℕ) (inv : Leading s n d c i f o t k q e u m) where
+  module _ (q e : ℕ) (u : List ℕ) (m : ℕ) (inv : Leading s n d c i f t k q e u m) where
     module _ (g : Entered) (x j : ℕ) (l : q < e) (eg : g ≡ To x j) (h : g ≡ entered (recordAt s) n c i q) where
       rest : List ℕ
-      rest = led s n f o (joined (given (recordAt s) n (d - 1) c i) (from (q + 1) (e - (q + 1))))
+      rest = led s n f (joined (given (recordAt s) n (d - 1) c i) (from (q + 1) (e - (q + 1))))
 
       now-led : List ℕ
-      now-led = led s n f o (targets (recordAt s) n (d - 1) x j)
+      now-led = led s n f (targets (recordAt s) n (d - 1) x j)
 
-      led-on : led s n f o (joined (given (recordAt s) n (d - 1) c i) (from q (e - q))) ≡ now-led ++ rest
+      led-on : led s n f (joined (given (recordAt s) n (d - 1) c i) (from q (e - q))) ≡ now-led ++ rest
       unfolding rest now-led
       led-on =
-          ap (led s n f o) (given-to (recordAt s) n (d - 1) c i q e x j l (sym eg ∙ h))
-          ∙ joined-append (leadWords (recordAt s) n f o) (targets (recordAt s) n (d - 1) x j) (joined (given (recordAt s) n (d - 1) c i) (from (q + 1) (e - (q + 1))))
+          ap (led s n f) (given-to (recordAt s) n (d - 1) c i q e x j l (sym eg ∙ h))
+          ∙ joined-append (leadWords (recordAt s) n f) (targets (recordAt s) n (d - 1) x j)
+          (joined (given (recordAt s) n (d - 1) c i) (from (q + 1) (e - (q + 1))))
 
-      pub leading-room : k + length (led s n f o (targets (recordAt s) n d c i)) ≤ length t
-          → m + length (led s n f o (targets (recordAt s) n (d - 1) x j)) ≤ length u
+      pub leading-room : k + length (led s n f (targets (recordAt s) n d c i)) ≤ length t
+          → m + length (led s n f (targets (recordAt s) n (d - 1) x j)) ≤ length u
       unfolding now-led
       leading-room room =
           omega (arith, inv .size, inv .place, ap (λ (y : List ℕ). length y) led-on, length-append now-led rest)
 
-      pub leading-to : (v : List ℕ) (w : ℕ) → Written u m (led s n f o (targets (recordAt s) n (d - 1) x j)) v w
-          → Leading s n d c i f o t k (q + 1) e v w
+      pub leading-to : (v : List ℕ) (w : ℕ) → Written u m (led s n f (targets (recordAt s) n (d - 1) x j)) v w
+          → Leading s n d c i f t k (q + 1) e v w
       unfolding rest now-led
       leading-to v w y =
           record {
@@ -120,23 +128,30 @@ module _ (s : List ℕ) (n d c i f o : ℕ) (t : List ℕ) (k : ℕ) where
             table =
                 (λ j. sets (y .table j) (y .place j) rest) ∙ sym (sets-append u m now-led rest)
                 ∙ ap (sets u m) (sym led-on) ∙ inv .table;
-            place = omega (arith, y .place, inv .place, ap (λ (z : List ℕ). length z) led-on, length-append now-led rest);
+            place =
+                omega (
+                  arith,
+                  y .place,
+                  inv .place,
+                  ap (λ (z : List ℕ). length z) led-on,
+                  length-append now-led rest,
+                );
           }
 
     pub leading-nothing : (g : Entered) → q < e → g ≡ Nothing → g ≡ entered (recordAt s) n c i q
-        → Leading s n d c i f o t k (q + 1) e u m
+        → Leading s n d c i f t k (q + 1) e u m
     leading-nothing g l eg h =
         let y = given-nothing (recordAt s) n (d - 1) c i q e l (sym eg ∙ h) in
         record {
           size = inv .size;
-          table = ap (λ (ts : List Pin). sets u m (led s n f o ts)) (sym y) ∙ inv .table;
-          place = ap (λ (ts : List Pin). m + length (led s n f o ts)) (sym y) ∙ inv .place;
+          table = ap (λ (ts : List Pin). sets u m (led s n f ts)) (sym y) ∙ inv .table;
+          place = ap (λ (ts : List Pin). m + length (led s n f ts)) (sym y) ∙ inv .place;
         }
 
-    pub leading-end : e ≤ q → Written t k (led s n f o (targets (recordAt s) n d c i)) u m
+    pub leading-end : e ≤ q → Written t k (led s n f (targets (recordAt s) n d c i)) u m
     leading-end l =
-        let y : led s n f o (joined (given (recordAt s) n (d - 1) c i) (from q (e - q))) ≡ [] =
-        ap (led s n f o) (joined-end (given (recordAt s) n (d - 1) c i) q e l) in
+        let y : led s n f (joined (given (recordAt s) n (d - 1) c i) (from q (e - q))) ≡ [] =
+        ap (led s n f) (joined-end (given (recordAt s) n (d - 1) c i) q e l) in
         record {
           table = ap (sets u m) (sym y) ∙ inv .table;
           place = omega (arith, inv .place, ap (λ (z : List ℕ). length z) y);
@@ -157,7 +172,8 @@ primitive-number s n c cs lo hi fs r b h er eb p =
 
 -- The wires of the record at p: it is no connection; a connection.
 module _ (s : List ℕ) (n : ℕ) where
-  pub connect-other : (p : ℕ) (r : Record) (t : List ℕ) (k : ℕ) → r ≡ recordAt s p → OneOf (0 ∷ 2 ∷ 3 ∷ 4 ∷ []) (tagOf the-type r)
+  pub connect-other : (p : ℕ) (r : Record) (t : List ℕ) (k : ℕ) → r ≡ recordAt s p
+      → OneOf (0 ∷ 2 ∷ 3 ∷ 4 ∷ []) (tagOf the-type r)
       → Written t k (wiresGiven (recordAt s) n p) t k
   connect-other p r t k e y =
       let z : wiresGiven (recordAt s) n p ≡ [] = rw (← e, ne-eqb (formOf r) 2 (formOf-no-connection r y)) in
@@ -167,12 +183,14 @@ module _ (s : List ℕ) (n : ℕ) where
     form-is : formOf (recordAt s p) ≡ 2
     form-is = ap formOf (sym e ∙ y)
 
-    module _ (m c : ℕ) (x : Pin) (em : m ≡ deepest) (ec : c ≡ child (recordAt s) n w (f .0)) (ex : x ≡ source (recordAt s) n m c a) where
+    module _ (m c : ℕ) (x : Pin) (em : m ≡ deepest) (ec : c ≡ child (recordAt s) n w (f .0))
+        (ex : x ≡ source (recordAt s) n m c a) where
       source-is : x ≡ sourceOf (recordAt s) n p
       unfolding sourceOf
       source-is =
           ex ∙ ap (λ (j : ℕ). source (recordAt s) n j c a) em ∙ ap (λ (j : ℕ). source (recordAt s) n deepest j a) ec
-          ∙ ap (λ (z : Record). source (recordAt s) n deepest (child (recordAt s) n (ownerOf z) (fromOf z)) (outputOf z)) (sym y ∙ e)
+          ∙ ap (λ (z : Record). source (recordAt s) n deepest (child (recordAt s) n (ownerOf z) (fromOf z))
+          (outputOf z)) (sym y ∙ e)
 
       -- The source is a primitive's, and its number is below 256.
       pub source-number : (cs lo hi fs : List ℕ) → Ready s n cs lo hi fs → p < n → x .comp < 256
@@ -180,40 +198,47 @@ module _ (s : List ℕ) (n : ℕ) where
       source-number cs lo hi fs h l =
           let d = subst (Passed (recordAt s)) (sym (h .count)) (accepted-passed s (h .accepted)) in
           let there = connection-ends (recordAt s) n d p l form-is .0 in
-          let comes = source-sound (recordAt s) n d 0 deepest (child (recordAt s) n (ownerOf (recordAt s p)) (fromOf (recordAt s p)))
+          let comes = source-sound (recordAt s) n d 0 deepest
+          (child (recordAt s) n (ownerOf (recordAt s p)) (fromOf (recordAt s p)))
           (outputOf (recordAt s p)) (zero-add deepest) refl there in
           rw source-is
           (component-number (recordAt s) n d (sourceOf (recordAt s) n p .comp)
-          (primitive-component (recordAt s (sourceOf (recordAt s) n p .comp)) (from-there (recordAt s) n d _ _ _ there comes .of-primitive)))
+          (primitive-component (recordAt s (sourceOf (recordAt s) n p .comp))
+          (from-there (recordAt s) n d _ _ _ there comes .of-primitive)))
 
-      module _ (l q i : ℕ) (el : l ≡ deepest) (eq : q ≡ child (recordAt s) n w (g .0)) (ei : i ≡ flat (recordAt s) n (x .comp)) where
+      module _ (l q : ℕ) (i : Pin) (el : l ≡ deepest) (eq : q ≡ child (recordAt s) n w (g .0))
+          (ei : i ≡ flatPin (recordAt s) n x) where
         targets-are : targets (recordAt s) n l q b ≡ targetsOf (recordAt s) n p
         unfolding targetsOf
         targets-are =
             ap (λ (j : ℕ). targets (recordAt s) n j q b) el ∙ ap (λ (j : ℕ). targets (recordAt s) n deepest j b) eq
-            ∙ ap (λ (z : Record). targets (recordAt s) n deepest (child (recordAt s) n (ownerOf z) (toOf z)) (inputOf z)) (sym y ∙ e)
+            ∙ ap (λ (z : Record). targets (recordAt s) n deepest (child (recordAt s) n (ownerOf z) (toOf z))
+            (inputOf z)) (sym y ∙ e)
 
-        pub wires-are : led s n i (x .port) (targets (recordAt s) n l q b) ≡ wiresGiven (recordAt s) n p
+        pub wires-are : led s n i (targets (recordAt s) n l q b) ≡ wiresGiven (recordAt s) n p
         wires-are =
-            ap (led s n i (x .port)) targets-are
-            ∙ ap (λ (z : ℕ). led s n z (x .port) (targetsOf (recordAt s) n p)) ei
-            ∙ ap (λ (z : Pin). led s n (flat (recordAt s) n (z .comp)) (z .port) (targetsOf (recordAt s) n p)) source-is
-            ∙ ap (λ (z : Bool). cond z (led s n (flat (recordAt s) n (sourceOf (recordAt s) n p .comp)) (sourceOf (recordAt s) n p .port) (targetsOf (recordAt s) n p)) []) (sym (eq-eqb (formOf (recordAt s p)) 2 form-is))
+            ap (led s n i) targets-are
+            ∙ ap (λ (z : Pin). led s n z (targetsOf (recordAt s) n p)) (ei ∙ ap (flatPin (recordAt s) n) source-is)
+            ∙ ap (λ (z : Bool). cond z
+            (led s n (flatPin (recordAt s) n (sourceOf (recordAt s) n p)) (targetsOf (recordAt s) n p)) [])
+            (sym (eq-eqb (formOf (recordAt s p)) 2 form-is))
 
         pub connect-room : (t : List ℕ) (k : ℕ) → k + length (wiresGiven (recordAt s) n p) ≤ length t
-            → k + length (led s n i (x .port) (targets (recordAt s) n l q b)) ≤ length t
+            → k + length (led s n i (targets (recordAt s) n l q b)) ≤ length t
         connect-room t k room = omega (arith, ap (λ (z : List ℕ). length z) wires-are)
 
-        pub connect-written : (t u : List ℕ) (k v : ℕ) → Written t k (led s n i (x .port) (targets (recordAt s) n l q b)) u v
+        pub connect-written : (t u : List ℕ) (k v : ℕ) → Written t k (led s n i (targets (recordAt s) n l q b)) u v
             → Written t k (wiresGiven (recordAt s) n p) u v
         connect-written t u k v h = subst (λ (z : List ℕ). Written t k z u v) wires-are h
 
 -- Lists made of others.
-joined-map : {A B C : Type 0} (f : B → List C) (g : A → B) (xs : List A) → joined f (map g xs) ≡ joined (λ a. f (g a)) xs
+joined-map : {A B C : Type 0} (f : B → List C) (g : A → B) (xs : List A)
+    → joined f (map g xs) ≡ joined (λ a. f (g a)) xs
 joined-map f g [] = refl
 joined-map {C = C} f g (x ∷ xs) = ap (λ (l : List C). f (g x) ++ l) (joined-map f g xs)
 
-joined-joined : {A B C : Type 0} (f : B → List C) (g : A → List B) (xs : List A) → joined f (joined g xs) ≡ joined (λ a. joined f (g a)) xs
+joined-joined : {A B C : Type 0} (f : B → List C) (g : A → List B) (xs : List A)
+    → joined f (joined g xs) ≡ joined (λ a. joined f (g a)) xs
 joined-joined f g [] = refl
 joined-joined {C = C} f g (x ∷ xs) =
     joined-append f (g x) (joined g xs) ∙ ap (λ (l : List C). joined f (g x) ++ l) (joined-joined f g xs)
@@ -223,20 +248,24 @@ module _ (at : ℕ → Record) (n : ℕ) where
   pub wires-joined : joined wireWords (flatWires at n) ≡ joined (wiresGiven at n) (from 0 n)
   wires-joined =
       joined-map wireWords (flatWire at n) (wires at n)
-      ∙ joined-joined (λ (w : Wire). wireWords (flatWire at n w)) (λ p. cond (eqb (formOf (at p)) 2) (wiresAt at n p) []) (from 0 n)
+      ∙ joined-joined (λ (w : Wire). wireWords (flatWire at n w))
+      (λ p. cond (eqb (formOf (at p)) 2) (wiresAt at n p) []) (from 0 n)
       ∙ (λ j. joined (λ p. by-form p (eqb (formOf (at p)) 2) j) (from 0 n))
     where
       by-form : (p : ℕ) (b : Bool) → joined (λ (w : Wire). wireWords (flatWire at n w)) (cond b (wiresAt at n p) [])
-          ≡ cond b (joined (leadWords at n (flat at n (sourceOf at n p .comp)) (sourceOf at n p .port)) (targetsOf at n p)) []
+          ≡ cond b (joined (leadWords at n (flatPin at n (sourceOf at n p))) (targetsOf at n p)) []
       by-form p true =
-          joined-map (λ (w : Wire). wireWords (flatWire at n w)) (λ t. record { src = sourceOf at n p; dst = t }) (targetsOf at n p)
+          joined-map (λ (w : Wire). wireWords (flatWire at n w)) (λ t. record { src = sourceOf at n p; dst = t })
+          (targetsOf at n p)
       by-form p false = refl
 
   pub wires-length : length (joined (wiresGiven at n) (from 0 n)) ≡ 4 * length (flatWires at n)
-  wires-length = ap (λ (l : List ℕ). length l) (sym wires-joined) ∙ joined-width wireWords 4 (λ w. refl) (flatWires at n)
+  wires-length =
+      ap (λ (l : List ℕ). length l) (sym wires-joined) ∙ joined-width wireWords 4 (λ w. refl) (flatWires at n)
 
 -- Laying the wires of an accepted file, in a table t of full size.
-module _ (s : List ℕ) (n : ℕ) (cs lo hi fs : List ℕ) (h : Ready s n cs lo hi fs) (t : List ℕ) (full : 4096 ≤ length t) where
+module _ (s : List ℕ) (n : ℕ) (cs lo hi fs : List ℕ) (h : Ready s n cs lo hi fs) (t : List ℕ)
+    (full : 4096 ≤ length t) where
   wires-all : length (joined (wiresGiven (recordAt s) n) (from 0 n)) ≤ length t
   wires-all =
       omega (
@@ -250,10 +279,12 @@ module _ (s : List ℕ) (n : ℕ) (cs lo hi fs : List ℕ) (h : Ready s n cs lo 
     pub wires-requires : p < n → (p < n) × (k + length (wiresGiven (recordAt s) n p) ≤ length u)
     wires-requires l = (l, laid-room _ t p u k laid n l wires-all)
 
-    pub wires-step : (v : List ℕ) (m : ℕ) → Written u k (wiresGiven (recordAt s) n p) v m → Laid (wiresGiven (recordAt s) n) (p + 1) t v m
+    pub wires-step : (v : List ℕ) (m : ℕ) → Written u k (wiresGiven (recordAt s) n p) v m
+        → Laid (wiresGiven (recordAt s) n) (p + 1) t v m
     wires-step v m w = laid-step _ t p u k laid (wiresGiven (recordAt s) n p) v m refl (w .table) (w .place)
 
-    pub wires-end : p ≡ n → (u ≡ overlay (joined wireWords (flatWires (recordAt s) n)) t) × (k ≡ 4 * length (flatWires (recordAt s) n))
+    pub wires-end : p ≡ n
+        → (u ≡ overlay (joined wireWords (flatWires (recordAt s) n)) t) × (k ≡ 4 * length (flatWires (recordAt s) n))
     wires-end e = (
       laid-end _ t p u k laid n e wires-all ∙ ap (λ (l : List ℕ). overlay l t) (sym (wires-joined (recordAt s) n)),
       laid-count _ t p u k laid n e ∙ wires-length (recordAt s) n,

@@ -21,12 +21,14 @@ use Rattle.component.specs.Drawing.{child, primitivesBefore, inputsBefore, outp
 use Rattle.component.specs.Index.{IsTable, IsRange}
 use Rattle.component.specs.declared.Verdict.the-variants.{Accepted}
 use Rattle.flatten.specs.declared.Pin.{Pin}
-use Rattle.flatten.specs.Descent.{flat, sourceOf, targetsOf}
+use Rattle.flatten.specs.Descent.{targets, sourceOf, targetsOf, flat, flatPin}
 use Rattle.flatten.specs.Verdict.{verdict}
 use Rattle.load.specs.declared.names.Stood.{Stood}
 use Rattle.load.specs.declared.rows.Drawn.{Drawn}
 use Rattle.load.specs.declared.rows.Drawn.the-variants.{Primitive, Other}
 use Rattle.load.specs.declared.rows.Before.{Before}
+use Rattle.load.specs.declared.wires.Goal.{Goal}
+use Rattle.load.specs.Load.{wireWords}
 
 pub record Written (t : List ℕ) (k : ℕ) (xs : List ℕ) (u : List ℕ) (m : ℕ) : Type 0 where
   pub table : u ≡ sets t k xs
@@ -88,15 +90,16 @@ module _ (at : ℕ → Record) (n : ℕ) where
     pub size : length t ≡ 256
     pub word : (c : ℕ) → c < 256 → getD t c 0 ≡ flat at n c
 
-  -- The words of a wire from port o of flat index f to the input t of the drawing.
-  abbrev pub leadWords : ℕ → ℕ → Pin → List ℕ
-  leadWords f o t = f ∷ o ∷ flat at n (t .comp) ∷ t .port ∷ []
+  -- The words of a wire from the output f, by flat index, to the input t of the drawing.
+  abbrev pub leadWords : Pin → Pin → List ℕ
+  leadWords f t = wireWords (record { src = f; dst = flatPin at n t })
+
+  abbrev pub reached : Goal → List Pin
+  reached g = targets at n (g .depth) (g .comp) (g .port)
 
   abbrev pub wiresGiven : ℕ → List ℕ
   wiresGiven p =
-      cond (eqb (formOf (at p)) 2)
-      (joined (leadWords (flat at n (sourceOf at n p .comp)) (sourceOf at n p .port)) (targetsOf at n p))
-      []
+      cond (eqb (formOf (at p)) 2) (joined (leadWords (flatPin at n (sourceOf at n p))) (targetsOf at n p)) []
 
 pub record Ready (s : List ℕ) (n : ℕ) (cs lo hi fs : List ℕ) : Type 0 where
   pub accepted : verdict s ≡ Accepted

@@ -9,9 +9,10 @@ ghost use Prim.Native.Nat.{_≤_};
 ghost use lib.ListN.{length};
 ghost use Rattle.component.specs.Record.{recordAt, recordCount};
 ghost use Rattle.component.specs.declared.Verdict.the-variants.{Accepted};
-ghost use Rattle.flatten.specs.Verdict.{sized, verdict};
+ghost use Rattle.flatten.specs.Verdict.{verdict};
+ghost use Rattle.tables.specs.declared.Counts.{Counts};
 ghost use Rattle.tables.specs.Tables.{tablesOf};
-ghost use Rattle.load.specs.Load.{loaded, Loads};
+ghost use Rattle.load.specs.Load.{loaded, loadVerdict, Loads};
 use component::Verdict;
 use names::count_up;
 use names::lay_standing;
@@ -22,14 +23,6 @@ use rows::zeros;
 use tables::Answer;
 use tables::Counts;
 use wires::lay_wires;
-
-// Not 1: the file is not empty, a multiple of 24, and of at most 1,024 records.
-fn is_sized(file: &[u8]) -> bool
-    ensures { λ r. ⌜ r ≡ sized (now (file .entry)) ⌝ }
-{
-    let length = file.len();
-    (length != 0) & (length % 24 == 0) & (length / 24 <= 1024)
-}
 
 // Counts of tables of which no entry is in use.
 fn unused() -> Counts {
@@ -77,22 +70,21 @@ fn fill(
     }
 }
 
-// Loads a drawing file into the tables: makes check 1, check 2, then the checks 3 to 15, and writes the tables of an accepted
-// drawing. Counts are not handed in: a load looks at none. A refusal changes no table.
-pub fn load(
+// The verdict of a load: check 1, check 2, then the checks 3 to 15.
+fn judge_load(
     file: &[u8],
-    components: &mut [u64],
-    inputs: &mut [u64],
-    outputs: &mut [u64],
-    wires: &mut [u16],
-    current: &mut [u16],
-    following: &mut [u16],
-    standing: &mut [u16],
-) -> Answer
-    ensures { λ r. ⌜ Loads (now (file .entry)) (tablesOf (now (components .entry)) (now (inputs .entry)) (now (outputs .entry)) (now (wires .entry)) (now (current .entry)) (now (following .entry)) (now (standing .entry))) (tablesOf (now (components .exit)) (now (inputs .exit)) (now (outputs .exit)) (now (wires .exit)) (now (current .exit)) (now (following .exit)) (now (standing .exit))) r ⌝ }
+    components: &[u64],
+    inputs: &[u64],
+    outputs: &[u64],
+    wires: &[u16],
+    current: &[u16],
+    following: &[u16],
+    standing: &[u16],
+) -> Verdict
+    ensures { λ r. ⌜ ((m : Counts) → r ≡ loadVerdict (now (file .entry)) (tablesOf (now (components .entry)) (now (inputs .entry)) (now (outputs .entry)) (now (wires .entry)) (now (current .entry)) (now (following .entry)) (now (standing .entry)) m)) ⌝ }
 {
-    if !is_sized(file) {
-        return Answer::Refused(Refusal {
+    if !flatten::is_sized(file) {
+        return Verdict::Refused(Refusal {
             number: 1,
             position: 0,
         });
@@ -107,12 +99,38 @@ pub fn load(
         standing,
         unused(),
     ) {
-        return Answer::Refused(Refusal {
+        return Verdict::Refused(Refusal {
             number: 2,
             position: 0,
         });
     }
-    if let Verdict::Refused(refusal) = flatten::judge(file) {
+    flatten::judge(file)
+}
+
+// Loads a drawing file into the tables: judges the load, and writes the tables of an accepted drawing. Counts are not handed in: a
+// load looks at none. A refusal changes no table.
+pub fn load(
+    file: &[u8],
+    components: &mut [u64],
+    inputs: &mut [u64],
+    outputs: &mut [u64],
+    wires: &mut [u16],
+    current: &mut [u16],
+    following: &mut [u16],
+    standing: &mut [u16],
+) -> Answer
+    ensures { λ r. ⌜ Loads (now (file .entry)) (tablesOf (now (components .entry)) (now (inputs .entry)) (now (outputs .entry)) (now (wires .entry)) (now (current .entry)) (now (following .entry)) (now (standing .entry))) (tablesOf (now (components .exit)) (now (inputs .exit)) (now (outputs .exit)) (now (wires .exit)) (now (current .exit)) (now (following .exit)) (now (standing .exit))) r ⌝ }
+{
+    if let Verdict::Refused(refusal) = judge_load(
+        file,
+        components,
+        inputs,
+        outputs,
+        wires,
+        current,
+        following,
+        standing,
+    ) {
         return Answer::Refused(refusal);
     }
     Answer::Done(fill(

@@ -27,7 +27,7 @@ pub struct Stood {
 }
 
 // Writes the numbers below count, ascending.
-pub fn count_up(list: &mut [u16], count: usize)
+pub(crate) fn count_up(list: &mut [u16], count: usize)
     requires { ⌜ (count ≤ length (now list)) × (count ≤ 256) ⌝ }
     ensures { λ _. ⌜ now (list .exit) ≡ sets (now (list .entry)) 0 (from 0 count) ⌝ }
 {
@@ -70,7 +70,7 @@ fn stand(standing: &mut [u16], drawn: Drawn, stood: Stood) -> Stood
 }
 
 // Lays the standing list. The answer is how many it names.
-pub fn lay_standing(file: &[u8], standing: &mut [u16]) -> usize
+pub(crate) fn lay_standing(file: &[u8], standing: &mut [u16]) -> usize
     requires { ⌜ (verdict (now file) ≡ Accepted) × (256 ≤ length (now standing)) ⌝ }
     ensures { λ r. ⌜ now (standing .exit) ≡ overlay (standingAtLoad (recordAt (now (file .entry))) (recordCount (now (file .entry)))) (now (standing .entry)) ⌝ }
     ensures { λ r. ⌜ r ≡ length (standingAtLoad (recordAt (now (file .entry))) (recordCount (now (file .entry)))) ⌝ }
@@ -89,7 +89,7 @@ pub fn lay_standing(file: &[u8], standing: &mut [u16]) -> usize
 }
 
 // Fills the table of flat indexes: word c is the flat index of component c, the primitives before it.
-pub fn index_flat(file: &[u8], flat: &mut [u16])
+pub(crate) fn index_flat(file: &[u8], flat: &mut [u16])
     requires { ⌜ length (now flat) ≡ 256 ⌝ }
     ensures { λ _. ⌜ IsFlat (recordAt (now (file .entry))) (recordCount (now (file .entry))) (now (flat .exit)) ⌝ }
 {

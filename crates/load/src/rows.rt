@@ -29,7 +29,7 @@ pub struct Before {
 }
 
 // The primitive at a position.
-pub fn drawn_at(file: &[u8], p: usize) -> Drawn
+pub(crate) fn drawn_at(file: &[u8], p: usize) -> Drawn
     ensures { λ r. ⌜ r ≡ seen (recordAt (now (file .entry)) p) ⌝ }
 {
     let Record::Component { id, fields, .. } = record_at(file, p) else {
@@ -79,7 +79,7 @@ fn lay_component(components: &mut [u64], drawn: Drawn, before: Before) -> Before
 }
 
 // Lays the entries of all primitives, in file order. The answer is how many there are, and their inputs and outputs.
-pub fn lay_components(file: &[u8], components: &mut [u64]) -> Before
+pub(crate) fn lay_components(file: &[u8], components: &mut [u64]) -> Before
     requires { ⌜ (verdict (now file) ≡ Accepted) × (2048 ≤ length (now components)) ⌝ }
     ensures { λ r. ⌜ now (components .exit) ≡ overlay (joined (componentWords (recordAt (now (file .entry))) (recordCount (now (file .entry)))) (primitives (recordAt (now (file .entry))) (recordCount (now (file .entry))))) (now (components .entry)) ⌝ }
     ensures { λ r. ⌜ r ≡ beforeAt (recordAt (now (file .entry))) (recordCount (now (file .entry))) (recordCount (now (file .entry))) ⌝ }
@@ -99,7 +99,7 @@ pub fn lay_components(file: &[u8], components: &mut [u64]) -> Before
 }
 
 // Writes 0 into the ports from a place on.
-pub fn zeros(ports: &mut [u64], at: usize, count: usize)
+pub(crate) fn zeros(ports: &mut [u64], at: usize, count: usize)
     requires { ⌜ at + count ≤ length (now ports) ⌝ }
     ensures { λ _. ⌜ now (ports .exit) ≡ sets (now (ports .entry)) at (replicate count 0) ⌝ }
 {
@@ -128,7 +128,7 @@ fn lay_output(outputs: &mut [u64], at: usize, drawn: Drawn) -> usize
 }
 
 // Lays the outputs of all primitives, in file order.
-pub fn lay_outputs(file: &[u8], outputs: &mut [u64])
+pub(crate) fn lay_outputs(file: &[u8], outputs: &mut [u64])
     requires { ⌜ (verdict (now file) ≡ Accepted) × (1024 ≤ length (now outputs)) ⌝ }
     ensures { λ _. ⌜ now (outputs .exit) ≡ overlay (joined (startingOf (recordAt (now (file .entry)))) (primitives (recordAt (now (file .entry))) (recordCount (now (file .entry))))) (now (outputs .entry)) ⌝ }
 {

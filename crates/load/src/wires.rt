@@ -9,46 +9,56 @@ ghost use Rattle.component.specs.Record.{recordAt, recordCount};
 ghost use Rattle.component.specs.Drawing.{outMap};
 ghost use Rattle.component.specs.Index.{IsTable};
 ghost use Rattle.component.specs.declared.Verdict.the-variants.{Accepted};
-ghost use Rattle.flatten.specs.Descent.{targets, flat, flatWires};
+ghost use Rattle.flatten.specs.Descent.{flatPin, flatWires};
 ghost use Rattle.flatten.specs.Verdict.{verdict};
 ghost use Rattle.load.specs.Load.{wireWords};
-ghost use Rattle.load.specs.Laying.{Written, IsFlat, Ready, leadWords, wiresGiven};
+ghost use Rattle.load.specs.Laying.{Written, IsFlat, Ready, leadWords, reached, wiresGiven};
 use crate::names::index_flat;
-use component::FlatIdx;
 use component::Record;
 use component::child_of;
+use component::deepest;
 use component::index_children;
 use component::index_outs;
 use component::index_ranges;
 use component::is_primitive;
 use component::record_at;
 use flatten::Entered;
-use flatten::deepest;
+use flatten::Pin;
 use flatten::enter;
 use flatten::source_of;
 use flatten::stretch_of;
 
-// The flat index of component c.
-fn flat_of(file: &[u8], n: usize, indexes: &[u16], c: usize) -> FlatIdx
-    requires { ⌜ IsFlat (recordAt (now file)) n (now indexes) × (c < 256) ⌝ }
-    ensures { λ r. ⌜ (r .0 ≡ flat (recordAt (now (file .entry))) n c) × (r .0 < 65536) ⌝ }
+// An input of a component, to be led to with the depth left.
+struct Goal {
+    comp: usize,
+    port: u16,
+    depth: u8,
+}
+
+// A port of a component, by its flat index.
+fn flat_pin(file: &[u8], n: usize, indexes: &[u16], comp: usize, port: u16) -> Pin
+    requires { ⌜ IsFlat (recordAt (now file)) n (now indexes) × (comp < 256) ⌝ }
+    ensures { λ r. ⌜ (r ≡ flatPin (recordAt (now (file .entry))) n (record { comp = comp; port = port })) × (r .comp < 65536) ⌝ }
 {
-    FlatIdx(indexes[c] as usize)
+    Pin {
+        comp: indexes[comp] as usize,
+        port,
+    }
 }
 
 // Writes the words of a wire.
-fn write_wire(wires: &mut [u16], at: usize, from: FlatIdx, output: u16, to: FlatIdx, input: u16)
-    requires { ⌜ (at + 4 ≤ length (now wires)) × (from .0 < 65536) × (to .0 < 65536) ⌝ }
-    ensures { λ _. ⌜ now (wires .exit) ≡ sets (now (wires .entry)) at (wireWords (record { src = record { comp = from .0; port = output }; dst = record { comp = to .0; port = input } })) ⌝ }
+fn write_wire(wires: &mut [u16], at: usize, from: Pin, to: Pin)
+    requires { ⌜ (at + 4 ≤ length (now wires)) × (from .comp < 65536) × (to .comp < 65536) ⌝ }
+    ensures { λ _. ⌜ now (wires .exit) ≡ sets (now (wires .entry)) at (wireWords (record { src = from; dst = to })) ⌝ }
 {
-    wires[at] = from.0 as u16;
-    wires[at + 1] = output;
-    wires[at + 2] = to.0 as u16;
-    wires[at + 3] = input;
+    wires[at] = from.comp as u16;
+    wires[at + 1] = from.port;
+    wires[at + 2] = to.comp as u16;
+    wires[at + 3] = to.port;
 }
 
-// Writes a wire to every primitive input that input i of component c leads to through input maps, with the depth left: in map order,
-// all that one map reaches before the next. The answer is the place behind them.
+// Writes a wire from an output to every primitive input that a goal leads to through input maps: in map order, all that one map
+// reaches before the next. The answer is the place behind them.
 fn lead(
     file: &[u8],
     n: usize,
@@ -56,46 +66,32 @@ fn lead(
     lo: &[u16],
     hi: &[u16],
     indexes: &[u16],
-    depth: u8,
-    c: usize,
-    i: u16,
-    from: FlatIdx,
-    output: u16,
+    from: Pin,
+    goal: Goal,
     wires: &mut [u16],
     at: usize,
 ) -> usize
     requires { ⌜ Ready (now file) n (now children) (now lo) (now hi) (now indexes) ⌝ }
-    requires { ⌜ (from .0 < 65536) × (at + length (joined (leadWords (recordAt (now file)) n (from .0) output) (targets (recordAt (now file)) n depth c i)) ≤ length (now wires)) ⌝ }
-    ensures { λ r. ⌜ Written (now (wires .entry)) at (joined (leadWords (recordAt (now (file .entry))) n (from .0) output) (targets (recordAt (now (file .entry))) n depth c i)) (now (wires .exit)) r ⌝ }
+    requires { ⌜ (from .comp < 65536) × (at + length (joined (leadWords (recordAt (now file)) n from) (reached (recordAt (now file)) n goal)) ≤ length (now wires)) ⌝ }
+    ensures { λ r. ⌜ Written (now (wires .entry)) at (joined (leadWords (recordAt (now (file .entry))) n from) (reached (recordAt (now (file .entry))) n goal)) (now (wires .exit)) r ⌝ }
 {
-    if depth == 0 {
+    if goal.depth == 0 {
         return at;
     }
-    if is_primitive(record_at(file, c)) {
-        write_wire(wires, at, from, output, flat_of(file, n, indexes, c), i);
+    if is_primitive(record_at(file, goal.comp)) {
+        let to = flat_pin(file, n, indexes, goal.comp, goal.port);
+        write_wire(wires, at, from, to);
         return at + 4;
     }
-    let maps = stretch_of(file, n, lo, hi, c);
+    let maps = stretch_of(file, n, lo, hi, goal.comp);
     let end = maps.end;
+    let depth = goal.depth - 1;
     let mut place = at;
     let mut q = maps.first;
     while q < end {
-        if let Entered::To(to, input) = enter(file, n, children, c, i, q) {
-            place = lead(
-                file,
-                n,
-                children,
-                lo,
-                hi,
-                indexes,
-                depth - 1,
-                to,
-                input,
-                from,
-                output,
-                wires,
-                place,
-            );
+        if let Entered::To(comp, port) = enter(file, n, children, goal.comp, goal.port, q) {
+            let next = Goal { comp, port, depth };
+            place = lead(file, n, children, lo, hi, indexes, from, next, wires, place);
         }
         q += 1;
     }
@@ -132,23 +128,13 @@ fn connect(
     };
     let start = child_of(file, n, children, owner as usize, from);
     let source = source_of(file, n, children, outs, deepest(), start, output);
-    let index = flat_of(file, n, indexes, source.comp);
-    let goal = child_of(file, n, children, owner as usize, to);
-    lead(
-        file,
-        n,
-        children,
-        lo,
-        hi,
-        indexes,
-        deepest(),
-        goal,
-        input,
-        index,
-        source.port,
-        wires,
-        at,
-    )
+    let flat = flat_pin(file, n, indexes, source.comp, source.port);
+    let goal = Goal {
+        comp: child_of(file, n, children, owner as usize, to),
+        port: input,
+        depth: deepest(),
+    };
+    lead(file, n, children, lo, hi, indexes, flat, goal, wires, at)
 }
 
 // Writes the wires of all connections, in their order. The answer is the place behind them.
@@ -177,7 +163,7 @@ fn connect_all(
 }
 
 // Lays the wires of an accepted drawing. The answer is how many there are.
-pub fn lay_wires(file: &[u8], wires: &mut [u16]) -> usize
+pub(crate) fn lay_wires(file: &[u8], wires: &mut [u16]) -> usize
     requires { ⌜ (verdict (now file) ≡ Accepted) × (4096 ≤ length (now wires)) ⌝ }
     ensures { λ r. ⌜ now (wires .exit) ≡ overlay (joined wireWords (flatWires (recordAt (now (file .entry))) (recordCount (now (file .entry))))) (now (wires .entry)) ⌝ }
     ensures { λ r. ⌜ r ≡ length (flatWires (recordAt (now (file .entry))) (recordCount (now (file .entry)))) ⌝ }

@@ -10,7 +10,8 @@ use lib.Seq.{getD-take, getD-drop}
 use lib.Dec.{eqb, ltb}
 use Rattle.component.specs.declared.Record.{Record}
 use Rattle.component.specs.declared.Record.the-variants.{Refused}
-use Rattle.component.specs.Record.{IsBytes, le16, le32, le64, componentIn, connectionIn, inputMapIn, outputMapIn, lineIn, readRecord, recordCount, partAt, recordAt, idOf}
+use Rattle.component.specs.Record.{IsBytes, le16, le32, le64, componentIn, connectionIn, inputMapIn, outputMapIn}
+use Rattle.component.specs.Record.{lineIn, readRecord, recordCount, partAt, recordAt, idOf}
 
 module _ (file : List ℕ) (bytes : IsBytes file) where
   -- A byte of a record.

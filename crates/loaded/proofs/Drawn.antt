@@ -27,7 +27,8 @@ use Rattle.leads.proofs.Wires.{wire, wires-lead, leads-wires}
 use Rattle.leads.proofs.Ends.{IsOutput, IsInput, wires-leave, wires-enter}
 use Rattle.leads.proofs.Primitives.{primitive-below, flat-below, flat-inj, flat-onto, portsBefore-within}
 use Rattle.leads.proofs.FlatWires.{flatWires-sound, leads-flatWires, flatWires-lead}
-use Rattle.tables.specs.Tables.{Tables, fieldsAt, idAt, firstInput, firstOutput, inputPlace, outputPlace, numbers, inputsAt, outputsAt, indexes, wiresIn}
+use Rattle.tables.specs.Tables.{Tables, fieldsAt, idAt, firstInput, firstOutput, inputPlace, outputPlace, numbers}
+use Rattle.tables.specs.Tables.{inputsAt, outputsAt, indexes, wiresIn}
 use Rattle.load.specs.Load.{primitives, loaded}
 use Rattle.net.specs.Net.{isOutput, isInput}
 use Rattle.loaded.proofs.Entries.{loaded-wires, loaded-fields, loaded-id, loaded-firstInput, loaded-firstOutput}

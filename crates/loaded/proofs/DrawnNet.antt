@@ -9,7 +9,8 @@ use Prim.Native.Nat.{ℕ, _^_, _<_}
 use borrow.Author.Tests.{lt-ltb, eq-eqb}
 use lib.Dec.{eqb}
 use Rattle.lists.specs.Lists.{from, every, total, distinct}
-use Rattle.lists.proofs.MembersLaws.{In, Distinct, every-complete, map-sound, from0-sound, distinct-from, distinct-map, distinct-complete}
+use Rattle.lists.proofs.MembersLaws.{In, Distinct, every-complete, map-sound, from0-sound, distinct-from, distinct-map}
+use Rattle.lists.proofs.MembersLaws.{distinct-complete}
 use Rattle.lists.proofs.OverlayLaws.{total-indexes}
 use Rattle.value.specs.Value.{below}
 use Rattle.primitive.specs.declared.table.Fields.{Fields}
@@ -24,12 +25,13 @@ use Rattle.leads.proofs.Accepted.{Passed}
 use Rattle.leads.proofs.Components.{primitive-component}
 use Rattle.leads.proofs.Ends.{IsInput, wires-leave, wires-enter, wires-width}
 use Rattle.leads.proofs.Bound.{entered}
-use Rattle.leads.proofs.Primitives.{flat-onto, id-inj}
+use Rattle.leads.proofs.Primitives.{primitive-obeyed, flat-onto, id-inj}
 use Rattle.leads.proofs.FlatWires.{flatWires-sound, flatWires-distinct}
 use Rattle.tables.specs.Tables.{Tables, fieldsAt, idAt, firstInput, firstOutput, inputPlace, indexes}
-use Rattle.net.specs.Net.{kindsObeyed, idsDistinct, inputSum, outputSum, portsFollow, isOutput, isInput, wiresFit, inputsOnce}
-use Rattle.loaded.proofs.Ports.{primitive-obeyed}
-use Rattle.loaded.proofs.Drawn.{IsDrawn, drawn-primitive, drawn-every, drawn-isOutput, drawn-isInput, drawn-inputPlace-inj}
+use Rattle.net.specs.Net.{kindsObeyed, idsDistinct, inputSum, outputSum, portsFollow, isOutput, isInput, wiresFit}
+use Rattle.net.specs.Net.{inputsOnce}
+use Rattle.loaded.proofs.Drawn.{IsDrawn, drawn-primitive, drawn-every, drawn-isOutput, drawn-isInput}
+use Rattle.loaded.proofs.Drawn.{drawn-inputPlace-inj}
 
 module _ (at : ℕ → Record) (n : ℕ) (p : Passed at n) (U : Tables) (d : IsDrawn at n U) where
   -- Components are of kinds 1 to 13 and obey the table of kinds.

@@ -6,11 +6,12 @@ use mathlib.Core.Bool.{Bool, true, false, not, _&&_, _||_}
 use mathlib.Core.List.{List}
 use Prim.Native.Nat.{ℕ, _+_, _<_}
 use native.Mathlib.Omega.{arith}
-use borrow.Author.Tests.{lt-ltb, le-leb, eq-eqb}
+use borrow.Author.Tests.{le-leb, eq-eqb}
 use lib.ListN.{length, getD}
-use lib.Dec.{eqb, ltb}
-use Rattle.lists.specs.Lists.{from, keep, every}
-use Rattle.lists.proofs.MembersLaws.{In, Distinct, every-complete, map-sound, keep-sound, from0-sound, distinct-from, distinct-keep, distinct-map, distinct-complete}
+use lib.Dec.{eqb}
+use Rattle.lists.specs.Lists.{from, keep}
+use Rattle.lists.proofs.MembersLaws.{In, map-sound, keep-sound, from0-sound, distinct-from, distinct-keep, distinct-map}
+use Rattle.lists.proofs.NamesLaws.{Names, names-complete}
 use Rattle.lists.proofs.OverlayLaws.{slice-at}
 use Rattle.primitive.specs.declared.kinds.Kind.the-variants.{Clock, Const}
 use Rattle.primitive.specs.declared.table.Fields.{Fields}
@@ -20,25 +21,25 @@ use Rattle.component.specs.declared.Record.{Record}
 use Rattle.component.specs.Record.{fieldsOf, inputsOf, isPrimitive}
 use Rattle.flatten.specs.Descent.{flat}
 use Rattle.leads.proofs.Accepted.{Passed}
-use Rattle.leads.proofs.Primitives.{flat-below, flat-inj, primitivesBefore-sound, primitivesBefore-distinct, primitives-bound, inputs-bound, outputs-bound}
+use Rattle.leads.proofs.Primitives.{primitive-obeyed, flat-below, flat-inj, primitivesBefore-sound}
+use Rattle.leads.proofs.Primitives.{primitivesBefore-distinct, primitives-bound, inputs-bound, outputs-bound}
 use Rattle.leads.proofs.FlatWires.{flatWires-bound}
-use Rattle.tables.specs.Tables.{Tables, fieldsAt, firstOutput, inputsAt, outputsAt, currentList, followingList, standingList}
+use Rattle.tables.specs.Tables.{Tables, fieldsAt, firstOutput, inputsAt, outputsAt, currentList, followingList}
+use Rattle.tables.specs.Tables.{standingList}
 use Rattle.load.specs.Load.{primitives, standingAtLoad, loaded}
+use Rattle.load.proofs.NamesLaws.{standing-bound}
+use Rattle.load.proofs.PortsLaws.{starting-length}
 use Rattle.net.specs.Net.{countsWithin, valuesFit, constsHeld, names}
-use Rattle.loaded.proofs.Starting.{zeros-fit, starting-length, starting-fits, starting-const}
+use Rattle.loaded.proofs.Starting.{zeros-fit, starting-fits, starting-const}
 use Rattle.loaded.proofs.Entries.{loaded-fields}
-use Rattle.loaded.proofs.Ports.{primitive-obeyed, loaded-inputs, loaded-outputs}
-use Rattle.loaded.proofs.Sizes.{standing-bound, loaded-current, loaded-following, loaded-standing}
+use Rattle.loaded.proofs.Ports.{loaded-inputs, loaded-outputs}
+use Rattle.loaded.proofs.Sizes.{loaded-current, loaded-following, loaded-standing}
 use Rattle.loaded.proofs.Drawn.{loaded-drawn, drawn-every}
 
--- A list that names only components below the count, none twice, is one that a net may have.
-pub names-complete : (U : Tables) (xs : List ℕ) → ((i : ℕ) → In i xs → i < U .counts .components) → Distinct xs
-    → names U xs ≡ true
+-- A list that names existing components without repeats is one that a net may have.
+named : (U : Tables) (xs : List ℕ) → Names (U .counts .components) xs → names U xs ≡ true
 unfolding names
-names-complete U xs there apart =
-    let each : every (λ i. ltb i (U .counts .components)) xs ≡ true =
-    every-complete (λ i. ltb i (U .counts .components)) xs (λ i u. lt-ltb i (U .counts .components) (there i u)) in
-    rw (each, distinct-complete xs apart)
+named U xs h = names-complete (U .counts .components) xs h
 
 module _ (at : ℕ → Record) (n : ℕ) (d : Passed at n) (T : Tables) where
   abbrev L : Tables
@@ -110,17 +111,22 @@ module _ (at : ℕ → Record) (n : ℕ) (d : Passed at n) (T : Tables) where
   unfolding loaded
   loaded-names-current =
       ap (names L) (loaded-current at n T)
-      ∙ names-complete L (from 0 (flat at n n)) (from0-sound (flat at n n)) (distinct-from 0 (flat at n n))
+      ∙ named L (from 0 (flat at n n))
+      (record { exist = from0-sound (flat at n n); once = distinct-from 0 (flat at n n) })
 
   standing-names : names L (standingAtLoad at n) ≡ true
   unfolding loaded
   standing-names =
-      names-complete L (standingAtLoad at n)
-      (λ i u. let r = map-sound (flat at n) i chosen u in
-      subst (λ (x : ℕ). x < flat at n n) (sym (r .2)) (flat-below at n d (r .0) (of-primitive (r .0) (r .1))))
-      (distinct-map (flat at n) chosen
-      (λ b c u v. flat-inj at n b c (of-primitive b u) (of-primitive c v))
-      (distinct-keep test (primitives at n) (primitivesBefore-distinct at n n)))
+      named L (standingAtLoad at n)
+      (record {
+        exist =
+            λ i u. let r = map-sound (flat at n) i chosen u in
+            subst (λ (x : ℕ). x < flat at n n) (sym (r .2)) (flat-below at n d (r .0) (of-primitive (r .0) (r .1)));
+        once =
+            distinct-map (flat at n) chosen
+            (λ b c u v. flat-inj at n b c (of-primitive b u) (of-primitive c v))
+            (distinct-keep test (primitives at n) (primitivesBefore-distinct at n n));
+      })
     where
       test : ℕ → Bool
       test x = is Const (fieldsOf (at x)) || is Clock (fieldsOf (at x))

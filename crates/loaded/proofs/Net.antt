@@ -1,24 +1,24 @@
 -- A load that is accepted leaves a net: check 16 passes on its tables, and check 2 as well.
 -- docs/SPECIFICATION.md, "Numbers given back".
 -- Assumes nothing.
-use mathlib.Core.Path.{_≡_, refl, ap, _∙_}
-use mathlib.Core.Bool.{Bool, true, false, cond}
+use mathlib.Core.Path.{_≡_, ap, _∙_}
+use mathlib.Core.Bool.{true}
 use mathlib.Core.List.{List}
 use Prim.Native.Nat.{ℕ, _^_, _<_}
-use native.Mathlib.Omega.{arith}
 use Rattle.component.specs.declared.Record.{Record}
 use Rattle.component.specs.declared.Verdict.the-variants.{Accepted}
-use Rattle.component.specs.Record.{recordAt, recordCount, idOf, isPrimitive}
-use Rattle.flatten.specs.Verdict.{sized, refused, verdict}
+use Rattle.component.specs.Record.{IsBytes, recordAt, recordCount, idOf, isPrimitive}
 use Rattle.leads.proofs.Accepted.{Passed, accepted-passed}
 use Rattle.tables.specs.Tables.{Tables, fullSize}
 use Rattle.load.specs.Load.{loaded, loadVerdict, loadTables}
+use Rattle.load.proofs.LoadLaws.{load-passed}
 use Rattle.net.specs.Net.{isNet}
 use Rattle.loaded.proofs.Sizes.{loaded-lengths, fullSize-kept}
 use Rattle.loaded.proofs.Drawn.{loaded-drawn}
-use Rattle.loaded.proofs.DrawnNet.{drawn-kindsObeyed, drawn-idsDistinct, drawn-portsFollow, drawn-wiresFit, drawn-inputsOnce}
-use Rattle.loaded.proofs.LoadedNet.{loaded-countsWithin, loaded-valuesFit, loaded-constsHeld, loaded-names-current, loaded-names-following, loaded-names-standing}
-use Rattle.component.specs.Record.{IsBytes}
+use Rattle.loaded.proofs.DrawnNet.{drawn-kindsObeyed, drawn-idsDistinct, drawn-portsFollow, drawn-wiresFit}
+use Rattle.loaded.proofs.DrawnNet.{drawn-inputsOnce}
+use Rattle.loaded.proofs.LoadedNet.{loaded-countsWithin, loaded-valuesFit, loaded-constsHeld}
+use Rattle.loaded.proofs.LoadedNet.{loaded-names-current, loaded-names-following, loaded-names-standing}
 use Rattle.loaded.proofs.Bytes.{recordAt-id}
 
 -- The tables that a drawing that passes every check is loaded into are a net, if its ids have 32 bits.
@@ -41,28 +41,10 @@ loaded-net at n d T narrow =
       loaded-names-standing at n d T,
     )
 
--- What an accepted load has passed: check 2, and the judgement of the file.
-pub record IsLoad (file : List ℕ) (T : Tables) : Type 0 where
-  pub full : fullSize T ≡ true
-  pub judged : verdict file ≡ Accepted
-
-refused-not : (k p : ℕ) → refused k p ≡ Accepted → ⊥
-refused-not k p e = let z : _≡_ {A = ℕ} 0 1 = cc in omega arith
-
 module _ (file : List ℕ) (T : Tables) (accepted : loadVerdict file T ≡ Accepted) where
-  pub load-passed : IsLoad file T
-  unfolding loadVerdict
-  load-passed = by-size (sized file) (fullSize T) refl accepted
-    where
-      by-size : (b c : Bool) → fullSize T ≡ c → cond b (cond c (verdict file) (refused 2 0)) (refused 1 0) ≡ Accepted
-          → IsLoad file T
-      by-size true true s e = record { full = s; judged = e }
-      by-size true false s e = absurd (refused-not 2 0 e)
-      by-size false c s e = absurd (refused-not 1 0 e)
-
-  -- So no record of the file fails a check.
+  -- No record of the file of an accepted load fails a check.
   pub load-checked : Passed (recordAt file) (recordCount file)
-  load-checked = accepted-passed file (load-passed .judged)
+  load-checked = accepted-passed file (load-passed file T accepted .judged)
 
   -- An accepted load leaves what `loaded` says.
   pub load-loaded : loadTables file T ≡ loaded (recordAt file) (recordCount file) T
@@ -74,7 +56,8 @@ module _ (file : List ℕ) (T : Tables) (accepted : loadVerdict file T ≡ Accep
   load-fullSize =
       ap fullSize load-loaded
       ∙ fullSize-kept T (loaded (recordAt file) (recordCount file) T)
-      (loaded-lengths (recordAt file) (recordCount file) load-checked T (load-passed .full)) (load-passed .full)
+      (loaded-lengths (recordAt file) (recordCount file) load-checked T (load-passed file T accepted .full))
+      (load-passed file T accepted .full)
 
   -- and the tables are a net.
   pub load-net : IsBytes file → isNet (loadTables file T) ≡ true

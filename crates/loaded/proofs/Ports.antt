@@ -2,31 +2,25 @@
 -- docs/SPECIFICATION.md, "Rounds".
 -- Assumes nothing.
 use mathlib.Core.Path.{_≡_, sym, _∙_}
-use mathlib.Core.Bool.{true, _&&_}
+use mathlib.Core.Bool.{true}
 use mathlib.Core.List.{List, _++_}
 use Prim.Native.Nat.{ℕ, suc, _-_, _≤_, _<_}
 use native.Mathlib.Omega.{arith}
 use lib.ListN.{length, getD, drop, replicate, length-append, length-replicate, getD-replicate}
 use Rattle.lists.specs.Lists.{from, keep, joined, overlay}
-use Rattle.lists.proofs.MembersLaws.{joined-length}
-use Rattle.lists.proofs.OverlayLaws.{overlay-at, slice-replicate, joined-part, total-members}
-use Rattle.primitive.specs.Kinds.{primitive, obeys}
+use Rattle.lists.proofs.OverlayLaws.{overlay-at, slice-replicate, joined-part}
 use Rattle.primitive.specs.Evaluate.{starting}
 use Rattle.component.specs.declared.Record.{Record}
-use Rattle.component.specs.Record.{fieldsOf, inputsOf, outputsOf, isPrimitive}
-use Rattle.component.specs.Drawing.{primitivesBefore, inputsBefore, outputsBefore}
+use Rattle.component.specs.Record.{fieldsOf, inputsOf, isPrimitive}
+use Rattle.component.specs.Drawing.{primitivesBefore, inputsBefore}
 use Rattle.flatten.specs.Descent.{flat}
 use Rattle.leads.proofs.Accepted.{Passed}
-use Rattle.leads.proofs.Primitives.{primitive-below, primitive-obeys, primitivesBefore-sound, primitivesBefore-split, portsBefore-within}
+use Rattle.leads.proofs.Primitives.{primitive-below, primitive-obeyed, primitivesBefore-split, portsBefore-within}
 use Rattle.tables.specs.Tables.{Tables, numbers, inputsAt, outputsAt}
 use Rattle.load.specs.Load.{primitives, loaded}
-use Rattle.loaded.proofs.Starting.{starting-length}
+use Rattle.load.specs.Laying.{startingOf}
+use Rattle.load.proofs.PortsLaws.{starting-length, starting-before}
 use Rattle.loaded.proofs.Entries.{loaded-fields, loaded-firstInput, loaded-firstOutput}
-
--- A primitive of the drawing obeys the table of kinds, as an evaluation asks it.
-pub primitive-obeyed : (at : ℕ → Record) (n : ℕ) → Passed at n → (c : ℕ) → isPrimitive (at c) ≡ true
-    → (primitive (fieldsOf (at c)) && obeys (fieldsOf (at c))) ≡ true
-primitive-obeyed at n d c e = rw e (primitive-obeys at n d c e)
 
 -- Every input that there is is 0.
 pub loaded-input : (at : ℕ → Record) (n : ℕ) (T : Tables) (i : ℕ) → i < inputsBefore at n n
@@ -42,18 +36,6 @@ unfolding loaded overlay
 inputs-room at n T =
     let all : List ℕ = replicate (inputsBefore at n n) 0 in
     omega (arith, length-append all (drop (length all) (T .inputs)), length-replicate {A = ℕ} (inputsBefore at n n) 0)
-
--- The starting values of component c.
-abbrev pub startingOf : (ℕ → Record) → ℕ → List ℕ
-startingOf at c = starting (fieldsOf (at c))
-
--- Those of the primitives before c are as many as the outputs of these.
-pub startingOf-before : (at : ℕ → Record) (n : ℕ) → Passed at n → (c : ℕ)
-    → outputsBefore at n c ≡ length (joined (startingOf at) (primitivesBefore at n c))
-startingOf-before at n d c =
-    total-members (λ q. outputsOf (at q)) (λ q. length (startingOf at q)) (primitivesBefore at n c)
-    (λ q u. sym (starting-length (fieldsOf (at q)) (primitive-obeyed at n d q (primitivesBefore-sound at n q c u .0))))
-    ∙ sym (joined-length (startingOf at) (primitivesBefore at n c))
 
 module _ (at : ℕ → Record) (n : ℕ) (d : Passed at n) (T : Tables) where
   -- The inputs of each primitive are 0.
@@ -77,7 +59,7 @@ module _ (at : ℕ → Record) (n : ℕ) (d : Passed at n) (T : Tables) where
       let behind = keep (λ q. isPrimitive (at q)) (from (suc c) (n - suc c)) in
       let split = primitivesBefore-split at n c n e (primitive-below at n d c e) in
       let rest = drop (length (joined (startingOf at) (primitives at n))) (T .outputs) in
-      let first = loaded-firstOutput at n d T c e ∙ startingOf-before at n d c in
+      let first = loaded-firstOutput at n d T c e ∙ sym (starting-before at n d c) in
       let own = loaded-fields at n d T c e in
       let many = sym (starting-length (fieldsOf (at c)) (primitive-obeyed at n d c e)) in
       (λ j. numbers (loaded at n T .outputs) (first j) (own j .outputs))

@@ -13,7 +13,7 @@ use Rattle.lists.proofs.MembersLaws.{In}
 use Rattle.primitive.specs.Evaluate.{starting}
 use Rattle.component.specs.declared.Record.{Record}
 use Rattle.component.specs.declared.Verdict.the-variants.{Accepted}
-use Rattle.component.specs.Record.{recordAt, recordCount, fieldsOf, isPrimitive}
+use Rattle.component.specs.Record.{IsBytes, recordAt, recordCount, fieldsOf, isPrimitive}
 use Rattle.flatten.specs.declared.Pin.{Pin}
 use Rattle.flatten.specs.declared.Wire.{Wire}
 use Rattle.flatten.specs.Descent.{flat, flatPin}
@@ -22,13 +22,14 @@ use Rattle.leads.proofs.Accepted.{Passed}
 use Rattle.leads.proofs.Wires.{wire}
 use Rattle.tables.specs.Tables.{Tables, fullSize, outputsAt, wiresIn, currentList, followingList, standingList}
 use Rattle.load.specs.Load.{standingAtLoad, loaded, loadVerdict, loadTables}
+use Rattle.load.proofs.LoadLaws.{load-passed}
 use Rattle.net.specs.Net.{isNet}
 use Rattle.loaded.proofs.Ports.{loaded-input, loaded-outputs}
 use Rattle.loaded.proofs.Sizes.{SameLengths, loaded-current, loaded-following, loaded-standing, loaded-lengths}
-use Rattle.component.specs.Record.{IsBytes}
-use Rattle.loaded.proofs.Net.{load-passed, load-checked, load-loaded, load-fullSize, load-net}
+use Rattle.loaded.proofs.Net.{load-checked, load-loaded, load-fullSize, load-net}
 use Rattle.loaded.proofs.SameNet.{SameNet}
-use Rattle.loaded.proofs.Drawn.{IsDrawn, loaded-drawn, drawn-kept, PrimitiveAt, drawn-primitive, drawn-below, leads-wired, wired-leads, wire-drawn}
+use Rattle.loaded.proofs.Drawn.{IsDrawn, loaded-drawn, drawn-kept, PrimitiveAt, drawn-primitive, drawn-below}
+use Rattle.loaded.proofs.Drawn.{leads-wired, wired-leads, wire-drawn}
 
 module _ (file : List ℕ) where
   abbrev at : ℕ → Record

@@ -1,11 +1,11 @@
 -- What the clauses of a net say, one by one.
 -- Assumes nothing.
-use mathlib.Core.Path.{_≡_, refl, sym, ap, _∙_}
+use mathlib.Core.Path.{_≡_, refl, sym, ap}
 use mathlib.Core.Bool.{Bool, true, false, _&&_, true≢false}
 use mathlib.Core.List.{List, [], _∷_, map}
 use Prim.Native.Nat.{ℕ, _+_, _-_, _*_, _≤_, _<_}
 use native.Mathlib.Omega.{arith}
-use borrow.Author.Tests.{leb-true, ltb-true, eqb-true}
+use borrow.Author.Tests.{leb-true, eqb-true}
 use lib.ListN.{length, getD}
 use lib.Dec.{leb, ltb, eqb}
 use Rattle.lists.specs.Lists.{from, every, distinct}
@@ -19,7 +19,7 @@ use Rattle.tables.proofs.PartsLaws.{AllTrue, parts-sound}
 use Rattle.net.specs.Net.{countsWithin, lent, kindsObeyed, portsFollow, isOutput, isInput, wiresFit, inputsOnce}
 use Rattle.net.proofs.StepsLaws.{every-map, map-map, total-room}
 use Rattle.net.specs.Net.{obeyedAt, inputSum, outputSum, followAt}
-use Rattle.net.specs.Parts.{targetIn, placeIn, wireRight, PortsInside, PlacesInside}
+use Rattle.net.specs.Parts.{targetIn, placeIn, wireRight, PortsInside}
 
 -- "counts are within these limits"
 pub record Within (m : Counts) : Type 0 where
@@ -190,42 +190,11 @@ module _ (cs ws : List ℕ) (m : Counts) where
   unfolding inputsOnce
   inputsOnce-places = ap distinct (map-map (λ (w : Wire). inputPlace T (w .dst)) (wireAt T) (from 0 (m .wires)))
 
-  -- Wire k of a table that passes.
-  module _ (e : wiresFit T ≡ true) (k : ℕ) (h : k < m .wires) where
-    pub wiresFit-right : wireRight cs ws (m .components) k ≡ true
-    wiresFit-right = every-from (wireRight cs ws (m .components)) (m .wires) (wiresFit-every ∙ e) k h
-
-    wire-parts : AllTrue (isOutput T (wireAt T k .src) ∷ isInput T (wireAt T k .dst)
-        ∷ eqb (outputWidth (fieldsAt T (wireAt T k .src .comp))) (inputWidth (fieldsAt T (wireAt T k .dst .comp))) ∷ [])
-    wire-parts =
-        parts-sound (isOutput T (wireAt T k .src)) (isInput T (wireAt T k .dst)
-        ∷ eqb (outputWidth (fieldsAt T (wireAt T k .src .comp))) (inputWidth (fieldsAt T (wireAt T k .dst .comp)))
-        ∷ []) wiresFit-right
-
-    pub wiresFit-target : targetIn ws k < m .components
-    wiresFit-target =
-        ltb-true _ _ (and-left (ltb (targetIn ws k) (m .components))
-        (ltb (getD ws (4 * k + 3) 0) (wordIn cs (targetIn ws k) 4)) (wire-parts .1 .0))
-
-    pub wiresFit-port : getD ws (4 * k + 3) 0 < wordIn cs (targetIn ws k) 4
-    wiresFit-port =
-        ltb-true _ _ (and-right (ltb (targetIn ws k) (m .components))
-        (ltb (getD ws (4 * k + 3) 0) (wordIn cs (targetIn ws k) 4)) (wire-parts .1 .0))
-
--- What the clauses before it give the tests of values and of inputs.
-module _ (cs : List ℕ) (m : Counts) (few : countsWithin m ≡ true)
-    (follow : portsFollow (lent cs [] [] [] m) ≡ true) where
-  pub portsInside : (is os : List ℕ) → 1024 ≤ length is → 1024 ≤ length os → PortsInside cs is os (m .components)
-  portsInside is os a b i h =
-      let w = countsWithin-sound m few in (
-        omega (arith, portsFollow-inputs (lent cs [] [] [] m) follow i h),
-        omega (arith, portsFollow-outputs (lent cs [] [] [] m) follow i h),
-      )
-
-  pub placesInside : (ws : List ℕ) → wiresFit (lent cs [] [] ws m) ≡ true → PlacesInside cs ws (m .wires)
-  placesInside ws e k h =
-      let w = countsWithin-sound m few in
-      let t = wiresFit-target cs ws m e k h in (
-        omega arith,
-        omega (arith, wiresFit-port cs ws m e k h, portsFollow-inputs (lent cs [] [] [] m) follow (targetIn ws k) t),
-      )
+-- What the clauses before it give the test of values.
+pub portsInside : (cs : List ℕ) (m : Counts) → countsWithin m ≡ true → portsFollow (lent cs [] [] [] m) ≡ true
+    → (is os : List ℕ) → 1024 ≤ length is → 1024 ≤ length os → PortsInside cs is os (m .components)
+portsInside cs m few follow is os a b i h =
+    let w = countsWithin-sound m few in (
+      omega (arith, portsFollow-inputs (lent cs [] [] [] m) follow i h),
+      omega (arith, portsFollow-outputs (lent cs [] [] [] m) follow i h),
+    )

@@ -6,7 +6,7 @@
 use mathlib.Core.Path.{_≡_, refl, ap, _∙_}
 use mathlib.Core.Bool.{Bool, true, false, not, _&&_, _||_}
 use mathlib.Core.List.{List, [], _∷_, map}
-use Prim.Native.Nat.{ℕ, _+_, _≤_, _<_}
+use Prim.Native.Nat.{ℕ, _+_, _*_, _≤_, _<_}
 use native.Mathlib.Decide.{decLt}
 use native.Mathlib.Omega.{arith}
 use borrow.Author.Tests.{ltb-true, eqb-true, not-false}
@@ -15,18 +15,20 @@ use lib.Seq.{length-slice}
 use lib.Dec.{eqb, ltb}
 use Rattle.lists.specs.Lists.{from, every, distinct}
 use Rattle.lists.proofs.ListsLaws.{and-left, and-right, every-from, refusal-first, refusal-rest}
-use Rattle.lists.proofs.MembersLaws.{In, Distinct, every-sound, distinct-sound, distinct-bound, from-length, from0-complete}
+use Rattle.lists.proofs.MembersLaws.{In, Distinct, every-sound, map-complete, distinct-sound, distinct-bound, from-length, from0-complete}
 use Rattle.value.specs.Value.{below}
 use Rattle.primitive.specs.declared.kinds.Kind.the-variants.{Const}
 use Rattle.primitive.specs.Kinds.{is, inputWidth, outputWidth}
 use Rattle.primitive.specs.Evaluate.{Own}
 use Rattle.flatten.specs.declared.Pin.{Pin}
 use Rattle.flatten.specs.declared.Wire.{Wire}
-use Rattle.tables.specs.Tables.{Tables, fullSize, fieldsAt, idAt, firstInput, firstOutput, inputPlace, outputPlace, inputsAt, outputsAt, indexes, wiresIn, currentList, followingList, standingList}
+use Rattle.tables.specs.declared.Counts.{Counts}
+use Rattle.tables.specs.Tables.{Tables, fullSize, wordIn, fieldsAt, idAt, firstInput, firstOutput, inputPlace, outputPlace, inputsAt, outputsAt, indexes, wireAt, wiresIn, currentList, followingList, standingList}
 use Rattle.tables.proofs.PartsLaws.{AllTrue, parts-sound, parts-complete}
 use Rattle.tables.proofs.SizesLaws.{Full, fullSize-sound}
 use Rattle.net.specs.Net.{countsWithin, lent, kindsObeyed, idsDistinct, portsFollow, valuesFit, constsHeld, isOutput, isInput, wiresFit, inputsOnce, names, isCircuit, isNet, netNumber}
 use Rattle.net.specs.Net.{fitAt, heldAt}
+use Rattle.net.specs.Parts.{targetIn, PlacesInside}
 use Rattle.net.proofs.ClausesLaws.{Within, countsWithin-sound, portsFollow-inputsApart, portsFollow-outputsApart, portsFollow-inputs, portsFollow-outputs, kindsObeyed-at}
 
 -- The clauses.
@@ -228,6 +230,18 @@ module _ (T : Tables) (e : wiresFit T ≡ true) (w : Wire) (h : In w (wiresIn T)
 
   pub wiresFit-widths : outputWidth (fieldsAt T (w .src .comp)) ≡ inputWidth (fieldsAt T (w .dst .comp))
   wiresFit-widths = eqb-true _ _ (wire-parts .1 .1 .0)
+
+-- What the clauses before it give the test of inputs.
+pub placesInside : (cs : List ℕ) (m : Counts) → countsWithin m ≡ true → portsFollow (lent cs [] [] [] m) ≡ true
+    → (ws : List ℕ) → wiresFit (lent cs [] [] ws m) ≡ true → PlacesInside cs ws (m .wires)
+placesInside cs m few follow ws e k h =
+    let w = countsWithin-sound m few in
+    let T : Tables = lent cs [] [] ws m in
+    let stored = map-complete (wireAt T) k (from 0 (m .wires)) (from0-complete (m .wires) k h) in
+    let there = wiresFit-target T e (wireAt T k) stored in
+    let t : targetIn ws k < m .components = isInput-comp T (wireAt T k .dst) there in
+    let p : getD ws (4 * k + 3) 0 < wordIn cs (targetIn ws k) 4 = isInput-port T (wireAt T k .dst) there in
+    (omega arith, omega (arith, portsFollow-inputs (lent cs [] [] [] m) follow (targetIn ws k) t))
 
 -- "no input has two wires"
 pub inputsOnce-sound : (T : Tables) → inputsOnce T ≡ true

@@ -5,23 +5,15 @@ use Rattle.load.proofs.LoadLaws.{inputs-room, current-room, copy-room, 
 use borrow.Author.Needs.{needs}
 use Rattle.load.proofs.fill.Statement.{statement}
 use Rattle.load.proofs.fill.Tie as tie
-use Rattle.load.proofs.fill.Reads as reads
-use Rattle.load.proofs.fill.Lts as lts
-use Rattle.load.proofs.names.count_up.Reads as count-up-reads
-use Rattle.load.proofs.names.lay_standing.Reads as lay-standing-reads
-use Rattle.load.proofs.rows.lay_components.Reads as lay-components-reads
-use Rattle.load.proofs.rows.lay_outputs.Reads as lay-outputs-reads
-use Rattle.load.proofs.rows.zeros.Reads as zeros-reads
-use Rattle.load.proofs.wires.lay_wires.Reads as lay-wires-reads
-use Rattle.tables.proofs.copy.Reads as copy-reads
 
 lay-components-requires : tie.Need-lay-components-requires
 lay-components-requires c κs = search needs
 
 zeros-requires : tie.Need-zeros-requires
 zeros-requires c κs =
-    let s = c .before .before .before .before .before .before .before .before .before .before .before .before .before in
-    inputs-room (s .args .file .now) (s .pre .0) (s .args .inputs .now) _ (c .before .before .before .lay-components .ensures .1) (s .pre .2)
+    let r = c .before .before .before in
+    let s = r .before .before .before .before .before .before .before .before .before .before in
+    inputs-room (s .args .file .now) (s .pre .0) (s .args .inputs .now) _ (r .lay-components .ensures .1) (s .pre .2)
 
 lay-outputs-requires : tie.Need-lay-outputs-requires
 lay-outputs-requires c κs = search needs
@@ -31,16 +23,22 @@ lay-wires-requires c κs = search needs
 
 count-up-requires : tie.Need-count-up-requires
 count-up-requires c κs =
-    let s = c .before .before .before .before .before .before .before .before .before .before .before .before .before .before .before .before .before .before .before .before .before .before .before .before .before in
-    current-room (s .args .file .now) (s .pre .0) (s .args .current .now) _ (c .before .before .before .before .before .before .before .before .before .before .before .before .before .before .before .lay-components .ensures .1) (s .pre .5)
+    let d = c .before .before .before .before .before .before .before .before in
+    let r = d .before .before .before .before .before .before .before in
+    let s = r .before .before .before .before .before .before .before .before .before .before in
+    current-room (s .args .file .now) (s .pre .0) (s .args .current .now) _ (r .lay-components .ensures .1) (s .pre .5)
 
 lay-standing-requires : tie.Need-lay-standing-requires
 lay-standing-requires c κs = search needs
 
 copy-requires : tie.Need-copy-requires
 copy-requires c κs =
-    let s = c .before .before .before .before .before .before .before .before .before .before .before .before .before .before .before .before .before .before .before .before .before .before .before .before .before .before .before .before .before .before .before .before .before .before in
-    copy-room (s .args .file .now) (s .pre .0) (s .args .following .now) _ _ _ (c .before .before .before .before .lay-standing .ensures .0) (c .before .before .before .before .lay-standing .ensures .1) (s .pre .6)
+    let l = c .before .before .before .before in
+    let d = l .before .before .before .before .before .before .before .before .before .before in
+    let r = d .before .before .before .before .before .before .before .before .before .before in
+    let s = r .before .before .before .before .before .before .before .before .before .before in
+    copy-room (s .args .file .now) (s .pre .0) (s .args .following .now) _ _ _ (l .lay-standing .ensures .0)
+    (l .lay-standing .ensures .1) (s .pre .6)
 
 same-length : tie.Need-same-length
 same-length c = search needs
@@ -65,19 +63,23 @@ same-length-7 c = search needs
 
 returns : tie.Need-returns
 returns c =
-    let copied = c .before .before .copy in
-    let stand = c .before .before .before .before .before .before .before .lay-standing in
-    let up = c .before .before .before .before .before .before .before .before .before .before .before .count-up in
-    let wire = c .before .before .before .before .before .before .before .before .before .before .before .before .before .before .before .lay-wires in
-    let outs = c .before .before .before .before .before .before .before .before .before .before .before .before .before .before .before .before .before .before .before .lay-outputs in
-    let zero = c .before .before .before .before .before .before .before .before .before .before .before .before .before .before .before .before .before .before .before .before .before .before .before .zeros in
-    let row = c .before .before .before .before .before .before .before .before .before .before .before .before .before .before .before .before .before .before .before .before .before .before .before .before .before .before .before .lay-components in
-    let s = c .before .before .before .before .before .before .before .before .before .before .before .before .before .before .before .before .before .before .before .before .before .before .before .before .before .before .before .before .before .before .before .before .before .before .before .before .before in
+    let copied = c .before .before in
+    let stand = copied .before .before .before .before .before in
+    let up = stand .before .before .before .before in
+    let wire = up .before .before .before .before in
+    let outs = wire .before .before .before .before in
+    let zero = outs .before .before .before .before in
+    let row = zero .before .before .before .before in
+    let s = row .before .before .before .before .before .before .before .before .before .before in
     let a = s .args in
     filled (a .file .now) (s .pre .0)
-    (tablesOf (a .components .now) (a .inputs .now) (a .outputs .now) (a .wires .now) (a .current .now) (a .following .now) (a .standing .now) _)
-    (s .pre .2) (s .pre .5) (row .result) (row .ensures .1) _ _ _ _ _ _ _ (wire .result) (stand .result)
-    (row .ensures .0) (zero .ensures) (outs .ensures) (wire .ensures .0) (wire .ensures .1) (up .ensures) (stand .ensures .0) (stand .ensures .1) (copied .ensures)
+    (tablesOf (a .components .now) (a .inputs .now) (a .outputs .now) (a .wires .now) (a .current .now)
+    (a .following .now)
+    (a .standing .now) _)
+    (s .pre .2) (s .pre .5) (row .lay-components .result) (row .lay-components .ensures .1) _ _ _ _ _ _ _
+    (wire .lay-wires .result) (stand .lay-standing .result) (row .lay-components .ensures .0) (zero .zeros .ensures)
+    (outs .lay-outputs .ensures) (wire .lay-wires .ensures .0) (wire .lay-wires .ensures .1) (up .count-up .ensures)
+    (stand .lay-standing .ensures .0) (stand .lay-standing .ensures .1) (copied .copy .ensures)
 
 pub fill-spec : {M : Type 1} → statement M
 fill-spec =

@@ -9,8 +9,6 @@ use Rattle.lists.specs.Lists.{from}
 use Rattle.load.proofs.LayingLaws.{numbers-step}
 use Rattle.load.proofs.names.count_up.Statement.{statement}
 use Rattle.load.proofs.names.count_up.Tie as tie
-use Rattle.load.proofs.names.count_up.Reads as reads
-use Rattle.load.proofs.names.count_up.Lts as lts
 
 abbrev Inv-loop : tie.InvT-loop
 Inv-loop list₀ count i₀ list i = (i ≤ count) × (length list ≡ length list₀) × (list ≡ sets list₀ 0 (from 0 i))

@@ -11,10 +11,6 @@ use Rattle.load.proofs.NamesLaws.{flat-next, flat-same, flat-few, flat-
 use borrow.Author.Needs.{needs}
 use Rattle.load.proofs.names.index_flat.Statement.{statement}
 use Rattle.load.proofs.names.index_flat.Tie as tie
-use Rattle.load.proofs.names.index_flat.Reads as reads
-use Rattle.load.proofs.names.index_flat.Lts as lts
-use Rattle.component.proofs.is_primitive.Reads as is-primitive-reads
-use Rattle.component.proofs.record_at.Reads as record-at-reads
 
 abbrev Inv-loop : tie.InvT-loop
 Inv-loop file flat₀ count₀ c₀ flat count c =
@@ -57,10 +53,23 @@ loop-again c =
     let file = c .before .before .before .before .before .before .before .args .file .now in
     let e : isPrimitive (recordAt file (l .c)) ≡ c .before .is-primitive .result =
     sym (c .before .is-primitive .ensures ∙ ap isPrimitive (c .before .before .record-at .ensures)) in
-    let words = flat-word (recordAt file) (recordCount file) (l .flat) (l .c) (l .count) (omega arith) (l .inv .2) (l .inv .3) in
+    let words = flat-word (recordAt file) (recordCount file) (l .flat) (l .c) (l .count) (omega arith) (l .inv .2)
+    (l .inv .3) in
     ⊎-elim
-    (λ w. (omega arith, simp length-set (l .inv .1), w .1 ∙ flat-next (recordAt file) (recordCount file) (l .c) (l .count) (e ∙ w .0 .taken) (l .inv .2), words))
-    (λ w. (omega arith, simp length-set (l .inv .1), w .1 ∙ flat-same (recordAt file) (recordCount file) (l .c) (l .count) (e ∙ w .0 .left) (l .inv .2), words))
+    (λ w. (
+      omega arith,
+      simp length-set (l .inv .1),
+      w .1 ∙ flat-next (recordAt file) (recordCount file) (l .c)
+          (l .count) (e ∙ w .0 .taken) (l .inv .2),
+      words,
+    ))
+    (λ w. (
+      omega arith,
+      simp length-set (l .inv .1),
+      w .1 ∙ flat-same (recordAt file) (recordCount file) (l .c)
+          (l .count) (e ∙ w .0 .left) (l .inv .2),
+      words,
+    ))
     (c .if1 .came)
 
 same-length : tie.Need-same-length Inv-loop μ-loop

@@ -11,10 +11,6 @@ use Rattle.load.proofs.NamesLaws.{standing-requires, standing-component
 use borrow.Author.Needs.{needs}
 use Rattle.load.proofs.names.lay_standing.Statement.{statement}
 use Rattle.load.proofs.names.lay_standing.Tie as tie
-use Rattle.load.proofs.names.lay_standing.Reads as reads
-use Rattle.load.proofs.names.lay_standing.Lts as lts
-use Rattle.load.proofs.names.stand.Reads as stand-reads
-use Rattle.load.proofs.rows.drawn_at.Reads as drawn-at-reads
 
 abbrev Inv-loop : tie.InvT-loop
 Inv-loop file standing₀ n stood₀ p₀ standing stood p =
@@ -34,7 +30,8 @@ stand-requires : tie.Need-stand-requires Inv-loop μ-loop
 stand-requires c κs =
     let l = c .before .before .before .loop in
     let s = c .before .before .before .before .before .before in
-    standing-requires (s .args .file .now) (s .pre .0) (s .args .standing .now) (s .pre .1) (l .p) (l .standing) (l .stood) (l .inv .1) (l .inv .2)
+    standing-requires (s .args .file .now) (s .pre .0) (s .args .standing .now) (s .pre .1) (l .p) (l .standing)
+    (l .stood) (l .inv .1) (l .inv .2)
     _ (c .drawn-at .ensures) (c .before .before .loop-test .taken)
 
 add-p : tie.Need-add-p Inv-loop μ-loop
@@ -49,9 +46,11 @@ loop-again c =
     let l = b .before .before .before .before .loop in
     let s = b .before .before .before .before .before .before .before in (
       omega arith,
-      standing-components (s .args .file .now) (s .pre .0) (s .args .standing .now) (s .pre .1) (l .p) (l .standing) (l .stood) (l .inv .1) (l .inv .2)
+      standing-components (s .args .file .now) (s .pre .0) (s .args .standing .now) (s .pre .1) (l .p) (l .standing)
+          (l .stood) (l .inv .1) (l .inv .2)
           _ (b .before .drawn-at .ensures) _ _ (b .stand .ensures .0) (b .stand .ensures .1),
-      standing-step (s .args .file .now) (s .pre .0) (s .args .standing .now) (s .pre .1) (l .p) (l .standing) (l .stood) (l .inv .1) (l .inv .2)
+      standing-step (s .args .file .now) (s .pre .0) (s .args .standing .now) (s .pre .1) (l .p) (l .standing)
+          (l .stood) (l .inv .1) (l .inv .2)
           _ (b .before .drawn-at .ensures) _ _ (b .stand .ensures .0) (b .stand .ensures .1),
     )
 
@@ -62,7 +61,8 @@ returns : tie.Need-returns Inv-loop μ-loop
 returns c =
     let l = c .before .loop in
     let s = c .before .before .before .before in
-    standing-end (s .args .file .now) (s .pre .0) (s .args .standing .now) (s .pre .1) (l .p) (l .standing) (l .stood) (l .inv .1) (l .inv .2) (omega arith)
+    standing-end (s .args .file .now) (s .pre .0) (s .args .standing .now) (s .pre .1) (l .p) (l .standing) (l .stood)
+    (l .inv .1) (l .inv .2) (omega arith)
 
 pub lay-standing-spec : {M : Type 1} → statement M
 lay-standing-spec =

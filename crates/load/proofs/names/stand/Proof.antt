@@ -4,9 +4,6 @@ use Rattle.load.proofs.NamesLaws.{stand-not, stand-room, stand-laid}
 use borrow.Author.Needs.{needs}
 use Rattle.load.proofs.names.stand.Statement.{statement}
 use Rattle.load.proofs.names.stand.Tie as tie
-use Rattle.load.proofs.names.stand.Reads as reads
-use Rattle.load.proofs.names.stand.Lts as lts
-use Rattle.load.proofs.names.stands.Reads as stands-reads
 
 enum-known-drawn : tie.Need-enum-known-drawn
 enum-known-drawn c = search needs
@@ -26,7 +23,8 @@ add-t9 c = search needs
 returns-2 : tie.Need-returns-2
 returns-2 c =
     let a = c .before .before .before .before .before .before .args in
-    stand-not _ _ (a .stood) (a .drawn) (c .before .before .before .drawn .given .1) _ (c .before .stands .ensures) (a .standing .now) (c .if1 .taken)
+    stand-not _ _ (a .stood) (a .drawn) (c .before .before .before .drawn .given .1) _ (c .before .stands .ensures)
+    (a .standing .now) (c .if1 .taken)
 
 cast-standing : tie.Need-cast-standing
 cast-standing c = search needs
@@ -37,7 +35,8 @@ mul-standing c = search needs
 slice-write-standing : tie.Need-slice-write-standing
 slice-write-standing c =
     let s = c .before .before .before .before .before .before in
-    stand-room _ _ (s .args .stood) (s .args .drawn) (c .before .before .before .drawn .given .1) _ (c .before .stands .ensures) (s .args .standing .now) (c .if1 .left) (s .pre .0)
+    stand-room _ _ (s .args .stood) (s .args .drawn) (c .before .before .before .drawn .given .1) _
+    (c .before .stands .ensures) (s .args .standing .now) (c .if1 .left) (s .pre .0)
 
 add-t11 : tie.Need-add-t11
 add-t11 c = search needs
@@ -51,7 +50,8 @@ same-length c = search needs
 returns-3 : tie.Need-returns-3
 returns-3 c =
     let a = c .before .before .before .before .before .before .args in
-    stand-laid _ _ (a .stood) (a .drawn) (c .before .before .before .drawn .given .1) _ (c .before .stands .ensures) (a .standing .now) (c .if1 .left)
+    stand-laid _ _ (a .stood) (a .drawn) (c .before .before .before .drawn .given .1) _ (c .before .stands .ensures)
+    (a .standing .now) (c .if1 .left)
 
 pub stand-spec : {M : Type 1} → statement M
 stand-spec =

@@ -3,9 +3,6 @@
 use borrow.Author.Needs.{needs}
 use Rattle.load.proofs.names.stands.Statement.{statement}
 use Rattle.load.proofs.names.stands.Tie as tie
-use Rattle.load.proofs.names.stands.Reads as reads
-use Rattle.load.proofs.names.stands.Lts as lts
-use Rattle.primitive.proofs.number_of.Reads as number-of-reads
 
 number-of-requires : tie.Need-number-of-requires
 number-of-requires c κs = search needs

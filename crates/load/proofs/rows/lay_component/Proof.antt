@@ -4,10 +4,6 @@ use Rattle.load.proofs.RowsLaws.{row-room, row-laid}
 use borrow.Author.Needs.{needs}
 use Rattle.load.proofs.rows.lay_component.Statement.{statement}
 use Rattle.load.proofs.rows.lay_component.Tie as tie
-use Rattle.load.proofs.rows.lay_component.Reads as reads
-use Rattle.load.proofs.rows.lay_component.Lts as lts
-use Rattle.load.proofs.rows.wide.Reads as wide-reads
-use Rattle.load.proofs.rows.write_row.Reads as write-row-reads
 
 enum-known-drawn : tie.Need-enum-known-drawn
 enum-known-drawn c = search needs
@@ -24,7 +20,8 @@ mul-write-row c = search needs
 write-row-requires : tie.Need-write-row-requires
 write-row-requires c κs =
     let s = c .before .before .before .before .before .before in
-    row-room _ _ (s .args .before) (s .args .drawn) (c .before .before .before .drawn .given .1) (s .args .components .now) (s .pre .0)
+    row-room _ _ (s .args .before) (s .args .drawn) (c .before .before .before .drawn .given .1)
+    (s .args .components .now) (s .pre .0)
 
 add-t9 : tie.Need-add-t9
 add-t9 c = search needs
@@ -48,7 +45,8 @@ returns-2 : tie.Need-returns-2
 returns-2 c =
     let b = c .before .before .before .before .before .before .before in
     let s = b .before .before .before .before .before .before .before in
-    row-laid _ _ (s .args .before) (s .args .drawn) (b .before .before .before .before .drawn .given .1) (s .args .components .now) _ _ _
+    row-laid _ _ (s .args .before) (s .args .drawn) (b .before .before .before .before .drawn .given .1)
+    (s .args .components .now) _ _ _
     (b .write-row .ensures) (c .before .before .before .wide .ensures .0) (c .before .wide2 .ensures .0)
 
 pub lay-component-spec : {M : Type 1} → statement M

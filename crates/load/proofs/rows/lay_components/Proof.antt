@@ -10,10 +10,6 @@ use Rattle.load.proofs.RowsLaws.{rows-requires, rows-before, rows-step,
 use borrow.Author.Needs.{needs}
 use Rattle.load.proofs.rows.lay_components.Statement.{statement}
 use Rattle.load.proofs.rows.lay_components.Tie as tie
-use Rattle.load.proofs.rows.lay_components.Reads as reads
-use Rattle.load.proofs.rows.lay_components.Lts as lts
-use Rattle.load.proofs.rows.drawn_at.Reads as drawn-at-reads
-use Rattle.load.proofs.rows.lay_component.Reads as lay-component-reads
 
 abbrev Inv-loop : tie.InvT-loop
 Inv-loop file components₀ n before₀ p₀ components before p =
@@ -33,7 +29,8 @@ lay-component-requires : tie.Need-lay-component-requires Inv-loop μ-loop
 lay-component-requires c κs =
     let l = c .before .before .before .loop in
     let s = c .before .before .before .before .before .before in
-    rows-requires (s .args .file .now) (s .pre .0) (s .args .components .now) (s .pre .1) (l .p) (l .components) (l .before) (l .inv .1) (l .inv .2)
+    rows-requires (s .args .file .now) (s .pre .0) (s .args .components .now) (s .pre .1) (l .p) (l .components)
+    (l .before) (l .inv .1) (l .inv .2)
     _ (c .drawn-at .ensures) (c .before .before .loop-test .taken)
 
 add-p : tie.Need-add-p Inv-loop μ-loop
@@ -48,11 +45,15 @@ loop-again c =
     let l = b .before .before .before .before .loop in
     let s = b .before .before .before .before .before .before .before in
     let before =
-    rows-before (s .args .file .now) (s .pre .0) (s .args .components .now) (s .pre .1) (l .p) (l .components) (l .before) (l .inv .1) (l .inv .2)
-    _ (b .before .drawn-at .ensures) (b .before .before .before .loop-test .taken) _ _ (b .lay-component .ensures .0) (b .lay-component .ensures .1) in
+    rows-before (s .args .file .now) (s .pre .0) (s .args .components .now) (s .pre .1) (l .p) (l .components)
+    (l .before) (l .inv .1) (l .inv .2)
+    _ (b .before .drawn-at .ensures) (b .before .before .before .loop-test .taken) _ _ (b .lay-component .ensures .0)
+    (b .lay-component .ensures .1) in
     let laid =
-    rows-step (s .args .file .now) (s .pre .0) (s .args .components .now) (s .pre .1) (l .p) (l .components) (l .before) (l .inv .1) (l .inv .2)
-    _ (b .before .drawn-at .ensures) (b .before .before .before .loop-test .taken) _ _ (b .lay-component .ensures .0) (b .lay-component .ensures .1) in
+    rows-step (s .args .file .now) (s .pre .0) (s .args .components .now) (s .pre .1) (l .p) (l .components) (l .before)
+    (l .inv .1) (l .inv .2)
+    _ (b .before .drawn-at .ensures) (b .before .before .before .loop-test .taken) _ _ (b .lay-component .ensures .0)
+    (b .lay-component .ensures .1) in
     (omega arith, before, laid)
 
 same-length : tie.Need-same-length Inv-loop μ-loop
@@ -62,7 +63,8 @@ returns : tie.Need-returns Inv-loop μ-loop
 returns c =
     let l = c .before .loop in
     let s = c .before .before .before .before in
-    rows-end (s .args .file .now) (s .pre .0) (s .args .components .now) (s .pre .1) (l .p) (l .components) (l .before) (l .inv .1) (l .inv .2)
+    rows-end (s .args .file .now) (s .pre .0) (s .args .components .now) (s .pre .1) (l .p) (l .components) (l .before)
+    (l .inv .1) (l .inv .2)
     (omega arith)
 
 pub lay-components-spec : {M : Type 1} → statement M

@@ -4,11 +4,6 @@ use Rattle.load.proofs.PortsLaws.{outputs-none, const-room, const-laid,
 use borrow.Author.Needs.{needs}
 use Rattle.load.proofs.rows.lay_output.Statement.{statement}
 use Rattle.load.proofs.rows.lay_output.Tie as tie
-use Rattle.load.proofs.rows.lay_output.Reads as reads
-use Rattle.load.proofs.rows.lay_output.Lts as lts
-use Rattle.load.proofs.rows.wide.Reads as wide-reads
-use Rattle.load.proofs.rows.zeros.Reads as zeros-reads
-use Rattle.primitive.proofs.number_of.Reads as number-of-reads
 
 enum-known-drawn : tie.Need-enum-known-drawn
 enum-known-drawn c = search needs
@@ -30,7 +25,8 @@ mul-outputs c = search needs
 slice-write-outputs : tie.Need-slice-write-outputs
 slice-write-outputs c =
     let s = c .before .before .before .before .before .before .before in
-    const-room _ _ (s .args .drawn) (c .before .before .before .before .drawn .given .1) _ (c .before .before .number-of .ensures) (s .args .outputs .now) (s .args .at) (c .if1 .taken) (s .pre)
+    const-room _ _ (s .args .drawn) (c .before .before .before .before .drawn .given .1) _
+    (c .before .before .number-of .ensures) (s .args .outputs .now) (s .args .at) (c .if1 .taken) (s .pre)
 
 add-result : tie.Need-add-result
 add-result c = search needs
@@ -41,7 +37,8 @@ same-length c = search needs
 returns-2 : tie.Need-returns-2
 returns-2 c =
     let s = c .before .before .before .before .before .before .before in
-    const-laid _ _ (s .args .drawn) (c .before .before .before .before .drawn .given .1) _ (c .before .before .number-of .ensures) (s .args .outputs .now) (s .args .at) (c .if1 .taken)
+    const-laid _ _ (s .args .drawn) (c .before .before .before .before .drawn .given .1) _
+    (c .before .before .number-of .ensures) (s .args .outputs .now) (s .args .at) (c .if1 .taken)
 
 wide-requires : tie.Need-wide-requires
 wide-requires c κs = search needs
@@ -49,7 +46,9 @@ wide-requires c κs = search needs
 zeros-requires : tie.Need-zeros-requires
 zeros-requires c κs =
     let s = c .before .before .before .before .before .before .before .before .before in
-    zeros-room _ _ (s .args .drawn) (c .before .before .before .before .before .before .drawn .given .1) _ (c .before .before .before .before .number-of .ensures) (s .args .outputs .now) (s .args .at) (c .before .before .if1 .left)
+    zeros-room _ _ (s .args .drawn) (c .before .before .before .before .before .before .drawn .given .1) _
+    (c .before .before .before .before .number-of .ensures) (s .args .outputs .now) (s .args .at)
+    (c .before .before .if1 .left)
     _ (c .before .wide .ensures .0) (s .pre)
 
 add-result-2 : tie.Need-add-result-2
@@ -62,7 +61,8 @@ returns-3 : tie.Need-returns-3
 returns-3 c =
     let b = c .before .before .before in
     let s = b .before .before .before .before .before .before .before .before .before in
-    zeros-laid _ _ (s .args .drawn) (b .before .before .before .before .before .before .drawn .given .1) _ (b .before .before .before .before .number-of .ensures) (s .args .outputs .now) (s .args .at)
+    zeros-laid _ _ (s .args .drawn) (b .before .before .before .before .before .before .drawn .given .1) _
+    (b .before .before .before .before .number-of .ensures) (s .args .outputs .now) (s .args .at)
     (b .before .before .if1 .left) _ (b .before .wide .ensures .0) _ (c .before .before .zeros .ensures)
 
 pub lay-output-spec : {M : Type 1} → statement M

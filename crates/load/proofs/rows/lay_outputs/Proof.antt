@@ -9,10 +9,6 @@ use Rattle.load.proofs.PortsLaws.{outputs-requires, outputs-step, outpu
 use borrow.Author.Needs.{needs}
 use Rattle.load.proofs.rows.lay_outputs.Statement.{statement}
 use Rattle.load.proofs.rows.lay_outputs.Tie as tie
-use Rattle.load.proofs.rows.lay_outputs.Reads as reads
-use Rattle.load.proofs.rows.lay_outputs.Lts as lts
-use Rattle.load.proofs.rows.drawn_at.Reads as drawn-at-reads
-use Rattle.load.proofs.rows.lay_output.Reads as lay-output-reads
 
 abbrev Inv-loop : tie.InvT-loop
 Inv-loop file outputs₀ n at₀ p₀ outputs at p =
@@ -31,7 +27,8 @@ lay-output-requires : tie.Need-lay-output-requires Inv-loop μ-loop
 lay-output-requires c κs =
     let l = c .before .before .before .loop in
     let s = c .before .before .before .before .before .before in
-    outputs-requires (s .args .file .now) (s .pre .0) (s .args .outputs .now) (s .pre .1) (l .p) (l .outputs) (l .at) (l .inv .1)
+    outputs-requires (s .args .file .now) (s .pre .0) (s .args .outputs .now) (s .pre .1) (l .p) (l .outputs) (l .at)
+    (l .inv .1)
     _ (c .drawn-at .ensures) (c .before .before .loop-test .taken)
 
 add-p : tie.Need-add-p Inv-loop μ-loop
@@ -46,7 +43,8 @@ loop-again c =
     let l = b .before .before .before .before .loop in
     let s = b .before .before .before .before .before .before .before in (
       omega arith,
-      outputs-step (s .args .file .now) (s .pre .0) (s .args .outputs .now) (s .pre .1) (l .p) (l .outputs) (l .at) (l .inv .1)
+      outputs-step (s .args .file .now) (s .pre .0) (s .args .outputs .now) (s .pre .1) (l .p) (l .outputs) (l .at)
+          (l .inv .1)
           _ (b .before .drawn-at .ensures) _ _ (b .lay-output .ensures .0) (b .lay-output .ensures .1),
     )
 
@@ -57,7 +55,8 @@ returns : tie.Need-returns Inv-loop μ-loop
 returns c =
     let l = c .before .loop in
     let s = c .before .before .before .before in
-    outputs-end (s .args .file .now) (s .pre .0) (s .args .outputs .now) (s .pre .1) (l .p) (l .outputs) (l .at) (l .inv .1) (omega arith)
+    outputs-end (s .args .file .now) (s .pre .0) (s .args .outputs .now) (s .pre .1) (l .p) (l .outputs) (l .at)
+    (l .inv .1) (omega arith)
 
 pub lay-outputs-spec : {M : Type 1} → statement M
 lay-outputs-spec =

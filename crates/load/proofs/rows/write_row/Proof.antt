@@ -7,8 +7,6 @@ use Rattle.load.proofs.LayingLaws.{stores-entry}
 use borrow.Author.Needs.{needs}
 use Rattle.load.proofs.rows.write_row.Statement.{statement}
 use Rattle.load.proofs.rows.write_row.Tie as tie
-use Rattle.load.proofs.rows.write_row.Reads as reads
-use Rattle.load.proofs.rows.write_row.Lts as lts
 
 cast-components : tie.Need-cast-components
 cast-components c = search needs

@@ -8,8 +8,6 @@ use lib.Seq.{sets}
 use Rattle.load.proofs.LayingLaws.{zeros-step}
 use Rattle.load.proofs.rows.zeros.Statement.{statement}
 use Rattle.load.proofs.rows.zeros.Tie as tie
-use Rattle.load.proofs.rows.zeros.Reads as reads
-use Rattle.load.proofs.rows.zeros.Lts as lts
 
 abbrev Inv-loop : tie.InvT-loop
 Inv-loop ports₀ at count i₀ ports i =

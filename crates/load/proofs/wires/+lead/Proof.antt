@@ -1,13 +1,12 @@
--- `lead`: the depth left falls at every call. The invariant is `Leading`: what is written and what the maps to come give is what the
--- input gives.
+-- `lead`: the depth left falls at every call. The invariant is `Leading`: what is written and what the maps to come
+-- give is what the input gives.
 -- Assumes nothing.
 use mathlib.Core.Logic.{⊎-elim}
-use Prim.Native.Nat.{_-_}
 use native.Mathlib.Omega.{arith}
 use Rattle.load.proofs.WiresLaws.{Leading, lead-bottom, lead-room, lead-here, primitive-number}
 use Rattle.load.proofs.WiresLaws.{leading-start, leading-room, leading-to, leading-nothing, leading-end}
 use borrow.Author.Needs.{needs}
-use Prim.Native.Nat.{ℕ, _<_}
+use Prim.Native.Nat.{ℕ, _-_, _<_}
 use borrow.Fn.Kinds.{In}
 use borrow.Fn.PlainCycle.{Measures, is, falls, and}
 use Rattle.load.proofs.wires.lead.Reads as lead
@@ -17,13 +16,13 @@ use Rattle.component.proofs.is_primitive.Reads as is-primitive-reads
 use Rattle.component.proofs.record_at.Reads as record-at-reads
 use Rattle.flatten.proofs.enter.Reads as enter-reads
 use Rattle.flatten.proofs.stretch_of.Reads as stretch-of-reads
-use Rattle.load.proofs.wires.flat_of.Reads as flat-of-reads
+use Rattle.load.proofs.wires.flat_pin.Reads as flat-pin-reads
 use Rattle.load.proofs.wires.write_wire.Reads as write-wire-reads
 use Rattle.load.proofs.wires.+lead.{statement}
 use Rattle.load.proofs.wires.+lead.Tie.{close}
 
 abbrev μ-lead : Measures 6 lead-kinds.ps ℕ
-μ-lead κs a = a .1 .1 .1 .1 .1 .1 .0
+μ-lead κs a = a .1 .1 .1 .1 .1 .1 .1 .0 .depth
 
 abbrev lead-at : ℕ → In 6 lead-kinds.ps
 lead-at t = and 6 lead-kinds.ps (is 6 lead-kinds.ps μ-lead t) lead.Pre
@@ -32,49 +31,80 @@ abbrev lead-below : ℕ → In 6 lead-kinds.ps
 lead-below t = and 6 lead-kinds.ps (falls 6 lead-kinds.ps _<_ μ-lead t) lead.Pre
 
 abbrev lead-claims : ℕ → lead-lts.Claims
-lead-claims t = (record-at-reads.Asked, record-at-reads.Learnt, is-primitive-reads.Asked, is-primitive-reads.Learnt, flat-of-reads.Asked, flat-of-reads.Learnt, write-wire-reads.Asked, write-wire-reads.Learnt, stretch-of-reads.Asked, stretch-of-reads.Learnt, enter-reads.Asked, enter-reads.Learnt, lead-below t, lead.Post)
+lead-claims t = (
+  record-at-reads.Asked,
+  record-at-reads.Learnt,
+  is-primitive-reads.Asked,
+  is-primitive-reads.Learnt,
+  flat-pin-reads.Asked,
+  flat-pin-reads.Learnt,
+  write-wire-reads.Asked,
+  write-wire-reads.Learnt,
+  stretch-of-reads.Asked,
+  stretch-of-reads.Learnt,
+  enter-reads.Asked,
+  enter-reads.Learnt,
+  lead-below t,
+  lead.Post,
+)
 
 abbrev lead-Inv-loop : lead-lts.InvT-loop
-lead-Inv-loop file n children lo hi indexes depth c i from output wires₀ at end place₀ q₀ wires place q =
-    Leading file n depth c i (from .0) output wires₀ at q end wires place
+lead-Inv-loop file n children lo hi indexes from goal wires₀ at end depth place₀ q₀ wires place q =
+    Leading file n (goal .depth) (goal .comp) (goal .port) from wires₀ at q end wires place
 
 abbrev lead-μ-loop : lead-lts.MeasureT-loop
-lead-μ-loop file n children lo hi indexes depth c i from output wires₀ at end place₀ q₀ wires place q =
+lead-μ-loop file n children lo hi indexes from goal wires₀ at end depth place₀ q₀ wires place q =
     end - q
 
 lead-returns : (t : ℕ) → lead-lts.Need-returns (lead-claims t) (lead-at t) lead.Post lead-Inv-loop lead-μ-loop
 lead-returns t c = search (lead-bottom)
 
-lead-record-at-requires : (t : ℕ) → lead-lts.Need-record-at-requires (lead-claims t) (lead-at t) lead.Post lead-Inv-loop lead-μ-loop
+lead-record-at-requires : (t : ℕ)
+    → lead-lts.Need-record-at-requires (lead-claims t) (lead-at t) lead.Post lead-Inv-loop lead-μ-loop
 lead-record-at-requires t c κs = search needs
 
-lead-is-primitive-requires : (t : ℕ) → lead-lts.Need-is-primitive-requires (lead-claims t) (lead-at t) lead.Post lead-Inv-loop lead-μ-loop
+lead-is-primitive-requires : (t : ℕ)
+    → lead-lts.Need-is-primitive-requires (lead-claims t) (lead-at t) lead.Post lead-Inv-loop lead-μ-loop
 lead-is-primitive-requires t c κs = search needs
 
-lead-flat-of-requires : (t : ℕ) → lead-lts.Need-flat-of-requires (lead-claims t) (lead-at t) lead.Post lead-Inv-loop lead-μ-loop
-lead-flat-of-requires t c κs =
-    let s = c .before .before .before .before .before .before .before .before .before .before .before in
-    (s .pre .1 .0 .indexes, primitive-number _ _ _ _ _ _ _ _ _ (s .pre .1 .0) (c .before .before .before .record-at .ensures) (c .before .before .is-primitive .ensures) (c .before .if2 .taken))
+lead-flat-pin-requires : (t : ℕ)
+    → lead-lts.Need-flat-pin-requires (lead-claims t) (lead-at t) lead.Post lead-Inv-loop lead-μ-loop
+lead-flat-pin-requires t c κs =
+    let s = c .before .before .before .before .before .before .before .before .before .before .before in (
+      s .pre .1 .0 .indexes,
+      primitive-number _ _ _ _ _ _ _ _ _ (s .pre .1 .0) (c .before .before .record-at .ensures)
+          (c .before .is-primitive .ensures)
+          (c .if2 .taken),
+    )
 
-lead-write-wire-requires : (t : ℕ) → lead-lts.Need-write-wire-requires (lead-claims t) (lead-at t) lead.Post lead-Inv-loop lead-μ-loop
+lead-write-wire-requires : (t : ℕ)
+    → lead-lts.Need-write-wire-requires (lead-claims t) (lead-at t) lead.Post lead-Inv-loop lead-μ-loop
 lead-write-wire-requires t c κs =
-    let s = c .before .before .before .before .before .before .before .before .before .before .before .before in
+    let d = c .before .before .before .before .before in
+    let s = d .before .before .before .before .before .before .before .before in
     let a = s .args in (
-      lead-room (a .file .now) (a .n) (a .depth) (a .c) (a .i) (a .from .0) (a .output) (a .wires .now) (a .at) _ _
-          (c .before .before .before .before .before .if1 .left) (c .before .before .before .before .record-at .ensures) (c .before .before .before .is-primitive .ensures) (c .before .before .if2 .taken) (s .pre .1 .1 .1),
+      lead-room (a .file .now) (a .n) (a .goal .depth) (a .goal .comp) (a .goal .port) (a .from) (a .wires .now) (a .at)
+          _ _
+          (d .if1 .left) (c .before .before .before .before .record-at .ensures)
+          (c .before .before .before .is-primitive .ensures)
+          (c .before .before .if2 .taken) (s .pre .1 .1 .1),
       s .pre .1 .1 .0,
-      c .flat-of .ensures .1,
+      c .before .flat-pin .ensures .1,
     )
 
 lead-add-result : (t : ℕ) → lead-lts.Need-add-result (lead-claims t) (lead-at t) lead.Post lead-Inv-loop lead-μ-loop
 lead-add-result t c =
-    let s = c .before .before .before .before .before .before .before .before .before .before .before .before .before .before .before in
+    let w = c .before .before .before .before .before in
+    let d = w .before .before .before in
+    let s = d .before .before .before .before .before .before .before .before in
     let a = s .args in
     omega (
       arith,
-      lead-room (a .file .now) (a .n) (a .depth) (a .c) (a .i) (a .from .0) (a .output) (a .wires .now) (a .at) _ _
-          (c .before .before .before .before .before .before .before .before .if1 .left) (c .before .before .before .before .before .before .before .record-at .ensures) (c .before .before .before .before .before .before .is-primitive .ensures) (c .before .before .before .before .before .if2 .taken) (s .pre .1 .1 .1),
-      s .good .1 .1 .1 .1 .1 .1 .1 .1 .1 .1 .1 .0,
+      lead-room (a .file .now) (a .n) (a .goal .depth) (a .goal .comp) (a .goal .port) (a .from) (a .wires .now) (a .at)
+          _ _
+          (d .if1 .left) (w .before .before .record-at .ensures) (w .before .is-primitive .ensures) (w .if2 .taken)
+          (s .pre .1 .1 .1),
+      s .good .1 .1 .1 .1 .1 .1 .1 .1 .0,
     )
 
 lead-same-length : (t : ℕ) → lead-lts.Need-same-length (lead-claims t) (lead-at t) lead.Post lead-Inv-loop lead-μ-loop
@@ -83,33 +113,41 @@ lead-same-length t c = search needs
 lead-returns-2 : (t : ℕ) → lead-lts.Need-returns-2 (lead-claims t) (lead-at t) lead.Post lead-Inv-loop lead-μ-loop
 lead-returns-2 t c = search (lead-here)
 
-lead-stretch-of-requires : (t : ℕ) → lead-lts.Need-stretch-of-requires (lead-claims t) (lead-at t) lead.Post lead-Inv-loop lead-μ-loop
+lead-stretch-of-requires : (t : ℕ)
+    → lead-lts.Need-stretch-of-requires (lead-claims t) (lead-at t) lead.Post lead-Inv-loop lead-μ-loop
 lead-stretch-of-requires t c κs = search needs
+
+lead-sub-depth : (t : ℕ) → lead-lts.Need-sub-depth (lead-claims t) (lead-at t) lead.Post lead-Inv-loop lead-μ-loop
+lead-sub-depth t c = search needs
 
 lead-loop-holds : (t : ℕ) → lead-lts.Need-loop-holds (lead-claims t) (lead-at t) lead.Post lead-Inv-loop lead-μ-loop
 lead-loop-holds t c = search (leading-start)
 
-lead-enter-requires : (t : ℕ) → lead-lts.Need-enter-requires (lead-claims t) (lead-at t) lead.Post lead-Inv-loop lead-μ-loop
+lead-enter-requires : (t : ℕ)
+    → lead-lts.Need-enter-requires (lead-claims t) (lead-at t) lead.Post lead-Inv-loop lead-μ-loop
 lead-enter-requires t c κs = search needs
 
-lead-enum-known-to : (t : ℕ) → lead-lts.Need-enum-known-to (lead-claims t) (lead-at t) lead.Post lead-Inv-loop lead-μ-loop
-lead-enum-known-to t c = search needs
+lead-enum-known-comp : (t : ℕ)
+    → lead-lts.Need-enum-known-comp (lead-claims t) (lead-at t) lead.Post lead-Inv-loop lead-μ-loop
+lead-enum-known-comp t c = search needs
 
-lead-sub-lead : (t : ℕ) → lead-lts.Need-sub-lead (lead-claims t) (lead-at t) lead.Post lead-Inv-loop lead-μ-loop
-lead-sub-lead t c = search needs
-
-lead-lead-requires : (t : ℕ) → lead-lts.Need-lead-requires (lead-claims t) (lead-at t) lead.Post lead-Inv-loop lead-μ-loop
+lead-lead-requires : (t : ℕ)
+    → lead-lts.Need-lead-requires (lead-claims t) (lead-at t) lead.Post lead-Inv-loop lead-μ-loop
 lead-lead-requires t c κs =
-    let s = c .before .before .before .before .before .before .before .before .before .before .before .before .before .before .before .before .before .before in
-    let a = s .args in
-    let l = c .before .before .before .before .before .before .loop in (
-      omega (arith, s .pre .0, c .before .before .before .before .before .before .before .before .before .before .before .if1 .left),
+    let l = c .before .before .before .before .before .before in
+    let d = l .before .before .before .before .before .before in
+    let s = d .before .before .before .before .before .before .before .before in
+    let a = s .args in (
+      omega (arith, s .pre .0, d .if1 .left),
       (
         s .pre .1 .0,
         (
           s .pre .1 .1 .0,
-          leading-room (a .file .now) (a .n) (a .depth) (a .c) (a .i) (a .from .0) (a .output) (a .wires .now) (a .at) (l .q) _ (l .wires) (l .place) (l .inv) _ _ _
-              (c .before .before .before .before .before .loop-test .taken) (c .before .before .to .given .1) (c .before .before .before .before .enter .ensures) (s .pre .1 .1 .1),
+          leading-room (a .file .now) (a .n) (a .goal .depth) (a .goal .comp) (a .goal .port) (a .from) (a .wires .now)
+              (a .at) (l .loop .q) _
+              (l .loop .wires) (l .loop .place) (l .loop .inv) _ _ _
+              (c .before .before .before .before .before .loop-test .taken)
+              (c .before .before .comp .given .1) (c .before .before .before .before .enter .ensures) (s .pre .1 .1 .1),
         ),
       ),
     )
@@ -125,17 +163,24 @@ lead-loop-less t c = omega arith
 
 lead-loop-again : (t : ℕ) → lead-lts.Need-loop-again (lead-claims t) (lead-at t) lead.Post lead-Inv-loop lead-μ-loop
 lead-loop-again t c =
-    let a = c .before .before .before .before .before .before .before .before .before .before .before .before .before .before .before .args in
     let l = c .before .before .before .loop in
+    let d = c .before .before .before .before .before .before .before .before .before in
+    let a = d .before .before .before .before .before .before .before .before .args in
     let taken = c .before .before .loop-test .taken in
+    let entered = c .before .enter .ensures in
     ⊎-elim
-    (λ w. rw (w .7, w .8) (leading-to (a .file .now) (a .n) (a .depth) (a .c) (a .i) (a .from .0) (a .output) (a .wires .now) (a .at) (l .q) _ (l .wires) (l .place) (l .inv) _ _ _
-    taken (w .1 .given .1) (c .before .enter .ensures) _ _ (w .4 .ensures)))
-    (λ w. rw (w .2, w .3) (leading-nothing (a .file .now) (a .n) (a .depth) (a .c) (a .i) (a .from .0) (a .output) (a .wires .now) (a .at) (l .q) _ (l .wires) (l .place) (l .inv) _
-    taken (w .1 .given .1) (c .before .enter .ensures)))
+    (λ w. rw (w .7, w .8)
+    (leading-to (a .file .now) (a .n) (a .goal .depth) (a .goal .comp) (a .goal .port) (a .from) (a .wires .now) (a .at)
+    (l .q) _ (l .wires) (l .place) (l .inv) _ _ _
+    taken (w .1 .given .1) entered _ _ (w .4 .ensures)))
+    (λ w. rw (w .2, w .3)
+    (leading-nothing (a .file .now) (a .n) (a .goal .depth) (a .goal .comp) (a .goal .port) (a .from) (a .wires .now)
+    (a .at) (l .q) _ (l .wires) (l .place) (l .inv) _
+    taken (w .1 .given .1) entered))
     (c .match .came)
 
-lead-same-length-2 : (t : ℕ) → lead-lts.Need-same-length-2 (lead-claims t) (lead-at t) lead.Post lead-Inv-loop lead-μ-loop
+lead-same-length-2 : (t : ℕ)
+    → lead-lts.Need-same-length-2 (lead-claims t) (lead-at t) lead.Post lead-Inv-loop lead-μ-loop
 lead-same-length-2 t c = c .before .loop .inv .size
 
 lead-returns-3 : (t : ℕ) → lead-lts.Need-returns-3 (lead-claims t) (lead-at t) lead.Post lead-Inv-loop lead-μ-loop
@@ -150,16 +195,16 @@ pub +lead-spec : {M : Type 1} → statement M
     (lead-returns t)
     (lead-record-at-requires t)
     (lead-is-primitive-requires t)
-    (lead-flat-of-requires t)
+    (lead-flat-pin-requires t)
     (lead-write-wire-requires t)
     (lead-add-result t)
     (lead-same-length t)
     (lead-returns-2 t)
     (lead-stretch-of-requires t)
+    (lead-sub-depth t)
     (lead-loop-holds t)
     (lead-enter-requires t)
-    (lead-enum-known-to t)
-    (lead-sub-lead t)
+    (lead-enum-known-comp t)
     (lead-lead-requires t)
     (lead-enum-told t)
     (lead-add-q t)

@@ -4,14 +4,6 @@ use Rattle.load.proofs.WiresLaws.{connect-other, source-number, connect
 use borrow.Author.Needs.{needs}
 use Rattle.load.proofs.wires.connect.Statement.{statement}
 use Rattle.load.proofs.wires.connect.Tie as tie
-use Rattle.load.proofs.wires.connect.Reads as reads
-use Rattle.load.proofs.wires.connect.Lts as lts
-use Rattle.component.proofs.child_of.Reads as child-of-reads
-use Rattle.component.proofs.record_at.Reads as record-at-reads
-use Rattle.flatten.proofs.deepest.Reads as deepest-reads
-use Rattle.flatten.proofs.source_of.Reads as source-of-reads
-use Rattle.load.proofs.wires.flat_of.Reads as flat-of-reads
-use Rattle.load.proofs.wires.lead.Reads as lead-reads
 
 record-at-requires : tie.Need-record-at-requires
 record-at-requires c κs = search needs
@@ -34,32 +26,42 @@ deepest-requires c κs = search needs
 source-of-requires : tie.Need-source-of-requires
 source-of-requires c κs = search needs
 
-flat-of-requires : tie.Need-flat-of-requires
-flat-of-requires c κs =
-    let s = c .before .before .before .before .before .before .before .before .before .before .before .before .before .before in (
+flat-pin-requires : tie.Need-flat-pin-requires
+flat-pin-requires c κs =
+    let r = c .before .before .before .before .before .before in
+    let s = r .before .before .before .before .before .before .before .before in (
       s .pre .0 .indexes,
-      source-number (s .args .file .now) (s .args .n) (s .args .p) _ _ _ _ _ _ (c .before .before .before .before .before .before .record-at .ensures) (c .before .before .before .before .owner .given .1)
-          _ _ _ (c .before .deepest .ensures) (c .before .before .child-of .ensures) (c .source-of .ensures) _ _ _ _ (s .pre .0) (s .pre .1 .1 .0),
+      source-number (s .args .file .now) (s .args .n) (s .args .p) _ _ _ _ _ _ (r .record-at .ensures)
+          (c .before .before .before .before .owner .given .1)
+          _ _ _ (c .before .deepest .ensures) (c .before .before .child-of .ensures) (c .source-of .ensures)
+          _ _ _ _ (s .pre .0) (s .pre .1 .1 .0),
     )
 
 cast-child-of-2 : tie.Need-cast-child-of-2
 cast-child-of-2 c = search needs
 
 child-of-requires-2 : tie.Need-child-of-requires-2
-child-of-requires-2 c κs = c .before .before .before .before .before .before .before .before .before .before .before .before .before .before .before .pre .0 .children
+child-of-requires-2 c κs =
+    let r = c .before .before .before .before .before .before .before in
+    r .before .before .before .before .before .before .before .before .pre .0 .children
 
 deepest-requires-2 : tie.Need-deepest-requires-2
 deepest-requires-2 c κs = search needs
 
 lead-requires : tie.Need-lead-requires
 lead-requires c κs =
-    let s = c .before .before .before .before .before .before .before .before .before .before .before .before .before .before .before .before .before .before in (
+    let f = c .before .before .before in
+    let r = f .before .before .before .before .before .before .before in
+    let s = r .before .before .before .before .before .before .before .before in (
       s .pre .0,
       (
-        c .before .before .before .flat-of .ensures .1,
-        connect-room (s .args .file .now) (s .args .n) (s .args .p) _ _ _ _ _ _ (c .before .before .before .before .before .before .before .before .before .before .record-at .ensures) (c .before .before .before .before .before .before .before .before .owner .given .1)
-            _ _ _ (c .before .before .before .before .before .deepest .ensures) (c .before .before .before .before .before .before .child-of .ensures) (c .before .before .before .before .source-of .ensures)
-            _ _ _ (c .before .deepest2 .ensures) (c .before .before .child-of2 .ensures) (c .before .before .before .flat-of .ensures .0) (s .args .wires .now) (s .args .at) (s .pre .1 .1 .1),
+        f .flat-pin .ensures .1,
+        connect-room (s .args .file .now) (s .args .n) (s .args .p) _ _ _ _ _ _ (r .record-at .ensures)
+            (f .before .before .before .before .before .owner .given .1)
+            _ _ _ (f .before .before .deepest .ensures) (f .before .before .before .child-of .ensures)
+            (f .before .source-of .ensures)
+            _ _ _ (c .before .deepest2 .ensures) (c .before .before .child-of2 .ensures) (f .flat-pin .ensures .0)
+            (s .args .wires .now) (s .args .at) (s .pre .1 .1 .1),
       ),
     )
 
@@ -68,11 +70,16 @@ same-length c = search needs
 
 returns-2 : tie.Need-returns-2
 returns-2 c =
-    let b = c .before .before .before in
-    let s = b .before .before .before .before .before .before .before .before .before .before .before .before .before .before .before .before .before .before in
-    connect-written (s .args .file .now) (s .args .n) (s .args .p) _ _ _ _ _ _ (b .before .before .before .before .before .before .before .before .before .before .record-at .ensures) (b .before .before .before .before .before .before .before .before .owner .given .1)
-    _ _ _ (b .before .before .before .before .before .deepest .ensures) (b .before .before .before .before .before .before .child-of .ensures) (b .before .before .before .before .source-of .ensures)
-    _ _ _ (b .before .deepest2 .ensures) (b .before .before .child-of2 .ensures) (b .before .before .before .flat-of .ensures .0) _ _ _ _ (c .before .before .lead .ensures)
+    let f = c .before .before .before .before .before .before in
+    let r = f .before .before .before .before .before .before .before in
+    let s = r .before .before .before .before .before .before .before .before in
+    connect-written (s .args .file .now) (s .args .n) (s .args .p) _ _ _ _ _ _ (r .record-at .ensures)
+    (f .before .before .before .before .before .owner .given .1)
+    _ _ _ (f .before .before .deepest .ensures) (f .before .before .before .child-of .ensures)
+    (f .before .source-of .ensures)
+    _ _ _ (c .before .before .before .before .deepest2 .ensures)
+    (c .before .before .before .before .before .child-of2 .ensures) (f .flat-pin .ensures .0)
+    _ _ _ _ (c .before .before .lead .ensures)
 
 pub connect-spec : {M : Type 1} → statement M
 connect-spec =
@@ -85,7 +92,7 @@ connect-spec =
     child-of-requires
     deepest-requires
     source-of-requires
-    flat-of-requires
+    flat-pin-requires
     cast-child-of-2
     child-of-requires-2
     deepest-requires-2

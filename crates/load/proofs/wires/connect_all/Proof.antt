@@ -6,12 +6,8 @@ use Rattle.component.specs.Record.{recordAt}
 use Rattle.load.specs.Laying.{wiresGiven}
 use Rattle.load.proofs.LayingLaws.{Laid, laid-start, laid-length}
 use Rattle.load.proofs.WiresLaws.{wires-requires, wires-step, wires-end}
-use borrow.Author.Needs.{needs}
 use Rattle.load.proofs.wires.connect_all.Statement.{statement}
 use Rattle.load.proofs.wires.connect_all.Tie as tie
-use Rattle.load.proofs.wires.connect_all.Reads as reads
-use Rattle.load.proofs.wires.connect_all.Lts as lts
-use Rattle.load.proofs.wires.connect.Reads as connect-reads
 
 abbrev Inv-loop : tie.InvT-loop
 Inv-loop file n children outs lo hi indexes wires₀ at₀ p₀ wires at p =
@@ -31,7 +27,8 @@ connect-requires c κs =
       s .pre .0,
       (
         s .pre .1 .0,
-        wires-requires (s .args .file .now) (s .args .n) _ _ _ _ (s .pre .0) (s .args .wires .now) (s .pre .1 .1) (l .p) (l .wires) (l .at) (l .inv .1)
+        wires-requires (s .args .file .now) (s .args .n) _ _ _ _ (s .pre .0) (s .args .wires .now) (s .pre .1 .1) (l .p)
+            (l .wires) (l .at) (l .inv .1)
             (c .before .loop-test .taken),
       ),
     )
@@ -48,7 +45,8 @@ loop-again c =
     let l = b .before .before .before .loop in
     let s = b .before .before .before .before .before .before .before .before .before .before .before in (
       omega (arith, b .before .before .loop-test .taken),
-      wires-step (s .args .file .now) (s .args .n) _ _ _ _ (s .pre .0) (s .args .wires .now) (s .pre .1 .1) (l .p) (l .wires) (l .at) (l .inv .1)
+      wires-step (s .args .file .now) (s .args .n) _ _ _ _ (s .pre .0) (s .args .wires .now) (s .pre .1 .1) (l .p)
+          (l .wires) (l .at) (l .inv .1)
           _ _ (b .connect .ensures),
     )
 
@@ -59,7 +57,8 @@ returns : tie.Need-returns Inv-loop μ-loop
 returns c =
     let l = c .before .loop in
     let s = c .before .before .before .before .before .before .before .before .before in
-    wires-end (s .args .file .now) (s .args .n) _ _ _ _ (s .pre .0) (s .args .wires .now) (s .pre .1 .1) (l .p) (l .wires) (l .at) (l .inv .1) (omega arith)
+    wires-end (s .args .file .now) (s .args .n) _ _ _ _ (s .pre .0) (s .args .wires .now) (s .pre .1 .1) (l .p)
+    (l .wires) (l .at) (l .inv .1) (omega arith)
 
 pub connect-all-spec : {M : Type 1} → statement M
 connect-all-spec =

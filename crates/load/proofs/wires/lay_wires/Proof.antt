@@ -4,13 +4,6 @@ use Rattle.load.proofs.WiresLaws.{accepted-most}
 use borrow.Author.Needs.{needs}
 use Rattle.load.proofs.wires.lay_wires.Statement.{statement}
 use Rattle.load.proofs.wires.lay_wires.Tie as tie
-use Rattle.load.proofs.wires.lay_wires.Reads as reads
-use Rattle.load.proofs.wires.lay_wires.Lts as lts
-use Rattle.component.proofs.index_children.Reads as index-children-reads
-use Rattle.component.proofs.index_outs.Reads as index-outs-reads
-use Rattle.component.proofs.index_ranges.Reads as index-ranges-reads
-use Rattle.load.proofs.names.index_flat.Reads as index-flat-reads
-use Rattle.load.proofs.wires.connect_all.Reads as connect-all-reads
 
 slice-aggregate-index-children : tie.Need-slice-aggregate-index-children
 slice-aggregate-index-children c = search needs

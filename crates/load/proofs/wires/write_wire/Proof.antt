@@ -7,8 +7,6 @@ use Rattle.load.proofs.LayingLaws.{stores-entry}
 use borrow.Author.Needs.{needs}
 use Rattle.load.proofs.wires.write_wire.Statement.{statement}
 use Rattle.load.proofs.wires.write_wire.Tie as tie
-use Rattle.load.proofs.wires.write_wire.Reads as reads
-use Rattle.load.proofs.wires.write_wire.Lts as lts
 
 cast-wires : tie.Need-cast-wires
 cast-wires c = search needs
@@ -55,7 +53,7 @@ same-length c = search needs
 returns : tie.Need-returns
 returns c =
     let a = c .before .before .args in
-    stores-entry (a .wires .now) (a .at) (a .from .0) (a .output ∷ a .to .0 ∷ a .input ∷ [])
+    stores-entry (a .wires .now) (a .at) (a .from .comp) (a .from .port ∷ a .to .comp ∷ a .to .port ∷ [])
 
 pub write-wire-spec : {M : Type 1} → statement M
 write-wire-spec =

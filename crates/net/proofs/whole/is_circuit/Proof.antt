@@ -7,7 +7,8 @@ use mathlib.Core.Path.{_≡_, sym, _∙_}
 use mathlib.Core.List.{[]}
 use Rattle.lists.proofs.ListsLaws.{and-right}
 use Rattle.net.specs.Net.{lent, countsWithin, kindsObeyed, idsDistinct, portsFollow, valuesFit, constsHeld, wiresFit}
-use Rattle.net.proofs.ClausesLaws.{countsWithin-sound, portsInside, placesInside}
+use Rattle.net.proofs.ClausesLaws.{countsWithin-sound, portsInside}
+use Rattle.net.proofs.NetLaws.{placesInside}
 use Rattle.net.proofs.CircuitLaws.{circuit-counts, circuit-kinds, circuit-rows, circuit-ports, circuit-once}
 use borrow.Author.Needs.{needs}
 use Rattle.net.proofs.whole.is_circuit.Statement.{statement}

@@ -1,0 +1,26 @@
+-- `flat_pin`: the word of a component is its flat index.
+-- Assumes nothing.
+use mathlib.Core.Path.{ap}
+use native.Mathlib.Omega.{arith}
+use borrow.Author.Needs.{needs}
+use Rattle.load.proofs.wires.flat_pin.Statement.{statement}
+use Rattle.load.proofs.wires.flat_pin.Tie as tie
+
+mul-t6 : tie.Need-mul-t6
+mul-t6 c = search needs
+
+shared-slice-read-t8 : tie.Need-shared-slice-read-t8
+shared-slice-read-t8 c = search needs
+
+cast-t9 : tie.Need-cast-t9
+cast-t9 c = omega (arith, c .shared-slice-known .given (c .before .args .comp))
+
+returns : tie.Need-returns
+returns c =
+    let s = c .before in (
+      ap (λ x. record { comp = x; port = s .args .port }) (s .pre .0 .word (s .args .comp) (s .pre .1)),
+      omega (arith, c .shared-slice-known .given (s .args .comp)),
+    )
+
+pub flat-pin-spec : {M : Type 1} → statement M
+flat-pin-spec = tie.close (tie.spec mul-t6 shared-slice-read-t8 cast-t9 returns)
