@@ -2,3 +2,4 @@ pub mod LampHold
 pub mod MarkedHold
 pub mod Demand3
 pub mod Determinacy
+pub mod GivenHold
