@@ -166,23 +166,13 @@ fn value_in(
     match side {
         Side::Inputs => {
             let first = tables::word_of(components, i, 6) as usize;
-            port_value(
-                inputs,
-                first,
-                f.inputs as usize,
-                primitive::input_width(f),
-                port,
-            )
+            let width = primitive::input_width(f);
+            port_value(inputs, first, f.inputs as usize, width, port)
         }
         Side::Outputs => {
             let first = tables::word_of(components, i, 7) as usize;
-            port_value(
-                outputs,
-                first,
-                f.outputs as usize,
-                primitive::output_width(f),
-                port,
-            )
+            let width = primitive::output_width(f);
+            port_value(outputs, first, f.outputs as usize, width, port)
         }
     }
 }
