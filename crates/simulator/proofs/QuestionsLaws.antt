@@ -3,16 +3,17 @@
 -- Not here: laws of the ends of wires (EndsLaws).
 -- Assumes nothing.
 use mathlib.Core.Path.{_≡_, refl, sym, ap, _∙_}
+use mathlib.Core.Logic.{⊎-elim}
 use mathlib.Core.Bool.{Bool, true, false, cond, not, _||_, or-true, or-false}
 use mathlib.Core.List.{List, [], _∷_}
 use Prim.Native.Nat.{ℕ, _+_, _*_, _≤_, _<_}
 use native.Mathlib.Omega.{arith}
-use borrow.Author.Tests.{eq-eqb, ne-eqb, le-leb, lt-leb, lt-ltb, le-ltb, ltb-false, leb-false}
+use borrow.Author.Tests.{eqb-true, ne-eqb, le-leb, lt-leb, lt-ltb, le-ltb, ltb-false, leb-false}
 use lib.ListN.{length, getD}
 use lib.Dec.{eqb, leb, ltb}
 use Rattle.lists.specs.Lists.{from, every, first, refusal, _if_, overlay}
 use Rattle.lists.proofs.ListsLaws.{or-right, refusal-first, refusal-rest}
-use Rattle.lists.proofs.MembersLaws.{In, map-complete, from0-complete}
+use Rattle.lists.proofs.MembersLaws.{In, or-cases, map-complete, from0-complete}
 use Rattle.primitive.specs.declared.kinds.Kind.the-variants.{Clock}
 use Rattle.primitive.specs.declared.table.Fields.{Fields}
 use Rattle.primitive.specs.Kinds.{is, inputWidth, outputWidth}
@@ -34,7 +35,7 @@ use Rattle.simulator.specs.declared.Listed.{Listed}
 use Rattle.simulator.specs.declared.Listed.the-variants.{Count, Refused as NotListed}
 use Rattle.simulator.specs.Round.{calm}
 use Rattle.simulator.specs.Questions.{calmAnswer, found, indexAnswer, portCount, valueAt, valueNumber, valueAnswer, listNumber, listAfter, listAnswer, sourcesAnswer, sourcesList, targetsAnswer, targetsList}
-use Rattle.simulator.specs.Asked.{endOf, met, RowRight, valueOnNet}
+use Rattle.simulator.specs.Asked.{isEnd, endOf, met, RowRight, valueOnNet}
 use Rattle.simulator.proofs.EndsLaws.{sources-met, targets-met}
 
 -- A call that checks 2 and 16 and then others: the number of the first two, or of the others.
@@ -70,6 +71,11 @@ module _ (T : Tables) (others : List (ℕ × Bool)) where
       by-test true false q = absurd (omega arith)
       by-test false b q = absurd (omega arith)
 
+-- An end of a wire is one of its four words.
+pub end-place : (e : ℕ) → isEnd e ≡ true → e < 4
+end-place e a =
+    ⊎-elim (λ q. omega (arith, eqb-true e 0 q)) (λ q. omega (arith, eqb-true e 2 q)) (or-cases (eqb e 0) (eqb e 2) a)
+
 -- What a net gives.
 module _ (T : Tables) (z : netNumber T ≡ 0) where
   pub net-within : Within (T .counts)
@@ -91,16 +97,20 @@ module _ (T : Tables) (z : netNumber T ≡ 0) where
   there : (k : ℕ) → k < T .counts .wires → In (wireAt T k) (wiresIn T)
   there k h = map-complete (wireAt T) k (from 0 (T .counts .wires)) (from0-complete (T .counts .wires) k h)
 
-  pub net-source : (k : ℕ) → k < T .counts .wires → endOf (T .wires) k 0 < 256
-  net-source k h =
+  source : (k : ℕ) → k < T .counts .wires → endOf (T .wires) k 0 < 256
+  source k h =
       let e : 4 * k + 0 ≡ 4 * k = omega arith in
       let s = isOutput-comp T (wireAt T k .src) (wiresFit-source T (netNumber-net T z .wires) (wireAt T k) (there k h)) in
       rw e (omega (arith, s, net-within .components))
 
-  pub net-target : (k : ℕ) → k < T .counts .wires → endOf (T .wires) k 2 < 256
-  net-target k h =
+  target : (k : ℕ) → k < T .counts .wires → endOf (T .wires) k 2 < 256
+  target k h =
       let t = isInput-comp T (wireAt T k .dst) (wiresFit-target T (netNumber-net T z .wires) (wireAt T k) (there k h)) in
       omega (arith, t, net-within .components)
+
+  pub net-end : (e : ℕ) → isEnd e ≡ true → (k : ℕ) → k < T .counts .wires → endOf (T .wires) k e < 256
+  net-end e a k h =
+      ⊎-elim (λ q. rw (eqb-true e 0 q) (source k h)) (λ q. rw (eqb-true e 2 q) (target k h)) (or-cases (eqb e 0) (eqb e 2) a)
 
 -- Calm or not.
 pub calm-refused : (T : Tables) (k : ℕ) → k ≡ netNumber T → (k ≡ 0 → ⊥) → NoCalm (refusedBy k) ≡ calmAnswer T
@@ -201,46 +211,27 @@ module _ (T : Tables) (i : ℕ) (list : List ℕ) where
     pub list-net : netNumber T ≡ 0
     list-net = number-passed T ((17 if leb (T .counts .components) i) ∷ []) (sym (long list-full) ∙ z)
 
--- The answer and the lent list.
-module _ (k : ℕ) (xs list : List ℕ) where
-  refused-answer : (k ≡ 0 → ⊥) → NotListed (refusedBy k) ≡ listAnswer k xs
-  refused-answer ne = rw (ne-eqb k 0 ne)
+-- The answer and the lent list, where m is the number and xs is listed.
+module _ (m : ℕ) (xs list : List ℕ) where
+  pub joined-refused : (k : ℕ) → k ≡ m → (k ≡ 0 → ⊥)
+      → (NotListed (refusedBy k) ≡ listAnswer m xs) × (list ≡ listAfter m xs list)
+  joined-refused k e ne = rw (← e, ne-eqb k 0 ne) (refl, refl)
 
-  refused-list : (k ≡ 0 → ⊥) → list ≡ listAfter k xs list
-  refused-list ne = rw (ne-eqb k 0 ne)
+  pub joined-listed : (n : ℕ) (u : List ℕ) → m ≡ 0 → (n ≡ length xs) × (u ≡ overlay xs list)
+      → (Count n ≡ listAnswer m xs) × (u ≡ listAfter m xs list)
+  joined-listed n u z e = rw z (ap Count (e .0), e .1)
 
-  done-answer : (n : ℕ) → k ≡ 0 → n ≡ length xs → Count n ≡ listAnswer k xs
-  done-answer n z e = rw (z, e)
+-- Sources and targets are what wires join.
+module _ (T : Tables) (i : ℕ) (list : List ℕ) (r : Listed) (u : List ℕ) where
+  abbrev Joined : List ℕ → Type 0
+  Joined xs = (r ≡ listAnswer (listNumber T i list) xs) × (u ≡ listAfter (listNumber T i list) xs list)
 
-  done-list : (u : List ℕ) → k ≡ 0 → u ≡ overlay xs list → u ≡ listAfter k xs list
-  done-list u z e = rw z e
-
-module _ (T : Tables) (i : ℕ) (list : List ℕ) where
-  pub sources-refused : (k : ℕ) → k ≡ listNumber T i list → (k ≡ 0 → ⊥)
-      → (NotListed (refusedBy k) ≡ sourcesAnswer T i list) × (list ≡ sourcesList T i list)
+  pub sources-joined : Joined (met (T .wires) (T .counts .wires) 2 0 i (T .counts .components))
+      → (r ≡ sourcesAnswer T i list) × (u ≡ sourcesList T i list)
   unfolding sourcesAnswer sourcesList
-  sources-refused k e ne = rw (← e) (refused-answer k (sources T i) list ne, refused-list k (sources T i) list ne)
+  sources-joined e = rw (sources-met T i) e
 
-  pub targets-refused : (k : ℕ) → k ≡ listNumber T i list → (k ≡ 0 → ⊥)
-      → (NotListed (refusedBy k) ≡ targetsAnswer T i list) × (list ≡ targetsList T i list)
+  pub targets-joined : Joined (met (T .wires) (T .counts .wires) 0 2 i (T .counts .components))
+      → (r ≡ targetsAnswer T i list) × (u ≡ targetsList T i list)
   unfolding targetsAnswer targetsList
-  targets-refused k e ne = rw (← e) (refused-answer k (targetsIn T i) list ne, refused-list k (targetsIn T i) list ne)
-
-  module _ (n : ℕ) (u : List ℕ) (z : listNumber T i list ≡ 0) where
-    pub sources-listed : (n ≡ length (met (T .wires) (T .counts .wires) 2 0 i (T .counts .components)))
-        × (u ≡ overlay (met (T .wires) (T .counts .wires) 2 0 i (T .counts .components)) list)
-        → (Count n ≡ sourcesAnswer T i list) × (u ≡ sourcesList T i list)
-    unfolding sourcesAnswer sourcesList
-    sources-listed e = (
-      done-answer (listNumber T i list) (sources T i) list n z (e .0 ∙ ap length (sym (sources-met T i))),
-      done-list (listNumber T i list) (sources T i) list u z (e .1 ∙ ap (λ (l : List ℕ). overlay l list) (sym (sources-met T i))),
-    )
-
-    pub targets-listed : (n ≡ length (met (T .wires) (T .counts .wires) 0 2 i (T .counts .components)))
-        × (u ≡ overlay (met (T .wires) (T .counts .wires) 0 2 i (T .counts .components)) list)
-        → (Count n ≡ targetsAnswer T i list) × (u ≡ targetsList T i list)
-    unfolding targetsAnswer targetsList
-    targets-listed e = (
-      done-answer (listNumber T i list) (targetsIn T i) list n z (e .0 ∙ ap length (sym (targets-met T i))),
-      done-list (listNumber T i list) (targetsIn T i) list u z (e .1 ∙ ap (λ (l : List ℕ). overlay l list) (sym (targets-met T i))),
-    )
+  targets-joined e = rw (targets-met T i) e
