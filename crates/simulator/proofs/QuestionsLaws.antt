@@ -8,27 +8,25 @@ use mathlib.Core.Bool.{Bool, true, false, cond, not, _||_, or-true, or-false}
 use mathlib.Core.List.{List, [], _∷_}
 use Prim.Native.Nat.{ℕ, _+_, _*_, _≤_, _<_}
 use native.Mathlib.Omega.{arith}
-use borrow.Author.Tests.{eqb-true, ne-eqb, le-leb, lt-leb, lt-ltb, le-ltb, ltb-false, leb-false}
+use borrow.Author.Tests.{eqb-true, ne-eqb, le-leb, lt-leb, lt-ltb, le-ltb, ltb-false}
 use lib.ListN.{length, getD}
 use lib.Dec.{eqb, leb, ltb}
-use Rattle.lists.specs.Lists.{from, every, first, refusal, _if_, overlay}
-use Rattle.lists.proofs.ListsLaws.{or-right, refusal-first, refusal-rest}
-use Rattle.lists.proofs.MembersLaws.{In, or-cases, map-complete, from0-complete}
+use Rattle.lists.specs.Lists.{every, first, refusal, _if_, overlay}
+use Rattle.lists.proofs.ListsLaws.{or-right, refusal-first}
+use Rattle.lists.proofs.MembersLaws.{or-cases}
 use Rattle.primitive.specs.declared.kinds.Kind.the-variants.{Clock}
 use Rattle.primitive.specs.declared.table.Fields.{Fields}
 use Rattle.primitive.specs.Kinds.{is, inputWidth, outputWidth}
 use Rattle.primitive.specs.Evaluate.{refusedBy}
-use Rattle.flatten.specs.declared.Wire.{Wire}
-use Rattle.tables.specs.Tables.{Tables, fullSize, fieldsAt, idAt, firstInput, firstOutput, indexes, currentList, wiresIn, wireAt, sources, targetsIn, indexOf}
-use Rattle.tables.proofs.SizesLaws.{Full}
+use Rattle.tables.specs.Tables.{Tables, fullSize, fieldsAt, idAt, firstInput, firstOutput, indexes, currentList, wireAt, indexOf}
 use Rattle.net.specs.Net.{isNet, netNumber, lent}
-use Rattle.net.proofs.ClausesLaws.{Within, countsWithin-sound, kindsObeyed-fit, portsFollow-inputs, portsFollow-outputs}
-use Rattle.net.proofs.NetLaws.{Net, netNumber-net, netNumber-sizes, isOutput-comp, isInput-comp, wiresFit-source, wiresFit-target}
+use Rattle.net.proofs.ClausesLaws.{kindsObeyed-fit}
+use Rattle.net.proofs.NetLaws.{netNumber-net}
 use Rattle.simulator.specs.declared.Side.{Side}
 use Rattle.simulator.specs.declared.Side.the-variants.{Inputs, Outputs}
 use Rattle.simulator.specs.declared.Calm.the-variants.{Is as CalmIs, Refused as NoCalm}
 use Rattle.simulator.specs.declared.Index.{Index}
-use Rattle.simulator.specs.declared.Index.the-variants.{Is as IndexIs, Refused as NoIndex}
+use Rattle.simulator.specs.declared.Index.the-variants.{Refused as NoIndex}
 use Rattle.simulator.specs.declared.Port.{Port}
 use Rattle.simulator.specs.declared.Port.the-variants.{Is as PortIs, Refused as NoPort}
 use Rattle.simulator.specs.declared.Listed.{Listed}
@@ -36,6 +34,7 @@ use Rattle.simulator.specs.declared.Listed.the-variants.{Count, Refused 
 use Rattle.simulator.specs.Round.{calm}
 use Rattle.simulator.specs.Questions.{calmAnswer, found, indexAnswer, portCount, valueAt, valueNumber, valueAnswer, listNumber, listAfter, listAnswer, sourcesAnswer, sourcesList, targetsAnswer, targetsList}
 use Rattle.simulator.specs.Asked.{isEnd, endOf, met, RowRight, valueOnNet}
+use Rattle.simulator.proofs.Sound.{net-sound, wire-in}
 use Rattle.simulator.proofs.EndsLaws.{sources-met, targets-met}
 
 -- A call that checks 2 and 16 and then others: the number of the first two, or of the others.
@@ -76,41 +75,27 @@ pub end-place : (e : ℕ) → isEnd e ≡ true → e < 4
 end-place e a =
     ⊎-elim (λ q. omega (arith, eqb-true e 0 q)) (λ q. omega (arith, eqb-true e 2 q)) (or-cases (eqb e 0) (eqb e 2) a)
 
--- What a net gives.
+-- What a net gives: a component's row, and the ends of its wires.
 module _ (T : Tables) (z : netNumber T ≡ 0) where
-  pub net-within : Within (T .counts)
-  net-within = countsWithin-sound (T .counts) (netNumber-net T z .counts)
-
-  pub net-current : T .counts .current ≤ length (T .current)
-  net-current = omega (arith, net-within .current, netNumber-sizes T z .current)
-
-  -- A component's row.
   pub net-row : (i : ℕ) → i < T .counts .components → RowRight (T .components) (T .inputs) (T .outputs) i
   net-row i h =
       record {
         fit = kindsObeyed-fit T (netNumber-net T z .kinds) i h;
-        inputs-in = omega (arith, portsFollow-inputs T (netNumber-net T z .ports) i h, net-within .inputs, netNumber-sizes T z .inputs);
-        outputs-in = omega (arith, portsFollow-outputs T (netNumber-net T z .ports) i h, net-within .outputs, netNumber-sizes T z .outputs);
+        inputs-in = net-sound T z .inputs-in i h;
+        outputs-in = net-sound T z .outputs-in i h;
       }
-
-  -- The ends of its wires.
-  there : (k : ℕ) → k < T .counts .wires → In (wireAt T k) (wiresIn T)
-  there k h = map-complete (wireAt T) k (from 0 (T .counts .wires)) (from0-complete (T .counts .wires) k h)
-
-  source : (k : ℕ) → k < T .counts .wires → endOf (T .wires) k 0 < 256
-  source k h =
-      let e : 4 * k + 0 ≡ 4 * k = omega arith in
-      let s = isOutput-comp T (wireAt T k .src) (wiresFit-source T (netNumber-net T z .wires) (wireAt T k) (there k h)) in
-      rw e (omega (arith, s, net-within .components))
-
-  target : (k : ℕ) → k < T .counts .wires → endOf (T .wires) k 2 < 256
-  target k h =
-      let t = isInput-comp T (wireAt T k .dst) (wiresFit-target T (netNumber-net T z .wires) (wireAt T k) (there k h)) in
-      omega (arith, t, net-within .components)
 
   pub net-end : (e : ℕ) → isEnd e ≡ true → (k : ℕ) → k < T .counts .wires → endOf (T .wires) k e < 256
   net-end e a k h =
-      ⊎-elim (λ q. rw (eqb-true e 0 q) (source k h)) (λ q. rw (eqb-true e 2 q) (target k h)) (or-cases (eqb e 0) (eqb e 2) a)
+      ⊎-elim (λ q. rw (eqb-true e 0 q) source) (λ q. rw (eqb-true e 2 q) target) (or-cases (eqb e 0) (eqb e 2) a)
+    where
+      source : endOf (T .wires) k 0 < 256
+      source =
+          let p : 4 * k + 0 ≡ 4 * k = omega arith in
+          rw p (omega (arith, net-sound T z .source (wireAt T k) (wire-in T k h), net-sound T z .few))
+
+      target : endOf (T .wires) k 2 < 256
+      target = omega (arith, net-sound T z .target (wireAt T k) (wire-in T k h), net-sound T z .few)
 
 -- Calm or not.
 pub calm-refused : (T : Tables) (k : ℕ) → k ≡ netNumber T → (k ≡ 0 → ⊥) → NoCalm (refusedBy k) ≡ calmAnswer T

@@ -1,7 +1,6 @@
 -- Laws of the steps of a round, one step at a time: a wire, the wires of a component, an evaluation, and a component of the list.
 -- Assumes nothing.
 use mathlib.Core.Path.{_≡_, refl, sym, ap, _∙_, subst}
-use mathlib.Core.Logic.{inl, inr}
 use mathlib.Core.Bool.{Bool, true, false, cond}
 use mathlib.Core.List.{List, [], _∷_, _++_, map, foldl, append-assoc}
 use Prim.Native.Nat.{ℕ, zero, suc, _+_, _-_, _*_, _≤_, _<_}
@@ -31,6 +30,7 @@ use Rattle.net.proofs.NetLaws.{names-existing}
 use Rattle.simulator.specs.Round.{State, wiresFrom, evaluated, send, visit}
 use Rattle.simulator.specs.Steps.{bare, wiring, stateAt, Evaluates, Sends, Runs, Listed, Step}
 use Rattle.simulator.proofs.Ports.{numbers-length}
+use Rattle.simulator.proofs.Held.{foldl-keeps, carried, received, written, SendCase, agrees, writes, send-case}
 
 -- Where the ends of wire k stand, as they are read.
 module _ (T : Tables) (k comp port first : ℕ) where
@@ -146,17 +146,6 @@ module _ (T : Tables) (ins outs : List ℕ) (i : ℕ) (v : Evaluates T ins outs 
         let m : length (take r std') ≡ r = ap length s ∙ sym l in
         record { count = omega (arith, length-take r std'); state = rw (outputs-put t zs e, c, s) }
 
--- A state with the input of a wire written, and its target appended.
-abbrev wrote : Tables → Wire → State → State
-wrote T w u =
-    record {
-      inputs = set (u .inputs) (inputPlace T (w .dst)) (getD (u .outputs) (outputPlace T (w .src)) 0);
-      outputs = u .outputs;
-      current = u .current;
-      following = appendNew (w .dst .comp) (u .following);
-      standing = u .standing;
-    }
-
 -- The lists: what an append needs, and that a wire keeps them.
 module _ (T : Tables) where
   pub append-room : (x : ℕ) (xs t : List ℕ) → names T xs ≡ true → x < T .counts .components → T .counts .components ≤ 256
@@ -177,13 +166,12 @@ module _ (T : Tables) where
 
   pub send-names : (s : State) (w : Wire) → w .dst .comp < T .counts .components → names T (s .following) ≡ true
       → names T (send T s w .following) ≡ true
-  unfolding send
-  send-names s w h e =
-      by-test (eqb (getD (s .outputs) (outputPlace T (w .src)) 0) (getD (s .inputs) (inputPlace T (w .dst)) 0))
+  unfolding written
+  send-names s w h e = by-case (send-case T s w)
     where
-      by-test : (b : Bool) → names T (cond b s (wrote T w s) .following) ≡ true
-      by-test true = e
-      by-test false = append-names (w .dst .comp) (s .following) e h
+      by-case : SendCase T s w → names T (send T s w .following) ≡ true
+      by-case (agrees p q) = rw q e
+      by-case (writes p q) = rw q (append-names (w .dst .comp) (s .following) e h)
 
 -- A loop over all wires, of which those of component i are sent: what is still to come.
 module _ (T : Tables) (i q n : ℕ) (s : State) (x : State) where
@@ -256,11 +244,21 @@ module _ (cs ws : List ℕ) (m : Counts) where
       }
 
 -- What a step leaves beside: sends leave the standing list, and no step reads or writes the current one.
+abbrev beside : (List ℕ → List ℕ) → (List ℕ → List ℕ) → State → State
+beside f g s =
+    record {
+      inputs = s .inputs;
+      outputs = s .outputs;
+      current = f (s .current);
+      following = s .following;
+      standing = g (s .standing);
+    }
+
 abbrev standingAs : List ℕ → State → State
-standingAs d s = record { inputs = s .inputs; outputs = s .outputs; current = s .current; following = s .following; standing = d }
+standingAs d = beside (λ l. l) (λ l. d)
 
 abbrev currentAs : List ℕ → State → State
-currentAs d s = record { inputs = s .inputs; outputs = s .outputs; current = d; following = s .following; standing = s .standing }
+currentAs d = beside (λ l. d) (λ l. l)
 
 foldl-beside : {A : Type 0} (g : State → State) (f : State → A → State) → ((s : State) (a : A) → f (g s) a ≡ g (f s a))
     → (s : State) (xs : List A) → foldl f (g s) xs ≡ g (foldl f s xs)
@@ -268,27 +266,17 @@ foldl-beside g f h s [] = refl
 foldl-beside {A} g f h s (x ∷ xs) = ap (λ (u : State). foldl f u xs) (h s x) ∙ foldl-beside g f h (f s x) xs
 
 module _ (T : Tables) where
-  send-standing : (d : List ℕ) (s : State) (w : Wire) → send T (standingAs d s) w ≡ standingAs d (send T s w)
-  unfolding send
-  send-standing d s w =
-      by-test (eqb (getD (s .outputs) (outputPlace T (w .src)) 0) (getD (s .inputs) (inputPlace T (w .dst)) 0))
+  send-beside : (f g : List ℕ → List ℕ) (s : State) (w : Wire) → send T (beside f g s) w ≡ beside f g (send T s w)
+  unfolding send written
+  send-beside f g s w = by-test (eqb (carried T s w) (received T s w))
     where
-      by-test : (b : Bool) → cond b (standingAs d s) (wrote T w (standingAs d s)) ≡ standingAs d (cond b s (wrote T w s))
-      by-test true = refl
-      by-test false = refl
-
-  send-current : (d : List ℕ) (s : State) (w : Wire) → send T (currentAs d s) w ≡ currentAs d (send T s w)
-  unfolding send
-  send-current d s w =
-      by-test (eqb (getD (s .outputs) (outputPlace T (w .src)) 0) (getD (s .inputs) (inputPlace T (w .dst)) 0))
-    where
-      by-test : (b : Bool) → cond b (currentAs d s) (wrote T w (currentAs d s)) ≡ currentAs d (cond b s (wrote T w s))
+      by-test : (b : Bool) → cond b (beside f g s) (written T (beside f g s) w) ≡ beside f g (cond b s (written T s w))
       by-test true = refl
       by-test false = refl
 
   visit-current : (ws : List Wire) (t : ℕ) (d : List ℕ) (s : State) (i : ℕ) → visit T ws t (currentAs d s) i ≡ currentAs d (visit T ws t s i)
   unfolding visit evaluated
-  visit-current ws t d s i = foldl-beside (currentAs d) (send T) (send-current d) (evaluated T t i s) (wiresFrom i ws)
+  visit-current ws t d s i = foldl-beside (currentAs d) (send T) (send-beside (λ l. d) (λ l. l)) (evaluated T t i s) (wiresFrom i ws)
 
   pub visits-current : (ws : List Wire) (t : ℕ) (d : List ℕ) (s : State) (xs : List ℕ)
       → foldl (visit T ws t) (currentAs d s) xs ≡ currentAs d (foldl (visit T ws t) s xs)
@@ -305,14 +293,14 @@ module _ (T : Tables) where
       let d : std' ≡ evaluated T t i (stateAt ins outs [] std) .standing = ap (λ (u : State). u .standing) e in
       let v : stateAt ins outs' fol std' ≡ evaluated T t i (stateAt ins outs fol std) = rw (o, d) in
       ap (standingAs std') f
-      ∙ sym (foldl-beside (standingAs std') (send T) (send-standing std') (stateAt ins outs' fol []) (wiresFrom i ws))
+      ∙ sym (foldl-beside (standingAs std') (send T) (send-beside (λ l. l) (λ l. std')) (stateAt ins outs' fol []) (wiresFrom i ws))
       ∙ ap (λ (u : State). foldl (send T) u (wiresFrom i ws)) v
 
   -- The following list stays one of names.
   sends-names : (ws : List Wire) → ((w : Wire) → In w ws → w .dst .comp < T .counts .components) → (s : State)
       → names T (s .following) ≡ true → names T (foldl (send T) s ws .following) ≡ true
-  sends-names [] f s e = e
-  sends-names (w ∷ ws) f s e = sends-names ws (λ x m. f x (inr m)) (send T s w) (send-names T s w (f w (inl refl)) e)
+  sends-names ws f =
+      foldl-keeps (λ (s : State). names T (s .following) ≡ true) (send T) ws (λ u w m. send-names T u w (f w m))
 
   pub visit-names : (ws : List Wire) (t i : ℕ) → ((w : Wire) → In w ws → w .dst .comp < T .counts .components) → (s : State)
       → names T (s .following) ≡ true → names T (visit T ws t s i .following) ≡ true

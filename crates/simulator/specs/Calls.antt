@@ -1,6 +1,6 @@
 -- Rounds, edits and run until calm as calls: the number given back, the answer, and the tables afterwards. docs/SPECIFICATION.md, "Rounds" and "Numbers given back".
 use Prim.Native.Nat.{ℕ, zero, suc, _+_}
-use mathlib.Core.Bool.{Bool, true, false, cond, not, _&&_, _||_}
+use mathlib.Core.Bool.{Bool, cond, not, _&&_, _||_}
 use mathlib.Core.List.{List, [], _∷_}
 use lib.ListN.{length}
 use lib.Dec.{eqb, leb}

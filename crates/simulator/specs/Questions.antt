@@ -1,6 +1,6 @@
 -- The questions: calm or not, the index of an id, a port's value, a component's sources and targets. docs/SPECIFICATION.md, "Numbers given back". They change no table.
-use Prim.Native.Nat.{ℕ, _+_}
-use mathlib.Core.Bool.{Bool, true, false, cond, not, _||_}
+use Prim.Native.Nat.{ℕ}
+use mathlib.Core.Bool.{cond, not, _||_}
 use mathlib.Core.List.{List, [], _∷_}
 use mathlib.Core.Option.{Option, none, some}
 use lib.ListN.{length, getD}
@@ -10,7 +10,6 @@ use Rattle.lists.specs.Lists.{refusal, _if_, overlay}
 use Rattle.value.specs.Value.{level}
 use Rattle.primitive.specs.Kinds.{inputWidth, outputWidth}
 use Rattle.primitive.specs.Evaluate.{refusedBy}
-use Rattle.component.specs.declared.FlatIdx.{FlatIdx}
 use Rattle.flatten.specs.Descent.{pin}
 use Rattle.tables.specs.Tables.{Tables, fullSize, fieldsAt, inputPlace, outputPlace, sources, targetsIn, indexOf}
 use Rattle.simulator.specs.declared.Side.{Side}

@@ -1,7 +1,7 @@
 -- The state, the round and the edit. docs/SPECIFICATION.md, "Rounds". T is the tables as they came in, of which a round writes no component and no wire.
 use Prim.Native.Nat.{ℕ}
-use mathlib.Core.Bool.{Bool, true, false, cond}
-use mathlib.Core.List.{List, [], _∷_, foldl}
+use mathlib.Core.Bool.{Bool, cond}
+use mathlib.Core.List.{List, foldl}
 use lib.ListN.{length, getD, set}
 use lib.Seq.{sets}
 use lib.Dec.{eqb}

@@ -4,7 +4,8 @@ use mathlib.Core.Path.{_≡_, sym, _∙_}
 use native.Mathlib.Omega.{arith}
 use Rattle.tables.specs.Tables.{Tables, tablesOf}
 use Rattle.simulator.specs.Calls.{editNumber}
-use Rattle.simulator.proofs.EditsLaws.{edit-index, edit-output, edit-input, edit-standing, edit-room, edit-kept, edit-made}
+use Rattle.simulator.proofs.Sound.{standing-in}
+use Rattle.simulator.proofs.EditsLaws.{edit-index, edit-output, edit-input, edit-is-net, edit-room, edit-kept, edit-made}
 use borrow.Author.Needs.{needs}
 use Rattle.simulator.proofs.edits.edit.Statement.{statement}
 use Rattle.simulator.proofs.edits.edit.Tie as tie
@@ -50,7 +51,8 @@ append-new-requires : tie.Need-append-new-requires
 append-new-requires c κs =
     let a = c .before .before .before .before .before .before .before .before .before .before .before .before .before .before .before .before .before .before .before .before .args in
     let T = came (c .before .before .before .before .before .before .before .before .before .before .before .before .before .before .before .before .before .before .before .before) in
-    (edit-standing T (a .index .0) (a .number) (passed (c .before .before .before .before .before .before .before .before)), edit-room T (a .index .0) (a .number) (passed (c .before .before .before .before .before .before .before .before)))
+    let z = passed (c .before .before .before .before .before .before .before .before) in
+    (standing-in T (edit-is-net T (a .index .0) (a .number) z), edit-room T (a .index .0) (a .number) z)
 
 same-length-4 : tie.Need-same-length-4
 same-length-4 c = search needs

@@ -3,7 +3,8 @@
 use mathlib.Core.Path.{_≡_, sym, _∙_}
 use Rattle.tables.specs.Tables.{Tables, tablesOf}
 use Rattle.net.specs.Net.{netNumber}
-use Rattle.simulator.proofs.QuestionsLaws.{net-current, calm-refused, calm-is}
+use Rattle.simulator.proofs.Sound.{current-in}
+use Rattle.simulator.proofs.QuestionsLaws.{calm-refused, calm-is}
 use borrow.Author.Needs.{needs}
 use Rattle.simulator.proofs.questions.is_calm.Statement.{statement}
 use Rattle.simulator.proofs.questions.is_calm.Tie as tie
@@ -24,7 +25,7 @@ returns : tie.Need-returns
 returns c = calm-refused (came (c .before .before .before .before .before .before .before .before .before)) _ (c .before .net-number .ensures) (c .if1 .taken)
 
 only-clocks-requires : tie.Need-only-clocks-requires
-only-clocks-requires c κs = net-current (came (c .before .before .before .before .before .before .before .before .before)) (is-net c)
+only-clocks-requires c κs = current-in (came (c .before .before .before .before .before .before .before .before .before)) (is-net c)
 
 returns-2 : tie.Need-returns-2
 returns-2 c = calm-is (came (c .before .before .before .before .before .before .before .before .before .before)) _ (is-net (c .before)) (c .only-clocks .ensures)

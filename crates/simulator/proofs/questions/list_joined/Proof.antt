@@ -6,7 +6,8 @@ use Prim.Native.Nat.{ℕ}
 use Rattle.tables.specs.Tables.{Tables, tablesOf}
 use Rattle.simulator.specs.Questions.{listNumber}
 use Rattle.simulator.specs.Asked.{met}
-use Rattle.simulator.proofs.QuestionsLaws.{net-within, end-place, net-end, list-full, list-net, joined-refused, joined-listed}
+use Rattle.simulator.proofs.Sound.{net-within}
+use Rattle.simulator.proofs.QuestionsLaws.{end-place, net-end, list-full, list-net, joined-refused, joined-listed}
 use borrow.Author.Needs.{needs}
 use Rattle.simulator.proofs.questions.list_joined.Statement.{statement}
 use Rattle.simulator.proofs.questions.list_joined.Tie as tie

@@ -3,9 +3,6 @@ use Rattle.simulator.proofs.RoundLaws.{round-ended}
 use borrow.Author.Needs.{needs}
 use Rattle.simulator.proofs.rounds.end_round.Statement.{statement}
 use Rattle.simulator.proofs.rounds.end_round.Tie as tie
-use Rattle.simulator.proofs.rounds.end_round.Reads as reads
-use Rattle.simulator.proofs.rounds.end_round.Lts as lts
-use Rattle.tables.proofs.copy.Reads as copy-reads
 
 copy-requires : tie.Need-copy-requires
 copy-requires c κs = search needs

@@ -8,12 +8,6 @@ use Rattle.simulator.proofs.StepsLaws.{lent-inputs, lent-outputs, lent-
 use borrow.Author.Needs.{needs}
 use Rattle.simulator.proofs.rounds.evaluate_at.Statement.{statement}
 use Rattle.simulator.proofs.rounds.evaluate_at.Tie as tie
-use Rattle.simulator.proofs.rounds.evaluate_at.Reads as reads
-use Rattle.simulator.proofs.rounds.evaluate_at.Lts as lts
-use Rattle.primitive.proofs.update.Reads as update-reads
-use Rattle.tables.proofs.strike.Reads as strike-reads
-use Rattle.tables.proofs.fields_at.Reads as fields-at-reads
-use Rattle.tables.proofs.word_of.Reads as word-of-reads
 
 fields-at-requires : tie.Need-fields-at-requires
 fields-at-requires c κs = (omega (arith, c .before .before .before .before .pre .1 .few), obeyed-fit _ (c .before .before .before .before .pre .1 .obeyed))

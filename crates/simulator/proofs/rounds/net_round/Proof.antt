@@ -4,15 +4,11 @@ use mathlib.Core.Path.{_∙_}
 use native.Mathlib.Omega.{arith}
 use Rattle.tables.specs.Tables.{Tables, tablesOf}
 use Rattle.net.proofs.NetLaws.{netNumber-sizes}
-use Rattle.simulator.proofs.RoundLaws.{net-within, net-runs, net-current, net-copied, copy-list, round-made}
+use Rattle.simulator.proofs.Sound.{net-within}
+use Rattle.simulator.proofs.RoundLaws.{net-runs, net-current, net-copied, copy-list, round-made}
 use borrow.Author.Needs.{needs}
 use Rattle.simulator.proofs.rounds.net_round.Statement.{statement}
 use Rattle.simulator.proofs.rounds.net_round.Tie as tie
-use Rattle.simulator.proofs.rounds.net_round.Reads as reads
-use Rattle.simulator.proofs.rounds.net_round.Lts as lts
-use Rattle.simulator.proofs.rounds.end_round.Reads as end-round-reads
-use Rattle.simulator.proofs.rounds.visit_all.Reads as visit-all-reads
-use Rattle.tables.proofs.copy.Reads as copy-reads
 
 -- The tables that came in.
 abbrev came : tie.Start → Tables

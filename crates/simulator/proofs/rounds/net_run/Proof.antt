@@ -8,15 +8,11 @@ use Rattle.tables.specs.Tables.{Tables, tablesOf}
 use Rattle.net.specs.Net.{netNumber}
 use Rattle.net.proofs.NetLaws.{netNumber-sizes}
 use Rattle.simulator.specs.Calls.{run}
-use Rattle.simulator.proofs.RoundLaws.{net-within}
+use Rattle.simulator.proofs.Sound.{net-within}
 use Rattle.simulator.proofs.RunLaws.{onTop, stopped, run-start, round-net, run-turn, test-going, test-below, run-end, calm-list}
 use borrow.Author.Needs.{needs}
 use Rattle.simulator.proofs.rounds.net_run.Statement.{statement}
 use Rattle.simulator.proofs.rounds.net_run.Tie as tie
-use Rattle.simulator.proofs.rounds.net_run.Reads as reads
-use Rattle.simulator.proofs.rounds.net_run.Lts as lts
-use Rattle.simulator.proofs.questions.only_clocks.Reads as only-clocks-reads
-use Rattle.simulator.proofs.rounds.net_round.Reads as net-round-reads
 
 abbrev Inv-loop : tie.InvT-loop
 Inv-loop components inputs₀ outputs₀ wires current₀ following₀ standing₀ time limit reached₀ rounds₀ evaluations₀ calm₀ inputs outputs current following standing reached rounds evaluations calm =

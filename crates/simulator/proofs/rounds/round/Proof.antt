@@ -5,10 +5,6 @@ use Rattle.simulator.proofs.CallsLaws.{round-refused, round-kept, round
 use borrow.Author.Needs.{needs}
 use Rattle.simulator.proofs.rounds.round.Statement.{statement}
 use Rattle.simulator.proofs.rounds.round.Tie as tie
-use Rattle.simulator.proofs.rounds.round.Reads as reads
-use Rattle.simulator.proofs.rounds.round.Lts as lts
-use Rattle.net.proofs.net_number.Reads as net-number-reads
-use Rattle.simulator.proofs.rounds.net_round.Reads as net-round-reads
 
 -- The tables that came in.
 abbrev came : tie.Start → Tables

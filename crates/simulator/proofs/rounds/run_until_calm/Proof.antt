@@ -5,10 +5,6 @@ use Rattle.simulator.proofs.RunLaws.{run-refused, run-kept, run-answere
 use borrow.Author.Needs.{needs}
 use Rattle.simulator.proofs.rounds.run_until_calm.Statement.{statement}
 use Rattle.simulator.proofs.rounds.run_until_calm.Tie as tie
-use Rattle.simulator.proofs.rounds.run_until_calm.Reads as reads
-use Rattle.simulator.proofs.rounds.run_until_calm.Lts as lts
-use Rattle.net.proofs.net_number.Reads as net-number-reads
-use Rattle.simulator.proofs.rounds.net_run.Reads as net-run-reads
 
 -- The tables that came in.
 abbrev came : tie.Start → Tables

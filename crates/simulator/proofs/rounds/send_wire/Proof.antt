@@ -8,12 +8,6 @@ use Rattle.simulator.proofs.StepsLaws.{source-place, target-place, send
 use borrow.Author.Needs.{needs}
 use Rattle.simulator.proofs.rounds.send_wire.Statement.{statement}
 use Rattle.simulator.proofs.rounds.send_wire.Tie as tie
-use Rattle.simulator.proofs.rounds.send_wire.Reads as reads
-use Rattle.simulator.proofs.rounds.send_wire.Lts as lts
-use Rattle.tables.proofs.append_new.Reads as append-new-reads
-use Rattle.tables.proofs.entry.Reads as entry-reads
-use Rattle.tables.proofs.word.Reads as word-reads
-use Rattle.tables.proofs.word_of.Reads as word-of-reads
 
 mul-entry : tie.Need-mul-entry
 mul-entry c = search needs

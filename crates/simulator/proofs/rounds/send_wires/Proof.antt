@@ -14,10 +14,6 @@ use Rattle.simulator.proofs.StepsLaws.{send-bare, runs-kept, runs-sends
 use borrow.Author.Needs.{needs}
 use Rattle.simulator.proofs.rounds.send_wires.Statement.{statement}
 use Rattle.simulator.proofs.rounds.send_wires.Tie as tie
-use Rattle.simulator.proofs.rounds.send_wires.Reads as reads
-use Rattle.simulator.proofs.rounds.send_wires.Lts as lts
-use Rattle.simulator.proofs.rounds.send_wire.Reads as send-wire-reads
-use Rattle.tables.proofs.entry.Reads as entry-reads
 
 abbrev Inv-loop : tie.InvT-loop
 Inv-loop components wires inputs₀ outputs following₀ count counts i filled₀ k₀ inputs following filled k =

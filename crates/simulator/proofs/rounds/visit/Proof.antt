@@ -6,10 +6,6 @@ use Rattle.simulator.proofs.StepsLaws.{runs-kept, runs-evaluates, evalu
 use borrow.Author.Needs.{needs}
 use Rattle.simulator.proofs.rounds.visit.Statement.{statement}
 use Rattle.simulator.proofs.rounds.visit.Tie as tie
-use Rattle.simulator.proofs.rounds.visit.Reads as reads
-use Rattle.simulator.proofs.rounds.visit.Lts as lts
-use Rattle.simulator.proofs.rounds.evaluate_at.Reads as evaluate-at-reads
-use Rattle.simulator.proofs.rounds.send_wires.Reads as send-wires-reads
 
 evaluate-at-requires : tie.Need-evaluate-at-requires
 evaluate-at-requires c κs =

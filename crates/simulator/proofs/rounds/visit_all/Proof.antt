@@ -13,10 +13,6 @@ use Rattle.simulator.proofs.StepsLaws.{runs-kept, listed-at, visited-li
 use borrow.Author.Needs.{needs}
 use Rattle.simulator.proofs.rounds.visit_all.Statement.{statement}
 use Rattle.simulator.proofs.rounds.visit_all.Tie as tie
-use Rattle.simulator.proofs.rounds.visit_all.Reads as reads
-use Rattle.simulator.proofs.rounds.visit_all.Lts as lts
-use Rattle.simulator.proofs.rounds.visit.Reads as visit-reads
-use Rattle.tables.proofs.entry.Reads as entry-reads
 
 abbrev Inv-loop : tie.InvT-loop
 Inv-loop components wires current inputs₀ outputs₀ following₀ standing₀ counts time reached₀ k₀ inputs outputs following standing reached k =
