@@ -24,7 +24,8 @@ use Rattle.quiet.proofs.Invariant.{clocked, Fits, Awaits, Named, now, n
 
 -- An edit of component i, which is no Clock: the invariant holds of the new state where no wire but those of i and no
 -- component but i are the worse for it.
-module _ (T : Tables) (ran : Bool) (t i : ℕ) (unclocked : clocked T i ≡ false) (s : State) (a : Inv T ran t s) (xs ys : List ℕ) where
+module _ (T : Tables) (ran : Bool) (t i : ℕ) (unclocked : clocked T i ≡ false) (s : State) (a : Inv T ran t s)
+    (xs ys : List ℕ) where
   abbrev n : ℕ
   n = T .counts .components
 
@@ -72,7 +73,8 @@ module _ (T : Tables) (g : Sound T) (ran : Bool) (t i v : ℕ) (h : i < T .count
   switched-inv k =
       stood-inv T ran t i (is-other (fieldsAt T i) Switch Clock refl k) s a (s .inputs)
       (set (s .outputs) (firstOutput T i) v)
-      (λ w m ne q. switch-others T g i v h s b k (w .src .comp) (w .src .port) (g .source w m) ne (g .source-port w m) ∙ q)
+      (λ w m ne q. switch-others T g i v h s b k (w .src .comp) (w .src .port) (g .source w m) ne
+      (g .source-port w m) ∙ q)
       (λ d q ne f. subst (λ (ys : List ℕ). outputsAfter (fieldsAt T d) (inputsAt T (s .inputs) d) ys t ≡ ys)
       (sym (switch-left T g i v h s b k d q ne)) f)
 

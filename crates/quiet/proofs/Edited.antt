@@ -142,7 +142,8 @@ module _ (T : Tables) (g : Sound T) (i v : ℕ) (h : i < T .counts .components) 
     output-elsewhere d j = output-off T g i d j h
 
     pub switch-others : (d j : ℕ) → d < n → (d ≡ i → ⊥) → j < outputCount T d
-        → getD (set (s .outputs) (firstOutput T i) v) (firstOutput T d + j) 0 ≡ getD (s .outputs) (firstOutput T d + j) 0
+        → getD (set (s .outputs) (firstOutput T i) v) (firstOutput T d + j) 0
+        ≡ getD (s .outputs) (firstOutput T d + j) 0
     switch-others = only-others n i v (firstOutput T) (outputCount T) one-output output-elsewhere (s .outputs)
 
     pub switch-left : (d : ℕ) → d < n → (d ≡ i → ⊥)

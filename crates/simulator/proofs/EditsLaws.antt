@@ -1,4 +1,4 @@
--- The number of an edit by its checks; what a net gives an edit that none refuses; the answer and the tables afterwards.
+-- The number of an edit by its checks; what a net gives an edit that none refuses; the answer and the tables after it.
 -- Assumes nothing.
 use mathlib.Core.Path.{_≡_, refl, sym, ap, _∙_}
 use mathlib.Core.Bool.{Bool, true, false, cond, not, _&&_, _||_}
@@ -30,14 +30,15 @@ use Rattle.simulator.proofs.Sound.{net-sound, net-within, current-in, f
 use Rattle.simulator.proofs.StepsLaws.{append-room}
 use Rattle.simulator.proofs.QuestionsLaws.{number-refused, number-net, number-passed}
 
--- On a net: 17; then, of a component that is a Switch or not (s), an Input or not (q), driven or not (d), 18; then, of a number that lies
--- below the port's width or not (b), 19; and 0 where none is given.
+-- On a net: 17; then, of a component that is a Switch or not (s), an Input or not (q), driven or not (d), 18; then, of
+-- a number that lies below the port's width or not (b), 19; and 0 where none is given.
 module _ (cs ws : List ℕ) (m : Counts) (i v : ℕ) where
   pub edit-17 : m .components ≤ i → 17 ≡ editRefusal cs ws m i v
   unfolding editRefusal
   edit-17 h = rw (le-leb (m .components) i h)
 
-  module _ (h : i < m .components) (s q d : Bool) (es : s ≡ is Switch (fieldsIn cs i)) (eq : q ≡ is Input (fieldsIn cs i))
+  module _ (h : i < m .components) (s q d : Bool) (es : s ≡ is Switch (fieldsIn cs i))
+      (eq : q ≡ is Input (fieldsIn cs i))
       (ed : d ≡ ends ws (m .wires) 2 i) where
     pub edit-18 : not (s || (q && not d)) ≡ true → 18 ≡ editRefusal cs ws m i v
     unfolding editRefusal
@@ -106,7 +107,8 @@ module _ (T : Tables) (i v : ℕ) (z : editNumber T i v ≡ 0) where
   edit-settable =
       not-false (settable T i v) (refusal-first 18 (not (settable T i v)) (from-19 T i v) (λ q. omega arith) to-18)
 
-  pub edit-fits : below v (cond (is Switch (fieldsAt T i)) (outputWidth (fieldsAt T i)) (inputWidth (fieldsAt T i))) ≡ true
+  pub edit-fits : below v (cond (is Switch (fieldsAt T i)) (outputWidth (fieldsAt T i)) (inputWidth (fieldsAt T i)))
+      ≡ true
   edit-fits = not-false (fitting T i v) (refusal-first 19 (not (fitting T i v)) [] (λ q. omega arith) to-19)
 
   obeyed : (primitive (fieldsAt T i) && obeys (fieldsAt T i)) ≡ true
@@ -118,7 +120,8 @@ module _ (T : Tables) (i v : ℕ) (z : editNumber T i v ≡ 0) where
 
   pub edit-input : (is Switch (fieldsAt T i) ≡ true → ⊥) → firstInput T i < length (T .inputs)
   edit-input n =
-      let k : is Input (fieldsAt T i) ≡ true = an-input (is Switch (fieldsAt T i)) (is Input (fieldsAt T i)) (driven T i) edit-settable n in
+      let k : is Input (fieldsAt T i) ≡ true =
+      an-input (is Switch (fieldsAt T i)) (is Input (fieldsAt T i)) (driven T i) edit-settable n in
       omega (arith, input-inputs (fieldsAt T i) obeyed k, net-sound T edit-is-net .inputs-in i edit-there)
     where
       an-input : (s q d : Bool) → (s || (q && not d)) ≡ true → (s ≡ true → ⊥) → q ≡ true

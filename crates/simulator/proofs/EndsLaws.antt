@@ -1,5 +1,5 @@
--- Laws of the ends of wires (specs/Asked.antt): marking one wire more, listing one number more, and that sources, targets and
--- whether a component is driven are these.
+-- Laws of the ends of wires (specs/Asked.antt): marking one wire more, listing one number more, and that sources,
+-- targets and whether a component is driven are these.
 -- Assumes nothing.
 use mathlib.Core.Path.{_≡_, refl, sym, ap, _∙_}
 use mathlib.Core.Bool.{Bool, true, false, cond, _&&_, _||_, or-true, or-false, and-comm}
@@ -46,7 +46,8 @@ module _ (ws old marks : List ℕ) (near far i k : ℕ)
           getD-set-other marks at j 1 0 (λ z. eqb-false (endOf ws k far) j q (sym e ∙ sym z)) ∙ so-far j
           ∙ rw (last, q, or-false (meets ws k near far i j))
 
-  pub mark-none : (endOf ws k near ≡ i → ⊥) → (j : ℕ) → getD marks j 0 ≡ cond (meets ws (k + 1) near far i j) 1 (getD old j 0)
+  pub mark-none : (endOf ws k near ≡ i → ⊥) → (j : ℕ)
+      → getD marks j 0 ≡ cond (meets ws (k + 1) near far i j) 1 (getD old j 0)
   mark-none n j =
       let last : meets ws (k + 1) near far i j ≡ meets ws k near far i j =
       any-last (λ q. eqb (endOf ws q near) i && eqb (endOf ws q far) j) k
@@ -63,10 +64,12 @@ module _ (marks : List ℕ) (j : ℕ) where
   marked-none : (getD marks j 0 ≡ 1 → ⊥) → marked marks (j + 1) ≡ marked marks j
   marked-none e =
       ap (marked marks) (add-one j) ∙ ap (keep (λ q. eqb (getD marks q 0) 1)) (from-last j)
-      ∙ keep-append (λ q. eqb (getD marks q 0) 1) (from 0 j) (j ∷ []) ∙ rw (ne-eqb (getD marks j 0) 1 e) (append-nil (marked marks j))
+      ∙ keep-append (λ q. eqb (getD marks q 0) 1) (from 0 j) (j ∷ [])
+      ∙ rw (ne-eqb (getD marks j 0) 1 e) (append-nil (marked marks j))
 
 -- One number more at the front of a table.
-overlay-snoc : (xs t : List ℕ) (x : ℕ) → length xs < length t → set (overlay xs t) (length xs) x ≡ overlay (xs ++ (x ∷ [])) t
+overlay-snoc : (xs t : List ℕ) (x : ℕ) → length xs < length t
+    → set (overlay xs t) (length xs) x ≡ overlay (xs ++ (x ∷ [])) t
 unfolding overlay
 overlay-snoc xs t x h =
     let n : length (xs ++ (x ∷ [])) ≡ suc (length xs) = simp length-append (add-one (length xs)) in
@@ -75,11 +78,13 @@ overlay-snoc xs t x h =
     rw n (a ∙ sym (append-snoc xs x (drop (suc (length xs)) t)))
 
 -- So, where the list so far stands at the front of the table:
-module _ (marks t u : List ℕ) (listed j : ℕ) (count : listed ≡ length (marked marks j)) (so-far : u ≡ overlay (marked marks j) t) where
+module _ (marks t u : List ℕ) (listed j : ℕ) (count : listed ≡ length (marked marks j))
+    (so-far : u ≡ overlay (marked marks j) t) where
   pub list-here : listed < length t → getD marks j 0 ≡ 1
       → (listed + 1 ≡ length (marked marks (j + 1))) × (set u listed j ≡ overlay (marked marks (j + 1)) t)
   list-here h e =
-      let n : length (marked marks (j + 1)) ≡ length (marked marks j) + 1 = ap length (marked-here marks j e) ∙ simp length-append in
+      let n : length (marked marks (j + 1)) ≡ length (marked marks j) + 1 =
+      ap length (marked-here marks j e) ∙ simp length-append in
       let l : length (marked marks j) < length t = omega arith in
       (omega arith, rw (so-far, count, marked-here marks j e) (overlay-snoc (marked marks j) t j l))
 

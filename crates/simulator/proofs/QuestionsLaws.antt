@@ -1,5 +1,5 @@
--- The answers to the questions, by the number of their checks: refused, or what the net says. And what the net gives the functions
--- that find it.
+-- The answers to the questions, by the number of their checks: refused, or what the net says. And what the net gives
+-- the functions that find it.
 -- Not here: laws of the ends of wires (EndsLaws).
 -- Assumes nothing.
 use mathlib.Core.Path.{_≡_, refl, sym, ap, _∙_}
@@ -46,7 +46,8 @@ module _ (T : Tables) (others : List (ℕ × Bool)) where
   unfolding netNumber
   number-refused k e ne = by-test (fullSize T) (isNet T) e
     where
-      by-test : (a b : Bool) → k ≡ refusal ((2 if not a) ∷ (16 if not b) ∷ []) → refusal ((2 if not a) ∷ (16 if not b) ∷ others) ≡ k
+      by-test : (a b : Bool) → k ≡ refusal ((2 if not a) ∷ (16 if not b) ∷ [])
+          → refusal ((2 if not a) ∷ (16 if not b) ∷ others) ≡ k
       by-test true true q = absurd (ne q)
       by-test true false q = sym q
       by-test false b q = sym q
@@ -65,7 +66,8 @@ module _ (T : Tables) (others : List (ℕ × Bool)) where
   unfolding netNumber
   number-passed z = by-test (fullSize T) (isNet T) z
     where
-      by-test : (a b : Bool) → refusal ((2 if not a) ∷ (16 if not b) ∷ others) ≡ 0 → refusal ((2 if not a) ∷ (16 if not b) ∷ []) ≡ 0
+      by-test : (a b : Bool) → refusal ((2 if not a) ∷ (16 if not b) ∷ others) ≡ 0
+          → refusal ((2 if not a) ∷ (16 if not b) ∷ []) ≡ 0
       by-test true true q = refl
       by-test true false q = absurd (omega arith)
       by-test false b q = absurd (omega arith)
@@ -102,7 +104,8 @@ pub calm-refused : (T : Tables) (k : ℕ) → k ≡ netNumber T → (k ≡ 0 →
 unfolding calmAnswer
 calm-refused T k e ne = rw (← e, ne-eqb k 0 ne)
 
-pub calm-is : (T : Tables) (b : Bool) → netNumber T ≡ 0 → b ≡ every (λ i. is Clock (fieldsAt T i)) (currentList T) → CalmIs b ≡ calmAnswer T
+pub calm-is : (T : Tables) (b : Bool) → netNumber T ≡ 0 → b ≡ every (λ i. is Clock (fieldsAt T i)) (currentList T)
+    → CalmIs b ≡ calmAnswer T
 unfolding calmAnswer calm
 calm-is T b z e = rw (z, e)
 
@@ -111,7 +114,8 @@ pub index-refused : (T : Tables) (id k : ℕ) → k ≡ netNumber T → (k ≡ 0
 unfolding indexAnswer
 index-refused T id k e ne = rw (← e, ne-eqb k 0 ne)
 
-pub index-found : (T : Tables) (id : ℕ) (r : Index) → netNumber T ≡ 0 → r ≡ found (first (λ i. eqb (idAt T i) id) (indexes T))
+pub index-found : (T : Tables) (id : ℕ) (r : Index) → netNumber T ≡ 0
+    → r ≡ found (first (λ i. eqb (idAt T i) id) (indexes T))
     → r ≡ indexAnswer T id
 unfolding indexAnswer indexOf
 index-found T id r z e = rw z e
@@ -130,16 +134,19 @@ module _ (T : Tables) (side : Side) (i p : ℕ) where
   on-net z = rw (number-net T ((17 if none) ∷ []) z) (by-test none)
     where
       by-test : (b : Bool) → cond b (NoPort (refusedBy 17)) (PortIs (valueAt T side i p))
-          ≡ cond (eqb (refusal ((17 if b) ∷ [])) 0) (PortIs (valueAt T side i p)) (NoPort (refusedBy (refusal ((17 if b) ∷ []))))
+          ≡ cond (eqb (refusal ((17 if b) ∷ [])) 0) (PortIs (valueAt T side i p))
+          (NoPort (refusedBy (refusal ((17 if b) ∷ []))))
       by-test true = refl
       by-test false = refl
 
-  lent-value : (side : Side) → valueOnNet (lent (T .components) (T .inputs) (T .outputs) [] (T .counts)) side i p ≡ valueOnNet T side i p
+  lent-value : (side : Side)
+      → valueOnNet (lent (T .components) (T .inputs) (T .outputs) [] (T .counts)) side i p ≡ valueOnNet T side i p
   unfolding valueOnNet
   lent-value Inputs = refl
   lent-value Outputs = refl
 
-  pub value-there : (r : Port) → netNumber T ≡ 0 → r ≡ valueOnNet (lent (T .components) (T .inputs) (T .outputs) [] (T .counts)) side i p
+  pub value-there : (r : Port) → netNumber T ≡ 0
+      → r ≡ valueOnNet (lent (T .components) (T .inputs) (T .outputs) [] (T .counts)) side i p
       → r ≡ valueAnswer T side i p
   value-there r z e = e ∙ lent-value side ∙ on-net z
 
@@ -151,13 +158,15 @@ module _ (T : Tables) (side : Side) (i p : ℕ) where
 
   module _ (r : Port) (f : Fields) (start w : ℕ) (h : i < T .counts .components) (e : f ≡ fieldsAt T i) where
     pub value-input : side ≡ Inputs → start ≡ firstInput T i → w ≡ inputWidth f
-        → r ≡ cond (leb (f .inputs) p) (NoPort (refusedBy 17)) (PortIs (record { number = getD (T .inputs) (start + p) 0; width = w }))
+        → r ≡ cond (leb (f .inputs) p) (NoPort (refusedBy 17))
+        (PortIs (record { number = getD (T .inputs) (start + p) 0; width = w }))
         → r ≡ valueOnNet T side i p
     unfolding valueOnNet
     value-input k q u given = given ∙ rw (k, u, q, e, lt-leb (T .counts .components) i h)
 
     pub value-output : side ≡ Outputs → start ≡ firstOutput T i → w ≡ outputWidth f
-        → r ≡ cond (leb (f .outputs) p) (NoPort (refusedBy 17)) (PortIs (record { number = getD (T .outputs) (start + p) 0; width = w }))
+        → r ≡ cond (leb (f .outputs) p) (NoPort (refusedBy 17))
+        (PortIs (record { number = getD (T .outputs) (start + p) 0; width = w }))
         → r ≡ valueOnNet T side i p
     unfolding valueOnNet
     value-output k q u given = given ∙ rw (k, u, q, e, lt-leb (T .counts .components) i h)
@@ -178,11 +187,13 @@ module _ (T : Tables) (i : ℕ) (list : List ℕ) where
 
   pub list-none : 256 ≤ length list → netNumber T ≡ 0 → T .counts .components ≤ i → 17 ≡ listNumber T i list
   list-none h z l =
-      sym (long h ∙ number-net T ((17 if leb (T .counts .components) i) ∷ []) z ∙ rw (le-leb (T .counts .components) i l))
+      sym (long h ∙ number-net T ((17 if leb (T .counts .components) i) ∷ []) z
+      ∙ rw (le-leb (T .counts .components) i l))
 
   pub list-passed : 256 ≤ length list → netNumber T ≡ 0 → i < T .counts .components → 0 ≡ listNumber T i list
   list-passed h z l =
-      sym (long h ∙ number-net T ((17 if leb (T .counts .components) i) ∷ []) z ∙ rw (lt-leb (T .counts .components) i l))
+      sym (long h ∙ number-net T ((17 if leb (T .counts .components) i) ∷ []) z
+      ∙ rw (lt-leb (T .counts .components) i l))
 
   -- and what holds where nothing was refused.
   module _ (z : listNumber T i list ≡ 0) where
@@ -190,7 +201,8 @@ module _ (T : Tables) (i : ℕ) (list : List ℕ) where
     unfolding listNumber
     list-full =
         ltb-false (length list) 256 (or-right (not (fullSize T)) (ltb (length list) 256)
-        (refusal-first 2 (not (fullSize T) || ltb (length list) 256) ((16 if not (isNet T)) ∷ (17 if leb (T .counts .components) i) ∷ [])
+        (refusal-first 2 (not (fullSize T) || ltb (length list) 256)
+        ((16 if not (isNet T)) ∷ (17 if leb (T .counts .components) i) ∷ [])
         (λ q. omega arith) z))
 
     pub list-net : netNumber T ≡ 0

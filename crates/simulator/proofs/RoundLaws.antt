@@ -54,11 +54,17 @@ module _ (T : Tables) (z : netNumber T ≡ 0) where
   net-copied t t' h e =
       let k : take (T .counts .following) t' ≡ followingList T = copy-list (T .counts .following) (T .following) t t'
       (following-in T z) e in
-      record { whole = h; count = omega (arith, net-within T z .following); named = rw k (netNumber-net T z .following) }
+      record {
+        whole = h;
+        count = omega (arith, net-within T z .following);
+        named = rw k
+            (netNumber-net T z .following);
+      }
 
 -- The three copies at the end.
 pub round-ended : (cur fol std next left cur' fol' std' : List ℕ) (m : Counts) (n : Sizes) → n .following ≤ length next
-    → n .standing ≤ length left → cur' ≡ overlay (take (n .following) next) cur → fol' ≡ overlay (take (n .standing) left) fol
+    → n .standing ≤ length left → cur' ≡ overlay (take (n .following) next) cur
+    → fol' ≡ overlay (take (n .standing) left) fol
     → std' ≡ overlay (take (n .standing) left) std
     → tablesOf [] [] [] [] cur' fol' std' (record {
       components = m .components;
@@ -68,7 +74,8 @@ pub round-ended : (cur fol std next left cur' fol' std' : List ℕ) (m : Counts)
       current = n .following;
       following = n .standing;
       standing = n .standing;
-    }) ≡ leave (tablesOf [] [] [] [] cur fol std m) (turn (stateAt [] [] (take (n .following) next) (take (n .standing) left)))
+    }) ≡ leave (tablesOf [] [] [] [] cur fol std m) (turn (stateAt [] [] (take (n .following) next)
+    (take (n .standing) left)))
 unfolding leave
 round-ended cur fol std next left cur' fol' std' m n h k ec ef es =
     let a : length (take (n .following) next) ≡ n .following = length-take-le (n .following) next h in
@@ -80,20 +87,26 @@ module _ (T : Tables) (t : ℕ) where
   abbrev W : Tables
   W = wiring (T .components) (T .wires) (T .counts)
 
-  round-visits : (s : State) → s ≡ foldl (visit W (wiresIn W) t) (stateAt (T .inputs) (T .outputs) (followingList T) (standingList T)) (currentList T)
+  round-visits : (s : State)
+      → s ≡ foldl (visit W (wiresIn W) t) (stateAt (T .inputs) (T .outputs) (followingList T) (standingList T))
+      (currentList T)
       → roundOf t T ≡ leave T (turn s)
   unfolding roundOf round visit evaluated send
   round-visits s e =
       ap (λ (u : State). leave T (turn u))
-      (visits-current T (wiresIn T) t (currentList T) (stateAt (T .inputs) (T .outputs) (followingList T) (standingList T)) (currentList T))
+      (visits-current T (wiresIn T) t (currentList T)
+      (stateAt (T .inputs) (T .outputs) (followingList T) (standingList T)) (currentList T))
       ∙ ap (λ (u : State). leave T (turn u)) (sym e)
 
   pub round-made : (nx lf ins outs nx' lf' cur fol std : List ℕ) (n : Sizes) (r : Counts)
       → take (T .counts .following) nx ≡ followingList T → take (T .counts .standing) lf ≡ standingList T
       → stateAt ins outs (take (n .following) nx') (take (n .standing) lf')
-      ≡ foldl (visit W (wiresIn W) t) (stateAt (T .inputs) (T .outputs) (take (T .counts .following) nx) (take (T .counts .standing) lf)) (currentList T)
+      ≡ foldl (visit W (wiresIn W) t)
+      (stateAt (T .inputs) (T .outputs) (take (T .counts .following) nx) (take (T .counts .standing) lf))
+      (currentList T)
       → tablesOf [] [] [] [] cur fol std r
-      ≡ leave (tablesOf [] [] [] [] (T .current) (T .following) (T .standing) (T .counts)) (turn (stateAt [] [] (take (n .following) nx') (take (n .standing) lf')))
+      ≡ leave (tablesOf [] [] [] [] (T .current) (T .following) (T .standing) (T .counts))
+      (turn (stateAt [] [] (take (n .following) nx') (take (n .standing) lf')))
       → tablesOf (T .components) ins outs (T .wires) cur fol std r ≡ roundOf t T
   unfolding leave
   round-made nx lf ins outs nx' lf' cur fol std n r ef es v e =

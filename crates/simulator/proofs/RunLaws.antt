@@ -61,13 +61,15 @@ module _ (t : ℕ) (T U : Tables) (net : netNumber T ≡ 0) (made : U ≡ roundO
   unfolding run
   run-more k = rw (left, current-length)
 
-  pub run-turn : (limit r e : ℕ) (c : Bool) (x : Run) → r < limit → c ≡ calm U → onTop r e (stopped false (limit - r) t T) ≡ x
+  pub run-turn : (limit r e : ℕ) (c : Bool) (x : Run) → r < limit → c ≡ calm U
+      → onTop r e (stopped false (limit - r) t T) ≡ x
       → onTop (r + 1) (e + T .counts .current) (stopped c (limit - (r + 1)) t U) ≡ x
   run-turn limit r e c x h q so-far =
       let d : limit - r ≡ suc (limit - (r + 1)) = omega arith in
       let y = stopped c (limit - (r + 1)) t U in
       let a : run (limit - r) t T ≡ onceMore (T .counts .current) y =
-      ap (λ (k : ℕ). run k t T) d ∙ run-more (limit - (r + 1)) ∙ ap (λ (b : Bool). onceMore (T .counts .current) (stopped b (limit - (r + 1)) t U)) (sym q) in
+      ap (λ (k : ℕ). run k t T) d ∙ run-more (limit - (r + 1))
+      ∙ ap (λ (b : Bool). onceMore (T .counts .current) (stopped b (limit - (r + 1)) t U)) (sym q) in
       let f : r + 1 + y .rounds ≡ r + suc (y .rounds) = omega arith in
       let g : e + T .counts .current + y .evaluations ≡ e + (T .counts .current + y .evaluations) = omega arith in
       let i : onTop (r + 1) (e + T .counts .current) y ≡ onTop r e (onceMore (T .counts .current) y) = rw (f, g) in
@@ -101,7 +103,8 @@ run-end true limit r e t T x q so-far = run-calm limit r e t T x so-far
 run-end false limit r e t T x q so-far = run-limit limit r e t T x (ltb-false r limit q) so-far
 
 -- Calm is read off the components and the current list.
-pub calm-list : (U : Tables) → every (λ i. is Clock (fieldsIn (U .components) i)) (take (U .counts .current) (U .current)) ≡ calm U
+pub calm-list : (U : Tables)
+    → every (λ i. is Clock (fieldsIn (U .components) i)) (take (U .counts .current) (U .current)) ≡ calm U
 unfolding calm
 calm-list U = refl
 

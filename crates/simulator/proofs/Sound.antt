@@ -90,7 +90,7 @@ module _ (T : Tables) (full : fullSize T ≡ true) (net : isNet T ≡ true) wher
             distinct-key (λ (v : Wire). inputPlace T (v .dst)) (wiresIn T) w x (inputsOnce-sound T (clauses .once));
       }
 
--- The same of tables whose number is 0; their counts are within the limits, and each list is as long as its count at least.
+-- The same of tables whose number is 0. Their counts are within the limits, and each list has room for its count.
 module _ (T : Tables) (z : netNumber T ≡ 0) where
   pub net-sound : Sound T
   net-sound = isNet-wiring T (netNumber-full T z) (netNumber-isNet T z)

@@ -9,7 +9,8 @@ use Rattle.simulator.proofs.questions.sources_of.Tie as tie
 abbrev came : tie.Start → Tables
 came s =
     let a = s .args in
-    tablesOf (a .components .now) (a .inputs .now) (a .outputs .now) (a .wires .now) (a .current .now) (a .following .now)
+    tablesOf (a .components .now) (a .inputs .now) (a .outputs .now) (a .wires .now) (a .current .now)
+    (a .following .now)
     (a .standing .now) (a .counts)
 
 list-joined-requires : tie.Need-list-joined-requires

@@ -73,16 +73,20 @@ returns-2 c =
     let w = c .before .before .before in
     let f = w .before .before .before in
     let s = start (f .before) in
-    value-input (came s) (s .args .side) (s .args .i) (s .args .port) _ _ _ _ (f .before .if1 .left) (f .fields-at .ensures)
-    (w .before .enum-told .given .1) (w .word-of .ensures) (c .before .before .input-width .ensures) (c .port-value .ensures)
+    value-input (came s) (s .args .side) (s .args .i) (s .args .port) _ _ _ _ (f .before .if1 .left)
+    (f .fields-at .ensures)
+    (w .before .enum-told .given .1) (w .word-of .ensures) (c .before .before .input-width .ensures)
+    (c .port-value .ensures)
 
 returns-3 : tie.Need-returns-3
 returns-3 c =
     let w = c .before .before .before in
     let f = w .before .before .before in
     let s = start (f .before) in
-    value-output (came s) (s .args .side) (s .args .i) (s .args .port) _ _ _ _ (f .before .if1 .left) (f .fields-at .ensures)
-    (w .before .enum-told2 .given .1) (w .word-of2 .ensures) (c .before .before .output-width .ensures) (c .port-value2 .ensures)
+    value-output (came s) (s .args .side) (s .args .i) (s .args .port) _ _ _ _ (f .before .if1 .left)
+    (f .fields-at .ensures)
+    (w .before .enum-told2 .given .1) (w .word-of2 .ensures) (c .before .before .output-width .ensures)
+    (c .port-value2 .ensures)
 
 pub value-in-spec : {M : Type 1} → statement M
 value-in-spec =

@@ -1,4 +1,5 @@
--- `end_round`: the three copies are the tables that are left. Assumes nothing.
+-- `end_round`: the three copies are the tables that are left.
+-- Assumes nothing.
 use Rattle.simulator.proofs.RoundLaws.{round-ended}
 use borrow.Author.Needs.{needs}
 use Rattle.simulator.proofs.rounds.end_round.Statement.{statement}
@@ -24,8 +25,11 @@ same-length-3 c = search needs
 
 returns : tie.Need-returns
 returns c =
-    let s = c .before .before .before .before .before .before .before .before .before .before .before .before .before .before .before .before .before in
-    round-ended _ _ _ _ _ _ _ _ (s .args .counts) (s .args .sizes) (s .pre .0) (s .pre .1) (c .before .before .before .before .before .before .before .before .before .before .copy .ensures) (c .before .before .before .before .before .before .copy2 .ensures) (c .before .before .copy3 .ensures)
+    let at-copy2 = c .before .before .before .before .before .before in
+    let at-copy = at-copy2 .before .before .before .before in
+    let s = at-copy .before .before .before .before .before .before .before in
+    round-ended _ _ _ _ _ _ _ _ (s .args .counts) (s .args .sizes) (s .pre .0) (s .pre .1) (at-copy .copy .ensures)
+    (at-copy2 .copy2 .ensures) (c .before .before .copy3 .ensures)
 
 pub end-round-spec : {M : Type 1} → statement M
 end-round-spec =
