@@ -2,6 +2,7 @@
 -- docs/SPECIFICATION.md, "Rounds".
 --   Fits T t s i       an evaluation of component i at time t would change nothing
 --   Named s i          one of the three lists names i
+--   Awaits T ran s i   so it is, and where a round has run i is no Clock
 --   Inv T ran t s      between calls: whether a round has run, and the time of the last
 --   Due T rest s i     within a round, i is still to be evaluated
 --   Mid T t rest todo s   within a round: `rest` is left of the current list, `todo` of the component's wires
@@ -29,7 +30,7 @@ use Rattle.tables.specs.Tables.{Tables, fieldsAt, firstInput, firstOutput, inpu
 use Rattle.simulator.specs.Round.{State, wiresFrom, turn, evaluated, send, visit, round}
 use Rattle.simulator.proofs.Ports.{Off, sets-at-ne, numbers-set, numbers-sets, numbers-sets-same}
 use Rattle.simulator.proofs.Evaluation.{outputsAfter-time, outputsAfter-twice}
-use Rattle.simulator.proofs.Sound.{outputsEnd, OutputsBeside, Sound, outputs-beside, outputs-off, inputs-off, input-room, target-unclocked}
+use Rattle.simulator.proofs.Sound.{outputCount, outputsEnd, Beside, Sound, outputs-beside, outputs-off, inputs-off, input-room, target-unclocked}
 use Rattle.simulator.proofs.Held.{Held, Order, carried, Agree, written, SendCase, agrees, writes, send-case, made, send-held, made-length, evaluated-held, wiresFrom-in}
 
 -- Component i is a Clock.
@@ -44,12 +45,16 @@ pub data Named (s : State) (i : ℕ) : Type 0 where
   next : In i (s .following) → Named s i
   later : In i (s .standing) → Named s i
 
+-- Component i is named and, where a round has run, no Clock.
+abbrev pub Awaits : Tables → Bool → State → ℕ → Type 0
+Awaits T ran s i = ((ran && clocked T i) ≡ false) × Named s i
+
 -- Each wire agrees or its source is named; each component fits or is named; after a round, no Clock needs its name
 -- for that. All three lists name every Clock.
 pub record Inv (T : Tables) (ran : Bool) (t : ℕ) (s : State) : Type 0 where
   pub wired : (w : Wire) → In w (wiresIn T)
-      → Agree T s w ⊎ (((ran && clocked T (w .src .comp)) ≡ false) × Named s (w .src .comp))
-  pub fitted : (i : ℕ) → i < T .counts .components → Fits T t s i ⊎ (((ran && clocked T i) ≡ false) × Named s i)
+      → Agree T s w ⊎ Awaits T ran s (w .src .comp)
+  pub fitted : (i : ℕ) → i < T .counts .components → Fits T t s i ⊎ Awaits T ran s i
   pub clock-current : (i : ℕ) → i < T .counts .components → clocked T i ≡ true → In i (s .current)
   pub clock-following : (i : ℕ) → i < T .counts .components → clocked T i ≡ true → In i (s .following)
   pub clock-standing : (i : ℕ) → i < T .counts .components → clocked T i ≡ true → In i (s .standing)
@@ -65,6 +70,16 @@ pub record Mid (T : Tables) (t : ℕ) (rest : List ℕ) (todo : List Wire) (s : 
   pub fitted : (i : ℕ) → i < T .counts .components → Fits T t s i ⊎ Due T rest s i
   pub clock-following : (i : ℕ) → i < T .counts .components → clocked T i ≡ true → In i (s .following)
   pub clock-standing : (i : ℕ) → i < T .counts .components → clocked T i ≡ true → In i (s .standing)
+
+-- An evaluation of component i leaves every other name in the standing list.
+pub evaluated-standing : (T : Tables) (t i d : ℕ) (s : State) → (d ≡ i → ⊥) → In d (s .standing)
+    → In d (evaluated T t i s .standing)
+unfolding evaluated
+evaluated-standing T t i d s ne m = by-clock (clocked T i)
+  where
+    by-clock : (b : Bool) → In d (cond b (s .standing) (strike i (s .standing)))
+    by-clock true = m
+    by-clock false = strike-kept i d (s .standing) ne m
 
 module _ (T : Tables) (g : Sound T) where
   abbrev n : ℕ
@@ -135,7 +150,7 @@ module _ (T : Tables) (g : Sound T) where
             inl (ap (λ (xs : List ℕ). outputsAfter (fieldsAt T i) xs (outputsAt T (s .outputs) i) t)
             (numbers-set (s .inputs) (firstInput T i) (fieldsAt T i .inputs) (inputPlace T (v .dst))
             (carried T s v)
-            (omega (arith, a .held .inputs-length, g .inputs-in i h)) (inputs-off T g i v h m ne)) ∙ q)
+            (omega (arith, a .held .inputs-length, g .inputs-in i h)) (inputs-off T g i v h m (λ e. ne (sym e)))) ∙ q)
         fit i h (no ne) (inr q) = inr (due i q)
 
     pub send-mid : Mid T t rest ws (send T s v)
@@ -172,7 +187,7 @@ module _ (T : Tables) (g : Sound T) where
         numbers-sets (s .outputs) (firstOutput T d) (fieldsAt T d .outputs) (firstOutput T i) (made T t s i) (room d q)
         (beside (outputs-beside T g i d h q ne))
       where
-        beside : OutputsBeside T i d
+        beside : Beside (firstOutput T) (outputCount T) i d
             → (firstOutput T i + length (made T t s i) ≤ firstOutput T d)
             ⊎ (outputsEnd T d ≤ firstOutput T i)
         beside (inl u) = inl (omega (arith, len))
@@ -198,27 +213,19 @@ module _ (T : Tables) (g : Sound T) where
         subst (λ (ys : List ℕ). outputsAfter (fieldsAt T d) (inputsAt T (s .inputs) d) ys t ≡ ys)
         (sym (others-made d q ne)) f
 
-    still-standing : (d : ℕ) → (d ≡ i → ⊥) → In d (s .standing) → In d (evaluated T t i s .standing)
-    unfolding evaluated
-    still-standing d ne m = by-clock (clocked T i)
-      where
-        by-clock : (b : Bool) → In d (cond b (s .standing) (strike i (s .standing)))
-        by-clock true = m
-        by-clock false = strike-kept i d (s .standing) ne m
-
     clock-stands : (d : ℕ) → clocked T d ≡ true → Dec (d ≡ i) → In d (s .standing) → In d (evaluated T t i s .standing)
     unfolding evaluated
     clock-stands d e (yes p) m =
         subst (λ (l : List ℕ). In d l)
         (sym (ap (λ (b : Bool). cond b (s .standing) (strike i (s .standing))) (ap (clocked T) (sym p) ∙ e))) m
-    clock-stands d e (no ne) m = still-standing d ne m
+    clock-stands d e (no ne) m = evaluated-standing T t i d s ne m
 
     still-due : (d : ℕ) → (d ≡ i → ⊥) → Due T (i ∷ rest) s d → Due T rest (evaluated T t i s) d
     unfolding evaluated
     still-due d ne (in-rest (inl e)) = absurd (ne e)
     still-due d ne (in-rest (inr m)) = in-rest m
     still-due d ne (in-following e m) = in-following e m
-    still-due d ne (in-standing e m) = in-standing e (still-standing d ne m)
+    still-due d ne (in-standing e m) = in-standing e (evaluated-standing T t i d s ne m)
 
     evaluated-mid : Mid T t rest (wiresFrom i ws) (evaluated T t i s)
     unfolding evaluated
@@ -278,13 +285,13 @@ module _ (T : Tables) (g : Sound T) where
         due i h false e (later m) = in-standing e m
 
         wire : (w : Wire) → In w (wiresIn T)
-            → Agree T s w ⊎ (((ran && clocked T (w .src .comp)) ≡ false) × Named s (w .src .comp))
+            → Agree T s w ⊎ Awaits T ran s (w .src .comp)
             → Agree T s w ⊎ (Due T (s .current) s (w .src .comp) ⊎ In w [])
         wire w m (inl q) = inl q
         wire w m (inr q) = inr (inl (due (w .src .comp) (g .source w m) (clocked T (w .src .comp)) refl (q .1)))
 
         fit : (i : ℕ) → i < n → (b : Bool) → clocked T i ≡ b
-            → Fits T t s i ⊎ (((ran && clocked T i) ≡ false) × Named s i) → Fits T u s i ⊎ Due T (s .current) s i
+            → Fits T t s i ⊎ Awaits T ran s i → Fits T u s i ⊎ Due T (s .current) s i
         fit i h true e q = inr (in-rest (a .clock-current i h e))
         fit i h false e (inl q) =
             inl (outputsAfter-time (fieldsAt T i) (g .obeyed i h) (inputsAt T (s .inputs) i)

@@ -7,33 +7,37 @@ use Prim.Native.Nat.{ℕ}
 use borrow.Author.Tests.{ne-eqb}
 use Rattle.tables.specs.Tables.{Tables, fullSize}
 use Rattle.net.specs.Net.{isNet, netNumber}
-use Rattle.net.proofs.NetLaws.{netNumber-0}
+use Rattle.net.proofs.NetLaws.{netNumber-full, netNumber-isNet, netNumber-0}
 use Rattle.simulator.specs.Round.{stateOf, leave, edited}
 use Rattle.simulator.specs.Calls.{editNumber, editTables}
-use Rattle.simulator.proofs.Sound.{Sound, isNet-wiring}
+use Rattle.simulator.proofs.EditsLaws.{edit-is-net, edit-there}
+use Rattle.simulator.proofs.Sound.{isNet-wiring}
 use Rattle.simulator.proofs.Held.{Held}
 use Rattle.simulator.proofs.Kept.{by-number}
-use Rattle.quiet.proofs.Edited.{Editable, editNumber-full, editNumber-net, editNumber-editable, edited-held}
+use Rattle.quiet.proofs.Edited.{editNumber-editable, edited-held}
 use Rattle.simulator.proofs.Left.{SameWiring, SameLengths, sameWiring-none, sameLengths-none, leave-wiring, isNet-held, leave-lengths, fullSize-kept, isNet-kept}
 
--- On a net of full size.
-module _ (T : Tables) (full : fullSize T ≡ true) (net : isNet T ≡ true) where
-  sound : Sound T
-  sound = isNet-wiring T full net
+-- An edit that is not refused: the tables are a net, and it leaves a net of full size.
+module _ (T : Tables) (i v : ℕ) (e : editNumber T i v ≡ 0) where
+  full : fullSize T ≡ true
+  full = netNumber-full T (edit-is-net T i v e)
 
-  -- An edit that is not refused leaves a net of full size.
-  module _ (i v : ℕ) (ok : Editable T i v) where
-    pub edited-leaves : Held T (edited T i v (stateOf T))
-    edited-leaves = edited-held T sound i v (ok .exists) (stateOf T) (isNet-held T full net) ok
+  net : isNet T ≡ true
+  net = netNumber-isNet T (edit-is-net T i v e)
 
-    pub edited-isNet : isNet (leave T (edited T i v (stateOf T))) ≡ true
-    edited-isNet = isNet-kept T full net (edited T i v (stateOf T)) edited-leaves
+  pub edited-leaves : Held T (edited T i v (stateOf T))
+  edited-leaves =
+      edited-held T (isNet-wiring T full net) i v (edit-there T i v e) (stateOf T) (isNet-held T full net)
+      (editNumber-editable T i v e)
 
-    pub edited-fullSize : fullSize (leave T (edited T i v (stateOf T))) ≡ true
-    edited-fullSize = fullSize-kept T full net (edited T i v (stateOf T)) edited-leaves
+  edited-net : netNumber (leave T (edited T i v (stateOf T))) ≡ 0
+  edited-net =
+      sym (netNumber-0 (leave T (edited T i v (stateOf T)))
+      (fullSize-kept T full net (edited T i v (stateOf T)) edited-leaves)
+      (isNet-kept T full net (edited T i v (stateOf T)) edited-leaves))
 
-    pub edited-lengths : SameLengths T (leave T (edited T i v (stateOf T)))
-    edited-lengths = leave-lengths T full net (edited T i v (stateOf T)) edited-leaves
+  edited-lengths : SameLengths T (leave T (edited T i v (stateOf T)))
+  edited-lengths = leave-lengths T full net (edited T i v (stateOf T)) edited-leaves
 
 -- The tables after an edit that is not refused.
 pub editTables-done : (T : Tables) (i v : ℕ) → editNumber T i v ≡ 0
@@ -45,10 +49,6 @@ editTables-done T i v e = rw e
 pub editTables-refused : (T : Tables) (i v : ℕ) → (editNumber T i v ≡ 0 → ⊥) → editTables T i v ≡ T
 unfolding editTables
 editTables-refused T i v e = rw (ne-eqb (editNumber T i v) 0 e)
-
--- An edit of tables that are a net is judged by its own checks: where it is not refused, neither 2 nor 16 was given.
-pub editNumber-netNumber : (T : Tables) (i v : ℕ) → editNumber T i v ≡ 0 → netNumber T ≡ 0
-editNumber-netNumber T i v e = sym (netNumber-0 T (editNumber-full T i v e) (editNumber-net T i v e))
 
 -- Any edit, refused or not, of any tables leaves components and wires as they were, and their counts.
 pub editTables-wiring : (T : Tables) (i v : ℕ) → SameWiring T (editTables T i v)
@@ -63,7 +63,7 @@ pub editTables-lengths : (T : Tables) (i v : ℕ) → SameLengths T (editTables 
 unfolding editTables
 editTables-lengths T i v =
     by-number (SameLengths T) (editNumber T i v) (leave T (edited T i v (stateOf T))) T
-    (λ e. edited-lengths T (editNumber-full T i v e) (editNumber-net T i v e) i v (editNumber-editable T i v e))
+    (edited-lengths T i v)
     (sameLengths-none T)
 
 -- An edit of a net, refused or not, leaves a net.
@@ -71,7 +71,4 @@ pub editTables-net : (T : Tables) (i v : ℕ) → netNumber T ≡ 0 → netNumbe
 unfolding editTables
 editTables-net T i v e =
     by-number (λ (U : Tables). netNumber U ≡ 0) (editNumber T i v) (leave T (edited T i v (stateOf T))) T
-    (λ q. let f = editNumber-full T i v q in
-    let n = editNumber-net T i v q in
-    let ok = editNumber-editable T i v q in
-    sym (netNumber-0 (leave T (edited T i v (stateOf T))) (edited-fullSize T f n i v ok) (edited-isNet T f n i v ok))) e
+    (edited-net T i v) e

@@ -7,7 +7,7 @@
 -- Assumes nothing.
 use mathlib.Core.Path.{_≡_, refl, sym, ap, _∙_}
 use mathlib.Core.Logic.{_⊎_, inl, inr}
-use mathlib.Core.Bool.{Bool, true, false, _&&_, _||_, true≢false}
+use mathlib.Core.Bool.{Bool, true, false, _&&_, _||_, or-true, true≢false}
 use mathlib.Core.List.{List, [], _∷_}
 use Prim.Native.Nat.{ℕ, suc, _+_, _≤_, _<_}
 use native.Mathlib.Omega.{arith}
@@ -25,10 +25,10 @@ use Rattle.net.specs.Net.{netNumber}
 use Rattle.net.proofs.NetLaws.{netNumber-full, netNumber-isNet}
 use Rattle.simulator.specs.Round.{stateOf}
 use Rattle.simulator.proofs.Evaluation.{const-outputs, outputsAfter-function, functionOf-const}
-use Rattle.simulator.proofs.Sound.{Sound, isNet-wiring}
+use Rattle.simulator.proofs.Sound.{Sound, net-sound}
 use Rattle.simulator.proofs.Held.{Held, Agree}
 use Rattle.simulator.proofs.Left.{isNet-held}
-use Rattle.quiet.proofs.Invariant.{clocked, Fits, Named, now, next, later}
+use Rattle.quiet.proofs.Invariant.{clocked, Fits, Awaits, Named, now, next, later}
 use Rattle.quiet.proofs.Since.{Fresh, Since, Unbroken, since-net, since-unbroken}
 
 -- The output and the input of a wire hold the same number.
@@ -55,27 +55,11 @@ pub record ObeyedAt (T : Tables) (ran : Bool) (t : ℕ) : Type 0 where
   pub settled : ran ≡ true → ((i : ℕ) → i < T .counts .components → named T i ≡ true → is Clock (fieldsAt T i) ≡ true)
       → SatisfiedAt T t
 
-or-one : (a b c : Bool) → a ≡ true → (a || b || c) ≡ true
-or-one a b c e = rw e
-
-or-two : (a b c : Bool) → b ≡ true → (a || b || c) ≡ true
-or-two true b c e = refl
-or-two false b c e = rw e
-
-or-three : (a b c : Bool) → c ≡ true → (a || b || c) ≡ true
-or-three true b c e = refl
-or-three false true c e = refl
-or-three false false c e = e
-
 named-test : (T : Tables) (i : ℕ) → Named (stateOf T) i → named T i ≡ true
-named-test T i (now m) =
-    or-one (has i (currentList T)) (has i (followingList T)) (has i (standingList T)) (has-complete i (currentList T) m)
-named-test T i (next m) =
-    or-two (has i (currentList T)) (has i (followingList T)) (has i (standingList T))
-    (has-complete i (followingList T) m)
+named-test T i (now m) = rw (has-complete i (currentList T) m)
+named-test T i (next m) = rw (has-complete i (followingList T) m, or-true (has i (currentList T)))
 named-test T i (later m) =
-    or-three (has i (currentList T)) (has i (followingList T)) (has i (standingList T))
-    (has-complete i (standingList T) m)
+    rw (has-complete i (standingList T) m, or-true (has i (currentList T) || has i (followingList T)))
 
 -- One port's numbers are its number.
 numbers-one : (l : List ℕ) (a k : ℕ) → k ≡ 1 → a + k ≤ length l → numbers l a k ≡ getD l a 0 ∷ []
@@ -86,7 +70,7 @@ numbers-one l a k e h =
 
 module _ (T : Tables) (ran : Bool) (t : ℕ) (e : netNumber T ≡ 0) (a : Unbroken T ran t) where
   g : Sound T
-  g = isNet-wiring T (netNumber-full T e) (netNumber-isNet T e)
+  g = net-sound T e
 
   held : Held T (stateOf T)
   held = isNet-held T (netNumber-full T e) (netNumber-isNet T e)
@@ -116,13 +100,13 @@ module _ (T : Tables) (ran : Bool) (t : ℕ) (e : netNumber T ≡ 0) (a : Unbrok
       }
     where
       differ : (w : Wire) → Agree T (stateOf T) w
-          ⊎ (((ran && clocked T (w .src .comp)) ≡ false) × Named (stateOf T) (w .src .comp))
+          ⊎ Awaits T ran (stateOf T) (w .src .comp)
           → (Equal T w → ⊥) → named T (w .src .comp) ≡ true
       differ w (inl q) ne = absurd (ne q)
       differ w (inr q) ne = named-test T (w .src .comp) (q .1)
 
       unfollow : (i : ℕ) → i < T .counts .components → is Switch (fieldsAt T i) ≡ false
-          → Fits T t (stateOf T) i ⊎ (((ran && clocked T i) ≡ false) × Named (stateOf T) i) → (Follows T t i → ⊥)
+          → Fits T t (stateOf T) i ⊎ Awaits T ran (stateOf T) i → (Follows T t i → ⊥)
           → named T i ≡ true
       unfollow i h s (inl q) ne = absurd (ne (fits-follows i h s q))
       unfollow i h s (inr q) ne = named-test T i (q .1)
@@ -135,18 +119,18 @@ module _ (T : Tables) (ran : Bool) (t : ℕ) (e : netNumber T ≡ 0) (a : Unbrok
             follow = λ i h s. follow i h s (a .fitted i h);
           }
         where
-          clash : (i : ℕ) → i < T .counts .components → ((ran && clocked T i) ≡ false) × Named (stateOf T) i → ⊥
+          clash : (i : ℕ) → i < T .counts .components → Awaits T ran (stateOf T) i → ⊥
           clash i h q =
               true≢false (sym (only i h (named-test T i (q .1))) ∙ ap (λ (b : Bool). b && clocked T i) (sym r) ∙ q .0)
 
           agree : (w : Wire) → In w (wiresIn T)
               → Agree T (stateOf T) w
-              ⊎ (((ran && clocked T (w .src .comp)) ≡ false) × Named (stateOf T) (w .src .comp)) → Equal T w
+              ⊎ Awaits T ran (stateOf T) (w .src .comp) → Equal T w
           agree w m (inl q) = q
           agree w m (inr q) = absurd (clash (w .src .comp) (g .source w m) q)
 
           follow : (i : ℕ) → i < T .counts .components → is Switch (fieldsAt T i) ≡ false
-              → Fits T t (stateOf T) i ⊎ (((ran && clocked T i) ≡ false) × Named (stateOf T) i) → Follows T t i
+              → Fits T t (stateOf T) i ⊎ Awaits T ran (stateOf T) i → Follows T t i
           follow i h s (inl q) = fits-follows i h s q
           follow i h s (inr q) = absurd (clash i h q)
 

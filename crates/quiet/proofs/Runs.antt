@@ -3,13 +3,12 @@
 use mathlib.Core.Path.{_≡_}
 use mathlib.Core.Bool.{Bool, true, false, cond}
 use Prim.Native.Nat.{ℕ, zero, suc}
-use lib.Dec.{eqb}
 use Rattle.tables.specs.Tables.{Tables}
 use Rattle.net.specs.Net.{netNumber}
 use Rattle.simulator.specs.Round.{calm}
 use Rattle.simulator.specs.Calls.{roundTables, run, runTables}
 use Rattle.simulator.proofs.Left.{SameWiring, SameLengths, sameWiring-none, sameWiring-more, sameLengths-none, sameLengths-more}
-use Rattle.simulator.proofs.Kept.{roundTables-wiring, roundTables-lengths, roundTables-net}
+use Rattle.simulator.proofs.Kept.{by-number, roundTables-wiring, roundTables-lengths, roundTables-net}
 use Rattle.quiet.proofs.Since.{Since, rounded}
 
 -- What every round at time t hands on, so many of them hand on.
@@ -29,11 +28,8 @@ run-tables P (suc k) t f T a = by-calm (calm (roundTables T t)) (run-tables P k 
 run-call : (P : Tables → Type 0) (T : Tables) (t limit : ℕ) → ((T : Tables) → P T → P (roundTables T t)) → P T
     → P (runTables T t limit)
 unfolding runTables
-run-call P T t limit f a = by-number (eqb (netNumber T) 0)
-  where
-    by-number : (b : Bool) → P (cond b (run limit t T .tables) T)
-    by-number true = run-tables P limit t f T a
-    by-number false = a
+run-call P T t limit f a =
+    by-number P (netNumber T) (run limit t T .tables) T (λ e. run-tables P limit t f T a) a
 
 module _ (T : Tables) (t limit : ℕ) where
   -- A run on a net leaves a net.

@@ -3,7 +3,7 @@
 --   Since T₀ ran t T     rounds and edits lead from T₀ to T; whether a round has run, and the time of the last
 -- Assumes nothing.
 use mathlib.Core.Path.{_≡_, refl, sym, subst}
-use mathlib.Core.Bool.{Bool, true, false, cond, _||_}
+use mathlib.Core.Bool.{Bool, true, false, cond, _||_, or-true, or-false}
 use mathlib.Core.List.{List}
 use Prim.Native.Nat.{ℕ, _<_}
 use borrow.Author.Tests.{eqb-true}
@@ -18,12 +18,13 @@ use Rattle.net.specs.Net.{netNumber}
 use Rattle.net.proofs.NetLaws.{netNumber-full, netNumber-isNet}
 use Rattle.simulator.specs.Round.{State, stateOf, leave, round, edited as editedState, roundOf}
 use Rattle.simulator.specs.Calls.{roundTables, editNumber, editTables}
-use Rattle.simulator.proofs.Sound.{isNet-wiring}
+use Rattle.simulator.proofs.Sound.{net-sound}
 use Rattle.simulator.proofs.Held.{Order, stored-order}
-use Rattle.quiet.proofs.Edited.{editNumber-full, editNumber-net, editNumber-editable}
+use Rattle.quiet.proofs.Edited.{editNumber-editable}
 use Rattle.simulator.proofs.Left.{SameWiring, SameLengths, sameWiring-none, sameWiring-more, sameLengths-none, sameLengths-more, stateOf-leave, isNet-held}
-use Rattle.simulator.proofs.Kept.{roundTables-wiring, roundTables-lengths, roundTables-net}
-use Rattle.quiet.proofs.Kept.{edited-leaves, editTables-wiring, editTables-lengths, editTables-net}
+use Rattle.simulator.proofs.EditsLaws.{edit-is-net, edit-there}
+use Rattle.simulator.proofs.Kept.{by-number, roundTables-wiring, roundTables-lengths, roundTables-net}
+use Rattle.quiet.proofs.Kept.{editTables-wiring, editTables-lengths, editTables-net}
 use Rattle.quiet.proofs.Invariant.{Inv, round-inv, start-inv}
 use Rattle.quiet.proofs.EditInvariant.{edited-inv}
 
@@ -65,7 +66,7 @@ leave-unbroken T ran t s a =
 -- It holds as a load leaves the tables.
 pub fresh-unbroken : (T : Tables) → Fresh T → Unbroken T false 0
 fresh-unbroken T f =
-    start-inv T 0 (stateOf T) (isNet-wiring T (netNumber-full T (f .net)) (netNumber-isNet T (f .net)))
+    start-inv T 0 (stateOf T) (net-sound T (f .net))
     (λ i h. subst (λ (l : List ℕ). In i l) (sym (f .current)) (from0-complete (T .counts .components) i h))
     (λ i h e. subst (λ (l : List ℕ). In i l) (sym (f .following)) (has-sound i (standingList T) (f .clocks i h e)))
     (λ i h e. has-sound i (standingList T) (f .clocks i h e))
@@ -75,18 +76,8 @@ pub round-unbroken : (T : Tables) (ws : List Wire) → Order T ws → (ran : Boo
     → Unbroken T ran t
     → Unbroken (leave T (round T ws u (stateOf T))) true u
 round-unbroken T ws o ran t u e a =
-    let f = netNumber-full T e in
-    let n = netNumber-isNet T e in
     leave-unbroken T true u (round T ws u (stateOf T))
-    (round-inv T (isNet-wiring T f n) ws o u ran t (stateOf T) (isNet-held T f n) a)
-
-or-true : (a : Bool) → (a || true) ≡ true
-or-true true = refl
-or-true false = refl
-
-or-false : (a : Bool) → (a || false) ≡ a
-or-false true = refl
-or-false false = refl
+    (round-inv T (net-sound T e) ws o u ran t (stateOf T) (isNet-held T (netNumber-full T e) (netNumber-isNet T e)) a)
 
 -- A round as a call keeps it: refused, it is none that has run.
 pub roundTables-unbroken : (T : Tables) (ran : Bool) (t u : ℕ) → Unbroken T ran t
@@ -103,21 +94,15 @@ roundTables-unbroken T ran t u a = by-number (eqb (netNumber T) 0) refl
 -- An edit as a call keeps it, refused or not.
 pub editTables-unbroken : (T : Tables) (ran : Bool) (t i v : ℕ) → Unbroken T ran t → Unbroken (editTables T i v) ran t
 unfolding editTables
-editTables-unbroken T ran t i v a = by-number (eqb (editNumber T i v) 0) refl
+editTables-unbroken T ran t i v a =
+    by-number (λ (U : Tables). Unbroken U ran t) (editNumber T i v) (leave T (editedState T i v (stateOf T))) T done a
   where
     done : editNumber T i v ≡ 0 → Unbroken (leave T (editedState T i v (stateOf T))) ran t
     done e =
-        let f = editNumber-full T i v e in
-        let n = editNumber-net T i v e in
-        let ok = editNumber-editable T i v e in
+        let z = edit-is-net T i v e in
         leave-unbroken T ran t (editedState T i v (stateOf T))
-        (edited-inv T (isNet-wiring T f n) ran t i v (ok .exists) (stateOf T) (isNet-held T f n) a ok
-        (edited-leaves T f n i v ok))
-
-    by-number : (b : Bool) → eqb (editNumber T i v) 0 ≡ b
-        → Unbroken (cond b (leave T (editedState T i v (stateOf T))) T) ran t
-    by-number true e = done (eqb-true (editNumber T i v) 0 e)
-    by-number false e = a
+        (edited-inv T (net-sound T z) ran t i v (edit-there T i v e) (stateOf T)
+        (isNet-held T (netNumber-full T z) (netNumber-isNet T z)) a (editNumber-editable T i v e))
 
 -- Whatever rounds and edits reach from a net as a load leaves it is a net: no call on it is given 2 or 16.
 pub since-net : (T₀ : Tables) → Fresh T₀ → {ran : Bool} {t : ℕ} {T : Tables} → Since T₀ ran t T → netNumber T ≡ 0

@@ -3,27 +3,26 @@
 -- standing, so the following list names it after, and what that list names the next round makes current.
 --   Edits T U   any edits lead from T to U, refused ones too
 -- Assumes nothing.
-use mathlib.Core.Path.{_≡_, refl, sym, ap, _∙_, subst}
+use mathlib.Core.Path.{_≡_, sym, ap, _∙_, subst}
 use mathlib.Core.Logic.{_⊎_, inl, inr, ⊎-elim}
-use mathlib.Core.Bool.{Bool, true, false, cond, _||_}
+use mathlib.Core.Bool.{true, _||_, or-true}
 use mathlib.Core.List.{List, [], _∷_, foldl}
 use Prim.Native.Nat.{ℕ}
 use native.Mathlib.Decide.{ℕ-discrete}
-use lib.Dec.{eqb}
-use Rattle.lists.specs.Lists.{has, strike}
+use Rattle.lists.specs.Lists.{has}
 use Rattle.lists.proofs.MembersLaws.{In, has-complete}
-use Rattle.lists.proofs.NamesLaws.{appendNew-has, appendNew-kept, strike-kept}
-use Rattle.primitive.specs.declared.kinds.Kind.the-variants.{Clock}
-use Rattle.primitive.specs.Kinds.{is}
+use Rattle.lists.proofs.NamesLaws.{appendNew-has, appendNew-kept}
 use Rattle.flatten.specs.declared.Wire.{Wire}
-use Rattle.tables.specs.Tables.{Tables, fieldsAt, wiresIn, currentList, followingList, standingList}
+use Rattle.tables.specs.Tables.{Tables, wiresIn, currentList, followingList, standingList}
 use Rattle.net.specs.Net.{netNumber}
 use Rattle.simulator.specs.Round.{State, stateOf, leave, wiresFrom, evaluated, send, visit, round, edited, roundOf}
 use Rattle.simulator.specs.Calls.{roundTables, editNumber, editTables}
-use Rattle.simulator.proofs.Held.{written, SendCase, agrees, writes, send-case}
+use Rattle.simulator.proofs.Held.{foldl-keeps, written, SendCase, agrees, writes, send-case}
+use Rattle.simulator.proofs.EditsLaws.{edit-is-net}
 use Rattle.simulator.proofs.Left.{stateOf-leave}
-use Rattle.simulator.proofs.Kept.{roundTables-done, roundTables-net}
-use Rattle.quiet.proofs.Kept.{editTables-done, editNumber-netNumber, editTables-net}
+use Rattle.simulator.proofs.Kept.{by-number, roundTables-done, roundTables-net}
+use Rattle.quiet.proofs.Kept.{editTables-done, editTables-net}
+use Rattle.quiet.proofs.Invariant.{evaluated-standing}
 
 -- Within a round.
 module _ (T : Tables) (x : ℕ) where
@@ -44,12 +43,10 @@ module _ (T : Tables) (x : ℕ) where
       by-case (writes p e) = rw e m
 
   sends-following : (ws : List Wire) (s : State) → In x (s .following) → In x (foldl (send T) s ws .following)
-  sends-following [] s m = m
-  sends-following (w ∷ ws) s m = sends-following ws (send T s w) (send-following s w m)
+  sends-following ws = foldl-keeps (λ (s : State). In x (s .following)) (send T) ws (λ s w k. send-following s w)
 
   sends-standing : (ws : List Wire) (s : State) → In x (s .standing) → In x (foldl (send T) s ws .standing)
-  sends-standing [] s m = m
-  sends-standing (w ∷ ws) s m = sends-standing ws (send T s w) (send-standing s w m)
+  sends-standing ws = foldl-keeps (λ (s : State). In x (s .standing)) (send T) ws (λ s w k. send-standing s w)
 
   module _ (ws : List Wire) (t : ℕ) where
     visit-following : (s : State) (i : ℕ) → In x (s .following) → In x (visit T ws t s i .following)
@@ -57,16 +54,12 @@ module _ (T : Tables) (x : ℕ) where
     visit-following s i m = sends-following (wiresFrom i ws) (evaluated T t i s) m
 
     visit-standing : (s : State) (i : ℕ) → (x ≡ i → ⊥) → In x (s .standing) → In x (visit T ws t s i .standing)
-    unfolding visit evaluated
-    visit-standing s i ne m = sends-standing (wiresFrom i ws) (evaluated T t i s) (by-clock (is Clock (fieldsAt T i)))
-      where
-        by-clock : (b : Bool) → In x (cond b (s .standing) (strike i (s .standing)))
-        by-clock true = m
-        by-clock false = strike-kept i x (s .standing) ne m
+    unfolding visit
+    visit-standing s i ne m = sends-standing (wiresFrom i ws) (evaluated T t i s) (evaluated-standing T t i x s ne m)
 
     visits-following : (xs : List ℕ) (s : State) → In x (s .following) → In x (foldl (visit T ws t) s xs .following)
-    visits-following [] s m = m
-    visits-following (i ∷ xs) s m = visits-following xs (visit T ws t s i) (visit-following s i m)
+    visits-following xs =
+        foldl-keeps (λ (s : State). In x (s .following)) (visit T ws t) xs (λ s i k. visit-following s i)
 
     visits-standing : (xs : List ℕ) (s : State) → In x (s .standing) → In x xs
         ⊎ In x (foldl (visit T ws t) s xs .standing)
@@ -114,40 +107,29 @@ pub edits-net : (T : Tables) {U : Tables} → netNumber T ≡ 0 → Edits T U �
 edits-net T e none = e
 edits-net T e (more {U = U} i v r) = editTables-net U i v (edits-net T e r)
 
--- An edit takes no name off a list.
-module _ (x i v : ℕ) (T : Tables) where
-  by-edit : (P : State → Type 0) → P (stateOf T) → P (edited T i v (stateOf T)) → P (stateOf (editTables T i v))
-  unfolding editTables
-  by-edit P old new = by-number (eqb (editNumber T i v) 0)
-    where
-      by-number : (b : Bool) → P (stateOf (cond b (leave T (edited T i v (stateOf T))) T))
-      by-number true = subst P (sym (stateOf-leave T (edited T i v (stateOf T)))) new
-      by-number false = old
+-- What every edit of a state keeps, edits of tables keep, refused ones too.
+edits-keep : (P : State → Type 0) → ((T : Tables) (i v : ℕ) → P (stateOf T) → P (edited T i v (stateOf T)))
+    → (T : Tables) {U : Tables} → P (stateOf T) → Edits T U → P (stateOf U)
+unfolding editTables
+edits-keep P f T p none = p
+edits-keep P f T p (more {U = U} i v r) =
+    let q = edits-keep P f T p r in
+    by-number (λ (W : Tables). P (stateOf W)) (editNumber U i v) (leave U (edited U i v (stateOf U))) U
+    (λ e. subst P (sym (stateOf-leave U (edited U i v (stateOf U)))) (f U i v q)) q
 
-  edit-current : In x (currentList T) → In x (currentList (editTables T i v))
+-- So no name is taken off a list.
+module _ (x : ℕ) where
+  edits-current : (T : Tables) {U : Tables} → In x (currentList T) → Edits T U → In x (currentList U)
   unfolding edited
-  edit-current m = by-edit (λ (s : State). In x (s .current)) m m
+  edits-current = edits-keep (λ (s : State). In x (s .current)) (λ T i v m. m)
 
-  edit-following : In x (followingList T) → In x (followingList (editTables T i v))
+  edits-following : (T : Tables) {U : Tables} → In x (followingList T) → Edits T U → In x (followingList U)
   unfolding edited
-  edit-following m = by-edit (λ (s : State). In x (s .following)) m m
+  edits-following = edits-keep (λ (s : State). In x (s .following)) (λ T i v m. m)
 
-  edit-standing : In x (standingList T) → In x (standingList (editTables T i v))
+  edits-standing : (T : Tables) {U : Tables} → In x (standingList T) → Edits T U → In x (standingList U)
   unfolding edited
-  edit-standing m = by-edit (λ (s : State). In x (s .standing)) m (appendNew-kept i x (standingList T) m)
-
-module _ (x : ℕ) (T : Tables) where
-  edits-current : {U : Tables} → In x (currentList T) → Edits T U → In x (currentList U)
-  edits-current m none = m
-  edits-current m (more {U = U} i v r) = edit-current x i v U (edits-current m r)
-
-  edits-following : {U : Tables} → In x (followingList T) → Edits T U → In x (followingList U)
-  edits-following m none = m
-  edits-following m (more {U = U} i v r) = edit-following x i v U (edits-following m r)
-
-  edits-standing : {U : Tables} → In x (standingList T) → Edits T U → In x (standingList U)
-  edits-standing m none = m
-  edits-standing m (more {U = U} i v r) = edit-standing x i v U (edits-standing m r)
+  edits-standing = edits-keep (λ (s : State). In x (s .standing)) (λ T i v m. appendNew-kept i x (standingList T) m)
 
 -- An edit that is not refused names its component in the standing list.
 pub editTables-stands : (T : Tables) (i v : ℕ) → editNumber T i v ≡ 0 → In i (standingList (editTables T i v))
@@ -166,7 +148,7 @@ pub edit-third : (T : Tables) (i v : ℕ) → editNumber T i v ≡ 0 → (t₁ t
 edit-third T i v e t₁ t₂ {U₁} {U₂} {U₃} a b c = by-round (roundTables-standing U₁ i t₁ net₁ stands)
   where
     net₁ : netNumber U₁ ≡ 0
-    net₁ = edits-net (editTables T i v) (editTables-net T i v (editNumber-netNumber T i v e)) a
+    net₁ = edits-net (editTables T i v) (editTables-net T i v (edit-is-net T i v e)) a
 
     net₂ : netNumber U₂ ≡ 0
     net₂ = edits-net (roundTables U₁ t₁) (roundTables-net U₁ t₁ net₁) b
@@ -174,24 +156,13 @@ edit-third T i v e t₁ t₂ {U₁} {U₂} {U₃} a b c = by-round (roundTables-
     stands : In i (standingList U₁)
     stands = edits-standing i (editTables T i v) (editTables-stands T i v e) a
 
-    first : (x y z : Bool) → x ≡ true → (x || y || z) ≡ true
-    first x y z q = rw q
-
-    third : (x y z : Bool) → z ≡ true → (x || y || z) ≡ true
-    third true y z q = refl
-    third false true z q = refl
-    third false false z q = q
-
     by-round : In i (currentList U₁) ⊎ In i (followingList (roundTables U₁ t₁))
         → (has i (currentList U₁) || has i (currentList U₂) || has i (currentList U₃)) ≡ true
-    by-round (inl m) =
-        first (has i (currentList U₁)) (has i (currentList U₂)) (has i (currentList U₃))
-        (has-complete i (currentList U₁) m)
+    by-round (inl m) = rw (has-complete i (currentList U₁) m)
     by-round (inr m) =
         let f : In i (followingList U₂) = edits-following i (roundTables U₁ t₁) m b in
         let k : In i (currentList U₃) = edits-current i (roundTables U₂ t₂) (roundTables-following U₂ i t₂ net₂ f) c in
-        third (has i (currentList U₁)) (has i (currentList U₂)) (has i (currentList U₃))
-        (has-complete i (currentList U₃) k)
+        rw (has-complete i (currentList U₃) k, or-true (has i (currentList U₁) || has i (currentList U₂)))
 
 -- With no edits between: the edit, then three rounds, the first two at any times.
 pub edit-evaluated : (T : Tables) (i v : ℕ) → editNumber T i v ≡ 0 → (t₁ t₂ : ℕ)

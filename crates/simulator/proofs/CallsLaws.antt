@@ -17,29 +17,35 @@ use Rattle.simulator.specs.Calls.{roundTables, roundAnswer}
 abbrev pub counted : Tables → Counts → Tables
 counted T m = tablesOf (T .components) (T .inputs) (T .outputs) (T .wires) (T .current) (T .following) (T .standing) m
 
+-- Tables that a call left, with the counts that it left.
+pub counted-left : (U X : Tables) (r : Counts) → counted U r ≡ X → counted U (X .counts) ≡ X
+counted-left U X r e = ap (counted U) (sym (ap (λ (Y : Tables). Y .counts) e)) ∙ e
+
+-- The number that was given back, tested.
+module _ (T : Tables) (k : ℕ) (number : k ≡ netNumber T) where
+  pub call-refused : (k ≡ 0 → ⊥) → eqb (netNumber T) 0 ≡ false
+  call-refused refused = ne-eqb (netNumber T) 0 (λ q. refused (number ∙ q))
+
+  pub call-made : k ≡ 0 → eqb (netNumber T) 0 ≡ true
+  call-made zero = eq-eqb (netNumber T) 0 (sym number ∙ zero)
+
 module _ (T : Tables) (t k : ℕ) (number : k ≡ netNumber T) where
   -- A refused round changes no table.
   module _ (refused : k ≡ 0 → ⊥) where
-    none : eqb (netNumber T) 0 ≡ false
-    none = ne-eqb (netNumber T) 0 (λ q. refused (number ∙ q))
-
     pub round-refused : Refused (refusedBy k) ≡ roundAnswer T t
     unfolding roundAnswer
-    round-refused = rw (number, none)
+    round-refused = rw (number, call-refused T k number refused)
 
     pub round-kept : counted T (roundTables T t .counts) ≡ roundTables T t
     unfolding roundTables
-    round-kept = rw none
+    round-kept = rw (call-refused T k number refused)
 
   -- A round that is made.
   module _ (zero : k ≡ 0) (U : Tables) (r : Counts) (made : counted U r ≡ roundOf t T) where
-    done : eqb (netNumber T) 0 ≡ true
-    done = eq-eqb (netNumber T) 0 (sym number ∙ zero)
-
     pub round-answered : Done r ≡ roundAnswer T t
     unfolding roundAnswer roundTables
-    round-answered = rw done (ap (λ (X : Tables). Done (X .counts)) made)
+    round-answered = rw (call-made T k number zero) (ap (λ (X : Tables). Done (X .counts)) made)
 
     pub round-left : counted U (roundTables T t .counts) ≡ roundTables T t
     unfolding roundTables
-    round-left = rw done (ap (counted U) (sym (ap (λ (X : Tables). X .counts) made)) ∙ made)
+    round-left = rw (call-made T k number zero) (counted-left U (roundOf t T) r made)

@@ -1,43 +1,44 @@
--- The number of an edit by its checks; what a net gives an edit that none refuses; the answer and the tables afterwards.
+-- The number of an edit by its checks; what a net gives an edit that none refuses; the answer and the tables after it.
 -- Assumes nothing.
 use mathlib.Core.Path.{_≡_, refl, sym, ap, _∙_}
 use mathlib.Core.Bool.{Bool, true, false, cond, not, _&&_, _||_}
 use mathlib.Core.List.{List, [], _∷_}
 use Prim.Native.Nat.{ℕ, _≤_, _<_}
 use native.Mathlib.Omega.{arith}
-use borrow.Author.Tests.{le-leb, lt-leb, leb-false, eqb-true, ne-eqb, not-false}
+use borrow.Author.Tests.{le-leb, lt-leb, leb-false, ne-eqb, not-false}
 use lib.ListN.{length, take, set, take-append-drop}
 use lib.Seq.{length-take-le}
 use lib.Dec.{leb}
 use Rattle.lists.specs.Lists.{refusal, _if_, appendNew, overlay}
 use Rattle.lists.proofs.ListsLaws.{and-left, refusal-first, refusal-rest}
-use Rattle.lists.proofs.NamesLaws.{Names, names-sound, names-length, names-append}
 use Rattle.value.specs.Value.{below}
 use Rattle.primitive.specs.declared.kinds.Kind.the-variants.{Switch, Input}
 use Rattle.primitive.specs.declared.table.Fields.{Fields}
 use Rattle.primitive.specs.Kinds.{is, primitive, obeys, inputWidth, outputWidth}
 use Rattle.primitive.specs.Evaluate.{refusedBy}
-use Rattle.primitive.proofs.UpdateLaws.{obeyed-row}
 use Rattle.tables.specs.declared.Counts.{Counts}
 use Rattle.tables.specs.declared.Answer.the-variants.{Done, Refused}
 use Rattle.tables.specs.Tables.{Tables, tablesOf, fieldsAt, fieldsIn, wordIn, firstInput, firstOutput, standingList}
-use Rattle.net.specs.Net.{netNumber, names}
-use Rattle.net.proofs.ClausesLaws.{kindsObeyed-at}
+use Rattle.net.specs.Net.{netNumber}
 use Rattle.net.proofs.NetLaws.{netNumber-net, netNumber-sizes}
 use Rattle.simulator.specs.Round.{leave, edited}
 use Rattle.simulator.specs.Calls.{driven, editNumber, editAnswer, editTables}
 use Rattle.simulator.specs.Asked.{ends, editRefusal}
 use Rattle.simulator.proofs.EndsLaws.{driven-ends}
-use Rattle.simulator.proofs.QuestionsLaws.{number-refused, number-net, number-passed, net-within, net-row}
+use Rattle.simulator.proofs.Evaluation.{switch-outputs, input-inputs}
+use Rattle.simulator.proofs.Sound.{net-sound, net-within, current-in, following-in}
+use Rattle.simulator.proofs.StepsLaws.{append-room}
+use Rattle.simulator.proofs.QuestionsLaws.{number-refused, number-net, number-passed}
 
--- On a net: 17; then, of a component that is a Switch or not (s), an Input or not (q), driven or not (d), 18; then, of a number that lies
--- below the port's width or not (b), 19; and 0 where none is given.
+-- On a net: 17; then, of a component that is a Switch or not (s), an Input or not (q), driven or not (d), 18; then, of
+-- a number that lies below the port's width or not (b), 19; and 0 where none is given.
 module _ (cs ws : List ℕ) (m : Counts) (i v : ℕ) where
   pub edit-17 : m .components ≤ i → 17 ≡ editRefusal cs ws m i v
   unfolding editRefusal
   edit-17 h = rw (le-leb (m .components) i h)
 
-  module _ (h : i < m .components) (s q d : Bool) (es : s ≡ is Switch (fieldsIn cs i)) (eq : q ≡ is Input (fieldsIn cs i))
+  module _ (h : i < m .components) (s q d : Bool) (es : s ≡ is Switch (fieldsIn cs i))
+      (eq : q ≡ is Input (fieldsIn cs i))
       (ed : d ≡ ends ws (m .wires) 2 i) where
     pub edit-18 : not (s || (q && not d)) ≡ true → 18 ≡ editRefusal cs ws m i v
     unfolding editRefusal
@@ -58,12 +59,20 @@ module _ (cs ws : List ℕ) (m : Counts) (i v : ℕ) where
 
 -- On any tables.
 module _ (T : Tables) (i v : ℕ) where
+  abbrev settable : Bool
+  settable = is Switch (fieldsAt T i) || (is Input (fieldsAt T i) && not (driven T i))
+
+  abbrev fitting : Bool
+  fitting = below v (cond (is Switch (fieldsAt T i)) (outputWidth (fieldsAt T i)) (inputWidth (fieldsAt T i)))
+
+  abbrev from-19 : List (ℕ × Bool)
+  from-19 = (19 if not fitting) ∷ []
+
+  abbrev from-18 : List (ℕ × Bool)
+  from-18 = (18 if not settable) ∷ from-19
+
   abbrev checks : List (ℕ × Bool)
-  checks =
-      (17 if leb (T .counts .components) i)
-      ∷ (18 if not (is Switch (fieldsAt T i) || (is Input (fieldsAt T i) && not (driven T i))))
-      ∷ (19 if not (below v (cond (is Switch (fieldsAt T i)) (outputWidth (fieldsAt T i)) (inputWidth (fieldsAt T i)))))
-      ∷ []
+  checks = (17 if leb (T .counts .components) i) ∷ from-18
 
   pub edit-refused : (k : ℕ) → k ≡ netNumber T → (k ≡ 0 → ⊥) → k ≡ editNumber T i v
   unfolding editNumber
@@ -83,35 +92,37 @@ module _ (T : Tables) (i v : ℕ) (z : editNumber T i v ≡ 0) where
   unfolding editNumber
   rest = sym (number-net T (checks T i v) edit-is-net) ∙ z
 
-  abbrev after-17 : List (ℕ × Bool)
-  after-17 =
-      (18 if not (is Switch (fieldsAt T i) || (is Input (fieldsAt T i) && not (driven T i))))
-      ∷ (19 if not (below v (cond (is Switch (fieldsAt T i)) (outputWidth (fieldsAt T i)) (inputWidth (fieldsAt T i)))))
-      ∷ []
+  to-18 : refusal (from-18 T i v) ≡ 0
+  to-18 = refusal-rest 17 (leb (T .counts .components) i) (from-18 T i v) (λ q. omega arith) rest
+
+  to-19 : refusal (from-19 T i v) ≡ 0
+  to-19 = refusal-rest 18 (not (settable T i v)) (from-19 T i v) (λ q. omega arith) to-18
 
   pub edit-there : i < T .counts .components
-  edit-there = leb-false (T .counts .components) i (refusal-first 17 (leb (T .counts .components) i) after-17 (λ q. omega arith) rest)
+  edit-there =
+      leb-false (T .counts .components) i
+      (refusal-first 17 (leb (T .counts .components) i) (from-18 T i v) (λ q. omega arith) rest)
 
-  editable : (is Switch (fieldsAt T i) || (is Input (fieldsAt T i) && not (driven T i))) ≡ true
-  editable =
-      not-false (is Switch (fieldsAt T i) || (is Input (fieldsAt T i) && not (driven T i)))
-      (refusal-first 18 _
-      ((19 if not (below v (cond (is Switch (fieldsAt T i)) (outputWidth (fieldsAt T i)) (inputWidth (fieldsAt T i))))) ∷ [])
-      (λ q. omega arith) (refusal-rest 17 (leb (T .counts .components) i) after-17 (λ q. omega arith) rest))
+  pub edit-settable : (is Switch (fieldsAt T i) || (is Input (fieldsAt T i) && not (driven T i))) ≡ true
+  edit-settable =
+      not-false (settable T i v) (refusal-first 18 (not (settable T i v)) (from-19 T i v) (λ q. omega arith) to-18)
+
+  pub edit-fits : below v (cond (is Switch (fieldsAt T i)) (outputWidth (fieldsAt T i)) (inputWidth (fieldsAt T i)))
+      ≡ true
+  edit-fits = not-false (fitting T i v) (refusal-first 19 (not (fitting T i v)) [] (λ q. omega arith) to-19)
 
   obeyed : (primitive (fieldsAt T i) && obeys (fieldsAt T i)) ≡ true
-  obeyed = kindsObeyed-at T (netNumber-net T edit-is-net .kinds) i edit-there
+  obeyed = net-sound T edit-is-net .obeyed i edit-there
 
   pub edit-output : is Switch (fieldsAt T i) ≡ true → firstOutput T i < length (T .outputs)
   edit-output k =
-      let r = obeyed-row (fieldsAt T i) Switch obeyed (eqb-true (fieldsAt T i .kind) 7 k) in
-      omega (arith, r .outputs .least, net-row T edit-is-net i edit-there .outputs-in)
+      omega (arith, switch-outputs (fieldsAt T i) obeyed k, net-sound T edit-is-net .outputs-in i edit-there)
 
   pub edit-input : (is Switch (fieldsAt T i) ≡ true → ⊥) → firstInput T i < length (T .inputs)
   edit-input n =
-      let k : is Input (fieldsAt T i) ≡ true = an-input (is Switch (fieldsAt T i)) (is Input (fieldsAt T i)) (driven T i) editable n in
-      let r = obeyed-row (fieldsAt T i) Input obeyed (eqb-true (fieldsAt T i .kind) 8 k) in
-      omega (arith, r .inputs .least, net-row T edit-is-net i edit-there .inputs-in)
+      let k : is Input (fieldsAt T i) ≡ true =
+      an-input (is Switch (fieldsAt T i)) (is Input (fieldsAt T i)) (driven T i) edit-settable n in
+      omega (arith, input-inputs (fieldsAt T i) obeyed k, net-sound T edit-is-net .inputs-in i edit-there)
     where
       an-input : (s q d : Bool) → (s || (q && not d)) ≡ true → (s ≡ true → ⊥) → q ≡ true
       an-input true q d e h = absurd (h refl)
@@ -120,27 +131,10 @@ module _ (T : Tables) (i v : ℕ) (z : editNumber T i v ≡ 0) where
   pub edit-index : i < 65536
   edit-index = omega (arith, edit-there, net-within T edit-is-net .components)
 
-  pub edit-current : T .counts .current ≤ length (T .current)
-  edit-current = omega (arith, net-within T edit-is-net .current, netNumber-sizes T edit-is-net .current)
-
-  pub edit-following : T .counts .following ≤ length (T .following)
-  edit-following = omega (arith, net-within T edit-is-net .following, netNumber-sizes T edit-is-net .following)
-
-  pub edit-standing : T .counts .standing ≤ length (T .standing)
-  edit-standing = omega (arith, net-within T edit-is-net .standing, netNumber-sizes T edit-is-net .standing)
-
   pub edit-room : length (appendNew i (standingList T)) ≤ length (T .standing)
-  unfolding names
   edit-room =
-      let a : Names (T .counts .components) (standingList T) =
-      names-sound (T .counts .components) (standingList T) (netNumber-net T edit-is-net .standing) in
-      omega (
-        arith,
-        names-length (T .counts .components) (appendNew i (standingList T))
-            (names-append (T .counts .components) i (standingList T) edit-there a),
-        net-within T edit-is-net .components,
-        netNumber-sizes T edit-is-net .standing,
-      )
+      append-room T i (standingList T) (T .standing) (netNumber-net T edit-is-net .standing) edit-there
+      (net-within T edit-is-net .components) (netNumber-sizes T edit-is-net .standing)
 
 -- A table with its own list at its front.
 overlay-same : (n : ℕ) (t : List ℕ) → n ≤ length t → overlay (take n t) t ≡ t
@@ -179,16 +173,17 @@ module _ (cs ins outs ws cur fol std : List ℕ) (m : Counts) (i v : ℕ) where
     made : tablesOf cs ins' outs' ws cur fol std' (counted n) ≡ editTables came i v
     unfolding editTables leave edited
     made =
+        let net = edit-is-net came i v z in
         rw (
           z,
           ei,
           eo,
           en,
           es,
-          overlay-same (m .current) cur (edit-current came i v z),
-          overlay-same (m .following) fol (edit-following came i v z),
-          length-take-le (m .current) cur (edit-current came i v z),
-          length-take-le (m .following) fol (edit-following came i v z),
+          overlay-same (m .current) cur (current-in came net),
+          overlay-same (m .following) fol (following-in came net),
+          length-take-le (m .current) cur (current-in came net),
+          length-take-le (m .following) fol (following-in came net),
         )
 
     pub edit-made : (Done (counted n) ≡ editAnswer came i v)

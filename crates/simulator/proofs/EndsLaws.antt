@@ -1,10 +1,10 @@
--- Laws of the ends of wires (specs/Ends.antt): marking one wire more, listing one number more, and that sources, targets and
--- whether a component is driven are these.
+-- Laws of the ends of wires (specs/Asked.antt): marking one wire more, listing one number more, and that sources,
+-- targets and whether a component is driven are these.
 -- Assumes nothing.
 use mathlib.Core.Path.{_≡_, refl, sym, ap, _∙_}
-use mathlib.Core.Bool.{Bool, true, false, cond, _&&_, _||_, or-false, and-comm}
-use mathlib.Core.List.{List, [], _∷_, _++_, map}
-use Prim.Native.Nat.{ℕ, suc, _+_, _*_, _≤_, _<_}
+use mathlib.Core.Bool.{Bool, true, false, cond, _&&_, _||_, or-true, or-false, and-comm}
+use mathlib.Core.List.{List, [], _∷_, _++_, append-nil}
+use Prim.Native.Nat.{ℕ, suc, _+_, _*_, _<_}
 use native.Mathlib.Decide.{decLt}
 use native.Mathlib.Numerals.{add-one}
 use native.Mathlib.Omega.{arith}
@@ -15,21 +15,16 @@ use lib.Dec.{eqb}
 use Rattle.lists.specs.Lists.{from, keep, any, overlay}
 use Rattle.lists.proofs.MembersLaws.{from-last, keep-append}
 use Rattle.flatten.specs.declared.Wire.{Wire}
+use Rattle.flatten.proofs.DescentLaws.{any-append, any-map}
 use Rattle.tables.specs.Tables.{Tables, wireAt, joins, sources, targetsIn, indexes}
 use Rattle.simulator.specs.Calls.{driven}
 use Rattle.simulator.specs.Asked.{endOf, meets, met, ends, marked}
 
 -- One number more.
 any-last : (f : ℕ → Bool) (k : ℕ) → any f (from 0 (k + 1)) ≡ (any f (from 0 k) || f k)
-any-last f k = ap (λ (n : ℕ). any f (from 0 n)) (add-one k) ∙ ap (any f) (from-last k) ∙ behind (from 0 k)
-  where
-    behind : (xs : List ℕ) → any f (xs ++ (k ∷ [])) ≡ (any f xs || f k)
-    behind [] = or-false (f k)
-    behind (x ∷ xs) = by-test (f x) (behind xs)
-      where
-        by-test : (b : Bool) → any f (xs ++ (k ∷ [])) ≡ (any f xs || f k) → (b || any f (xs ++ (k ∷ []))) ≡ ((b || any f xs) || f k)
-        by-test true e = refl
-        by-test false e = e
+any-last f k =
+    ap (λ (n : ℕ). any f (from 0 n)) (add-one k) ∙ ap (any f) (from-last k) ∙ any-append f (from 0 k) (k ∷ [])
+    ∙ ap (λ (b : Bool). any f (from 0 k) || b) (or-false (f k))
 
 -- Marking the far end of wire k, where its near end is component i; or not.
 module _ (ws old marks : List ℕ) (near far i k : ℕ)
@@ -41,10 +36,6 @@ module _ (ws old marks : List ℕ) (near far i k : ℕ)
       last : meets ws (k + 1) near far i j ≡ (meets ws k near far i j || eqb (endOf ws k far) j)
       last = any-last (λ q. eqb (endOf ws q near) i && eqb (endOf ws q far) j) k ∙ rw (eq-eqb (endOf ws k near) i n)
 
-      or-true : (b : Bool) → (b || true) ≡ true
-      or-true true = refl
-      or-true false = refl
-
       by-test : (b : Bool) → eqb (endOf ws k far) j ≡ b
           → getD (set marks at 1) j 0 ≡ cond (meets ws (k + 1) near far i j) 1 (getD old j 0)
       by-test true q =
@@ -55,7 +46,8 @@ module _ (ws old marks : List ℕ) (near far i k : ℕ)
           getD-set-other marks at j 1 0 (λ z. eqb-false (endOf ws k far) j q (sym e ∙ sym z)) ∙ so-far j
           ∙ rw (last, q, or-false (meets ws k near far i j))
 
-  pub mark-none : (endOf ws k near ≡ i → ⊥) → (j : ℕ) → getD marks j 0 ≡ cond (meets ws (k + 1) near far i j) 1 (getD old j 0)
+  pub mark-none : (endOf ws k near ≡ i → ⊥) → (j : ℕ)
+      → getD marks j 0 ≡ cond (meets ws (k + 1) near far i j) 1 (getD old j 0)
   mark-none n j =
       let last : meets ws (k + 1) near far i j ≡ meets ws k near far i j =
       any-last (λ q. eqb (endOf ws q near) i && eqb (endOf ws q far) j) k
@@ -72,14 +64,12 @@ module _ (marks : List ℕ) (j : ℕ) where
   marked-none : (getD marks j 0 ≡ 1 → ⊥) → marked marks (j + 1) ≡ marked marks j
   marked-none e =
       ap (marked marks) (add-one j) ∙ ap (keep (λ q. eqb (getD marks q 0) 1)) (from-last j)
-      ∙ keep-append (λ q. eqb (getD marks q 0) 1) (from 0 j) (j ∷ []) ∙ rw (ne-eqb (getD marks j 0) 1 e) (append-nil (marked marks j))
-    where
-      append-nil : (xs : List ℕ) → xs ++ [] ≡ xs
-      append-nil [] = refl
-      append-nil (x ∷ xs) = ap (λ (l : List ℕ). x ∷ l) (append-nil xs)
+      ∙ keep-append (λ q. eqb (getD marks q 0) 1) (from 0 j) (j ∷ [])
+      ∙ rw (ne-eqb (getD marks j 0) 1 e) (append-nil (marked marks j))
 
 -- One number more at the front of a table.
-overlay-snoc : (xs t : List ℕ) (x : ℕ) → length xs < length t → set (overlay xs t) (length xs) x ≡ overlay (xs ++ (x ∷ [])) t
+overlay-snoc : (xs t : List ℕ) (x : ℕ) → length xs < length t
+    → set (overlay xs t) (length xs) x ≡ overlay (xs ++ (x ∷ [])) t
 unfolding overlay
 overlay-snoc xs t x h =
     let n : length (xs ++ (x ∷ [])) ≡ suc (length xs) = simp length-append (add-one (length xs)) in
@@ -88,11 +78,13 @@ overlay-snoc xs t x h =
     rw n (a ∙ sym (append-snoc xs x (drop (suc (length xs)) t)))
 
 -- So, where the list so far stands at the front of the table:
-module _ (marks t u : List ℕ) (listed j : ℕ) (count : listed ≡ length (marked marks j)) (so-far : u ≡ overlay (marked marks j) t) where
+module _ (marks t u : List ℕ) (listed j : ℕ) (count : listed ≡ length (marked marks j))
+    (so-far : u ≡ overlay (marked marks j) t) where
   pub list-here : listed < length t → getD marks j 0 ≡ 1
       → (listed + 1 ≡ length (marked marks (j + 1))) × (set u listed j ≡ overlay (marked marks (j + 1)) t)
   list-here h e =
-      let n : length (marked marks (j + 1)) ≡ length (marked marks j) + 1 = ap length (marked-here marks j e) ∙ simp length-append in
+      let n : length (marked marks (j + 1)) ≡ length (marked marks j) + 1 =
+      ap length (marked-here marks j e) ∙ simp length-append in
       let l : length (marked marks j) < length t = omega arith in
       (omega arith, rw (so-far, count, marked-here marks j e) (overlay-snoc (marked marks j) t j l))
 
@@ -134,42 +126,31 @@ marked-met ws marks size m near far i n e =
         ∙ by-test (meets ws m near far i j)
 
 -- Sources, targets and whether a component is driven.
-any-map : (f : Wire → Bool) (g : ℕ → Wire) (xs : List ℕ) → any f (map g xs) ≡ any (λ k. f (g k)) xs
-any-map f g [] = refl
-any-map f g (x ∷ xs) = ap (λ (b : Bool). f (g x) || b) (any-map f g xs)
-
 at-zero : (ws : List ℕ) (k : ℕ) → getD ws (4 * k) 0 ≡ endOf ws k 0
 at-zero ws k = let z : 4 * k ≡ 4 * k + 0 = omega arith in ap (λ (p : ℕ). getD ws p 0) z
+
+-- Wires join component i to component j: i stands at their end 0, and j at their end 2.
+joins-meets : (T : Tables) (i j : ℕ) → joins T i j ≡ meets (T .wires) (T .counts .wires) 0 2 i j
+joins-meets T i j =
+    any-map (λ (w : Wire). eqb (w .src .comp) i && eqb (w .dst .comp) j) (wireAt T) (from 0 (T .counts .wires))
+    ∙ any-cong _ _ (from 0 (T .counts .wires))
+    (λ k. ap (λ (x : ℕ). eqb x i && eqb (endOf (T .wires) k 2) j) (at-zero (T .wires) k))
+
+-- The same from the other end.
+meets-back : (ws : List ℕ) (m near far i j : ℕ) → meets ws m near far i j ≡ meets ws m far near j i
+meets-back ws m near far i j =
+    any-cong _ _ (from 0 m) (λ k. and-comm (eqb (endOf ws k near) i) (eqb (endOf ws k far) j))
 
 pub sources-met : (T : Tables) (i : ℕ) → sources T i ≡ met (T .wires) (T .counts .wires) 2 0 i (T .counts .components)
 unfolding sources met
 sources-met T i =
-    keep-cong (λ j. joins T j i) (meets (T .wires) (T .counts .wires) 2 0 i) (indexes T) each
-  where
-    wire : (j k : ℕ) → (eqb (wireAt T k .src .comp) j && eqb (wireAt T k .dst .comp) i)
-        ≡ (eqb (endOf (T .wires) k 2) i && eqb (endOf (T .wires) k 0) j)
-    wire j k =
-        ap (λ (x : ℕ). eqb x j && eqb (endOf (T .wires) k 2) i) (at-zero (T .wires) k)
-        ∙ and-comm (eqb (endOf (T .wires) k 0) j) (eqb (endOf (T .wires) k 2) i)
-
-    each : (j : ℕ) → joins T j i ≡ meets (T .wires) (T .counts .wires) 2 0 i j
-    each j =
-        any-map (λ (w : Wire). eqb (w .src .comp) j && eqb (w .dst .comp) i) (wireAt T) (from 0 (T .counts .wires))
-        ∙ any-cong _ _ (from 0 (T .counts .wires)) (wire j)
+    keep-cong (λ j. joins T j i) (meets (T .wires) (T .counts .wires) 2 0 i) (indexes T)
+    (λ j. joins-meets T j i ∙ meets-back (T .wires) (T .counts .wires) 0 2 j i)
 
 pub targets-met : (T : Tables) (i : ℕ) → targetsIn T i ≡ met (T .wires) (T .counts .wires) 0 2 i (T .counts .components)
 unfolding targetsIn met
 targets-met T i =
-    keep-cong (λ j. joins T i j) (meets (T .wires) (T .counts .wires) 0 2 i) (indexes T) each
-  where
-    wire : (j k : ℕ) → (eqb (wireAt T k .src .comp) i && eqb (wireAt T k .dst .comp) j)
-        ≡ (eqb (endOf (T .wires) k 0) i && eqb (endOf (T .wires) k 2) j)
-    wire j k = ap (λ (x : ℕ). eqb x i && eqb (endOf (T .wires) k 2) j) (at-zero (T .wires) k)
-
-    each : (j : ℕ) → joins T i j ≡ meets (T .wires) (T .counts .wires) 0 2 i j
-    each j =
-        any-map (λ (w : Wire). eqb (w .src .comp) i && eqb (w .dst .comp) j) (wireAt T) (from 0 (T .counts .wires))
-        ∙ any-cong _ _ (from 0 (T .counts .wires)) (wire j)
+    keep-cong (λ j. joins T i j) (meets (T .wires) (T .counts .wires) 0 2 i) (indexes T) (joins-meets T i)
 
 pub driven-ends : (T : Tables) (i : ℕ) → driven T i ≡ ends (T .wires) (T .counts .wires) 2 i
 driven-ends T i = any-map (λ (w : Wire). eqb (w .dst .comp) i) (wireAt T) (from 0 (T .counts .wires))

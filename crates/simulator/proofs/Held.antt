@@ -28,7 +28,13 @@ use Rattle.tables.specs.Tables.{Tables, fieldsAt, firstInput, firstOutput, inpu
 use Rattle.simulator.specs.Round.{State, wiresFrom, evaluated, send, visit, round}
 use Rattle.simulator.proofs.Ports.{Off, sets-at-ne, sets-at, numbers-length, numbers-at, numbers-fit}
 use Rattle.simulator.proofs.Evaluation.{const-outputs, outputsAfter-const}
-use Rattle.simulator.proofs.Sound.{outputsEnd, inputsEnd, OutputsBeside, Sound, outputs-beside, inputs-off, input-room}
+use Rattle.simulator.proofs.Sound.{outputsEnd, inputsEnd, Sound, output-off, inputs-off, input-room}
+
+-- What each step of a fold keeps, the fold keeps.
+pub foldl-keeps : {A S : Type 0} (P : S → Type 0) (f : S → A → S) (xs : List A)
+    → ((s : S) (a : A) → In a xs → P s → P (f s a)) → (s : S) → P s → P (foldl f s xs)
+foldl-keeps P f [] k s p = p
+foldl-keeps P f (x ∷ xs) k s p = foldl-keeps P f xs (λ u a m. k u a (inr m)) (f s x) (k s x (inl refl) p)
 
 -- Input j of component i fits its width in a table of inputs; output j does in one of outputs.
 abbrev pub inputFits : Tables → List ℕ → ℕ → ℕ → Bool
@@ -141,7 +147,7 @@ module _ (T : Tables) (g : Sound T) where
       fit i h j l (no e) =
           ap (λ (x : ℕ). below x (inputWidth (fieldsAt T i)))
           (getD-set-other (s .inputs) (inputPlace T (w .dst)) (firstInput T i + j) (carried T s w) 0
-          (apart i j l (inputs-off T g i w h m e)))
+          (apart i j l (inputs-off T g i w h m (λ q. e (sym q)))))
           ∙ a .inputs-fit i h j l
 
       new : Held T (written T s w)
@@ -165,8 +171,7 @@ module _ (T : Tables) (g : Sound T) where
   -- The wires of one component.
   pub sends-held : (ws : List Wire) → ((w : Wire) → In w ws → In w (wiresIn T)) → (s : State) → Held T s
       → Held T (foldl (send T) s ws)
-  sends-held [] f s a = a
-  sends-held (w ∷ ws) f s a = sends-held ws (λ x m. f x (inr m)) (send T s w) (send-held s w (f w (inl refl)) a)
+  sends-held ws f = foldl-keeps (Held T) (send T) ws (λ u w m. send-held u w (f w m))
 
   -- An evaluation of component i.
   module _ (t i : ℕ) (h : i < T .counts .components) (s : State) (a : Held T s) where
@@ -203,12 +208,7 @@ module _ (T : Tables) (g : Sound T) where
         → getD (outputsMade T t s i) (firstOutput T d + j) 0 ≡ getD (s .outputs) (firstOutput T d + j) 0
     others-left d j q ne l =
         sets-at-ne (made T t s i) (s .outputs) (firstOutput T i) (firstOutput T d + j)
-        (off (outputs-beside T g i d h q ne))
-      where
-        off : OutputsBeside T i d
-            → Off (firstOutput T i) (length (made T t s i)) (firstOutput T d + j)
-        off (inl u) = inr (omega (arith, made-length))
-        off (inr u) = inl (omega arith)
+        (rw made-length (output-off T g i d j h q ne l))
 
     own-outputs : (j : ℕ) → j < fieldsAt T i .outputs
         → getD (outputsMade T t s i) (firstOutput T i + j) 0 ≡ getD (made T t s i) j 0
@@ -287,9 +287,7 @@ module _ (T : Tables) (g : Sound T) where
 
     pub visits-held : (xs : List ℕ) → ((x : ℕ) → In x xs → x < T .counts .components) → (s : State) → Held T s
         → Held T (foldl (visit T ws t) s xs)
-    visits-held [] f s a = a
-    visits-held (x ∷ xs) f s a = visits-held xs (λ y m. f y (inr m)) (visit T ws t s x)
-        (visit-held s x (f x (inl refl)) a)
+    visits-held xs f = foldl-keeps (Held T) (visit T ws t) xs (λ u x m. visit-held u x (f x m))
 
     pub round-held : (s : State) → Held T s → Held T (round T ws t s)
     unfolding round

@@ -6,12 +6,11 @@ use mathlib.Core.Bool.{Bool, true, false, not, _&&_, _||_}
 use mathlib.Core.List.{List, map}
 use Prim.Native.Nat.{ℕ, _+_, _*_, _≤_, _<_}
 use native.Mathlib.Omega.{arith}
-use borrow.Author.Tests.{eqb-true, eq-eqb}
+use borrow.Author.Tests.{eq-eqb}
 use lib.ListN.{length, getD}
 use lib.Dec.{eqb}
 use Rattle.lists.specs.Lists.{from, every}
-use Rattle.lists.proofs.ListsLaws.{and-left, and-right, every-from}
-use Rattle.lists.proofs.MembersLaws.{In, every-complete, from0-sound}
+use Rattle.lists.proofs.MembersLaws.{every-complete, from0-sound}
 use Rattle.lists.proofs.NamesLaws.{Names, names-sound, names-complete, names-length, overlay-list, overlay-length}
 use Rattle.value.specs.Value.{below}
 use Rattle.primitive.specs.declared.kinds.Kind.the-variants.{Const}
@@ -22,7 +21,7 @@ use Rattle.tables.specs.Tables.{Tables, fullSize, fieldsAt, firstInput, firstOu
 use Rattle.tables.proofs.SizesLaws.{Full, fullSize-sound}
 use Rattle.net.specs.Net.{countsWithin, kindsObeyed, idsDistinct, portsFollow, valuesFit, constsHeld, wiresFit, inputsOnce, names, isNet}
 use Rattle.net.proofs.ClausesLaws.{Within, countsWithin-sound}
-use Rattle.net.proofs.NetLaws.{Net, isNet-sound, isNet-complete}
+use Rattle.net.proofs.NetLaws.{Net, isNet-sound, isNet-complete, valuesFit-inputs, valuesFit-outputs, constsHeld-at}
 use Rattle.simulator.specs.Round.{State, stateOf, leave}
 use Rattle.simulator.proofs.Ports.{numbers-fit-at, numbers-fit}
 use Rattle.simulator.proofs.Clauses.{fullSize-complete, countsWithin-complete}
@@ -182,23 +181,9 @@ module _ (T : Tables) (full : fullSize T ≡ true) (net : isNet T ≡ true) wher
   abbrev outputs-below : List ℕ → ℕ → Bool
   outputs-below l i = every (λ x. below x (outputWidth (fieldsAt T i))) (outputsAt T l i)
 
-  each-fits : (i : ℕ) → i < n → (inputs-below (T .inputs) i && outputs-below (T .outputs) i) ≡ true
-  unfolding valuesFit
-  each-fits = every-from (λ i. inputs-below (T .inputs) i && outputs-below (T .outputs) i) n (clauses .values)
-
-  input-part : (i : ℕ) → i < n → inputs-below (T .inputs) i ≡ true
-  input-part i h = and-left (inputs-below (T .inputs) i) (outputs-below (T .outputs) i) (each-fits i h)
-
-  output-part : (i : ℕ) → i < n → outputs-below (T .outputs) i ≡ true
-  output-part i h = and-right (inputs-below (T .inputs) i) (outputs-below (T .outputs) i) (each-fits i h)
-
   -- In a table of outputs, the first of component i holds its parameter.
   abbrev holds : List ℕ → ℕ → Bool
   holds l i = eqb (getD l (firstOutput T i) 0) (fieldsAt T i .parameter)
-
-  each-held : (i : ℕ) → i < n → (not (is Const (fieldsAt T i)) || holds (T .outputs) i) ≡ true
-  unfolding constsHeld
-  each-held = every-from (λ i. not (is Const (fieldsAt T i)) || holds (T .outputs) i) n (clauses .consts)
 
   pub isNet-held : Held T (stateOf T)
   unfolding names
@@ -207,20 +192,15 @@ module _ (T : Tables) (full : fullSize T ≡ true) (net : isNet T ≡ true) wher
         inputs-length = refl;
         outputs-length = refl;
         inputs-fit = λ i h. numbers-fit-at (T .inputs) (firstInput T i) (fieldsAt T i .inputs) (sound .inputs-in i h)
-            (inputWidth (fieldsAt T i)) (input-part i h);
+            (inputWidth (fieldsAt T i)) (valuesFit-inputs T (clauses .values) i h);
         outputs-fit = λ i h. numbers-fit-at (T .outputs) (firstOutput T i) (fieldsAt T i .outputs)
             (sound .outputs-in i h)
-            (outputWidth (fieldsAt T i)) (output-part i h);
-        consts = λ i h e. const i e (each-held i h);
+            (outputWidth (fieldsAt T i)) (valuesFit-outputs T (clauses .values) i h);
+        consts = constsHeld-at T (clauses .consts);
         current = names-sound n (currentList T) (clauses .current);
         following = names-sound n (followingList T) (clauses .following);
         standing = names-sound n (standingList T) (clauses .standing);
       }
-    where
-      const : (i : ℕ) → is Const (fieldsAt T i) ≡ true
-          → (not (is Const (fieldsAt T i)) || holds (T .outputs) i) ≡ true
-          → getD (T .outputs) (firstOutput T i) 0 ≡ fieldsAt T i .parameter
-      const i e q = eqb-true (getD (T .outputs) (firstOutput T i) 0) (fieldsAt T i .parameter) (rw e at q)
 
   -- Tables in which a state that the net may have is left.
   module _ (s : State) (a : Held T s) where

@@ -1,40 +1,40 @@
--- The answers to the questions, by the number of their checks: refused, or what the net says. And what the net gives the functions
--- that find it.
+-- The answers to the questions, by the number of their checks: refused, or what the net says. And what the net gives
+-- the functions that find it.
 -- Not here: laws of the ends of wires (EndsLaws).
 -- Assumes nothing.
 use mathlib.Core.Path.{_≡_, refl, sym, ap, _∙_}
+use mathlib.Core.Logic.{⊎-elim}
 use mathlib.Core.Bool.{Bool, true, false, cond, not, _||_, or-true, or-false}
 use mathlib.Core.List.{List, [], _∷_}
 use Prim.Native.Nat.{ℕ, _+_, _*_, _≤_, _<_}
 use native.Mathlib.Omega.{arith}
-use borrow.Author.Tests.{eq-eqb, ne-eqb, le-leb, lt-leb, lt-ltb, le-ltb, ltb-false, leb-false}
+use borrow.Author.Tests.{eqb-true, ne-eqb, le-leb, lt-leb, lt-ltb, le-ltb, ltb-false}
 use lib.ListN.{length, getD}
 use lib.Dec.{eqb, leb, ltb}
-use Rattle.lists.specs.Lists.{from, every, first, refusal, _if_, overlay}
-use Rattle.lists.proofs.ListsLaws.{or-right, refusal-first, refusal-rest}
-use Rattle.lists.proofs.MembersLaws.{In, map-complete, from0-complete}
+use Rattle.lists.specs.Lists.{every, first, refusal, _if_, overlay}
+use Rattle.lists.proofs.ListsLaws.{or-right, refusal-first}
+use Rattle.lists.proofs.MembersLaws.{or-cases}
 use Rattle.primitive.specs.declared.kinds.Kind.the-variants.{Clock}
 use Rattle.primitive.specs.declared.table.Fields.{Fields}
 use Rattle.primitive.specs.Kinds.{is, inputWidth, outputWidth}
 use Rattle.primitive.specs.Evaluate.{refusedBy}
-use Rattle.flatten.specs.declared.Wire.{Wire}
-use Rattle.tables.specs.Tables.{Tables, fullSize, fieldsAt, idAt, firstInput, firstOutput, indexes, currentList, wiresIn, wireAt, sources, targetsIn, indexOf}
-use Rattle.tables.proofs.SizesLaws.{Full}
+use Rattle.tables.specs.Tables.{Tables, fullSize, fieldsAt, idAt, firstInput, firstOutput, indexes, currentList, wireAt, indexOf}
 use Rattle.net.specs.Net.{isNet, netNumber, lent}
-use Rattle.net.proofs.ClausesLaws.{Within, countsWithin-sound, kindsObeyed-fit, portsFollow-inputs, portsFollow-outputs}
-use Rattle.net.proofs.NetLaws.{Net, netNumber-net, netNumber-sizes, isOutput-comp, isInput-comp, wiresFit-source, wiresFit-target}
+use Rattle.net.proofs.ClausesLaws.{kindsObeyed-fit}
+use Rattle.net.proofs.NetLaws.{netNumber-net}
 use Rattle.simulator.specs.declared.Side.{Side}
 use Rattle.simulator.specs.declared.Side.the-variants.{Inputs, Outputs}
 use Rattle.simulator.specs.declared.Calm.the-variants.{Is as CalmIs, Refused as NoCalm}
 use Rattle.simulator.specs.declared.Index.{Index}
-use Rattle.simulator.specs.declared.Index.the-variants.{Is as IndexIs, Refused as NoIndex}
+use Rattle.simulator.specs.declared.Index.the-variants.{Refused as NoIndex}
 use Rattle.simulator.specs.declared.Port.{Port}
 use Rattle.simulator.specs.declared.Port.the-variants.{Is as PortIs, Refused as NoPort}
 use Rattle.simulator.specs.declared.Listed.{Listed}
 use Rattle.simulator.specs.declared.Listed.the-variants.{Count, Refused as NotListed}
 use Rattle.simulator.specs.Round.{calm}
 use Rattle.simulator.specs.Questions.{calmAnswer, found, indexAnswer, portCount, valueAt, valueNumber, valueAnswer, listNumber, listAfter, listAnswer, sourcesAnswer, sourcesList, targetsAnswer, targetsList}
-use Rattle.simulator.specs.Asked.{endOf, met, RowRight, valueOnNet}
+use Rattle.simulator.specs.Asked.{isEnd, endOf, met, RowRight, valueOnNet}
+use Rattle.simulator.proofs.Sound.{net-sound, wire-in}
 use Rattle.simulator.proofs.EndsLaws.{sources-met, targets-met}
 
 -- A call that checks 2 and 16 and then others: the number of the first two, or of the others.
@@ -46,7 +46,8 @@ module _ (T : Tables) (others : List (ℕ × Bool)) where
   unfolding netNumber
   number-refused k e ne = by-test (fullSize T) (isNet T) e
     where
-      by-test : (a b : Bool) → k ≡ refusal ((2 if not a) ∷ (16 if not b) ∷ []) → refusal ((2 if not a) ∷ (16 if not b) ∷ others) ≡ k
+      by-test : (a b : Bool) → k ≡ refusal ((2 if not a) ∷ (16 if not b) ∷ [])
+          → refusal ((2 if not a) ∷ (16 if not b) ∷ others) ≡ k
       by-test true true q = absurd (ne q)
       by-test true false q = sym q
       by-test false b q = sym q
@@ -65,49 +66,46 @@ module _ (T : Tables) (others : List (ℕ × Bool)) where
   unfolding netNumber
   number-passed z = by-test (fullSize T) (isNet T) z
     where
-      by-test : (a b : Bool) → refusal ((2 if not a) ∷ (16 if not b) ∷ others) ≡ 0 → refusal ((2 if not a) ∷ (16 if not b) ∷ []) ≡ 0
+      by-test : (a b : Bool) → refusal ((2 if not a) ∷ (16 if not b) ∷ others) ≡ 0
+          → refusal ((2 if not a) ∷ (16 if not b) ∷ []) ≡ 0
       by-test true true q = refl
       by-test true false q = absurd (omega arith)
       by-test false b q = absurd (omega arith)
 
--- What a net gives.
+-- An end of a wire is one of its four words.
+pub end-place : (e : ℕ) → isEnd e ≡ true → e < 4
+end-place e a =
+    ⊎-elim (λ q. omega (arith, eqb-true e 0 q)) (λ q. omega (arith, eqb-true e 2 q)) (or-cases (eqb e 0) (eqb e 2) a)
+
+-- What a net gives: a component's row, and the ends of its wires.
 module _ (T : Tables) (z : netNumber T ≡ 0) where
-  pub net-within : Within (T .counts)
-  net-within = countsWithin-sound (T .counts) (netNumber-net T z .counts)
-
-  pub net-current : T .counts .current ≤ length (T .current)
-  net-current = omega (arith, net-within .current, netNumber-sizes T z .current)
-
-  -- A component's row.
   pub net-row : (i : ℕ) → i < T .counts .components → RowRight (T .components) (T .inputs) (T .outputs) i
   net-row i h =
       record {
         fit = kindsObeyed-fit T (netNumber-net T z .kinds) i h;
-        inputs-in = omega (arith, portsFollow-inputs T (netNumber-net T z .ports) i h, net-within .inputs, netNumber-sizes T z .inputs);
-        outputs-in = omega (arith, portsFollow-outputs T (netNumber-net T z .ports) i h, net-within .outputs, netNumber-sizes T z .outputs);
+        inputs-in = net-sound T z .inputs-in i h;
+        outputs-in = net-sound T z .outputs-in i h;
       }
 
-  -- The ends of its wires.
-  there : (k : ℕ) → k < T .counts .wires → In (wireAt T k) (wiresIn T)
-  there k h = map-complete (wireAt T) k (from 0 (T .counts .wires)) (from0-complete (T .counts .wires) k h)
+  pub net-end : (e : ℕ) → isEnd e ≡ true → (k : ℕ) → k < T .counts .wires → endOf (T .wires) k e < 256
+  net-end e a k h =
+      ⊎-elim (λ q. rw (eqb-true e 0 q) source) (λ q. rw (eqb-true e 2 q) target) (or-cases (eqb e 0) (eqb e 2) a)
+    where
+      source : endOf (T .wires) k 0 < 256
+      source =
+          let p : 4 * k + 0 ≡ 4 * k = omega arith in
+          rw p (omega (arith, net-sound T z .source (wireAt T k) (wire-in T k h), net-sound T z .few))
 
-  pub net-source : (k : ℕ) → k < T .counts .wires → endOf (T .wires) k 0 < 256
-  net-source k h =
-      let e : 4 * k + 0 ≡ 4 * k = omega arith in
-      let s = isOutput-comp T (wireAt T k .src) (wiresFit-source T (netNumber-net T z .wires) (wireAt T k) (there k h)) in
-      rw e (omega (arith, s, net-within .components))
-
-  pub net-target : (k : ℕ) → k < T .counts .wires → endOf (T .wires) k 2 < 256
-  net-target k h =
-      let t = isInput-comp T (wireAt T k .dst) (wiresFit-target T (netNumber-net T z .wires) (wireAt T k) (there k h)) in
-      omega (arith, t, net-within .components)
+      target : endOf (T .wires) k 2 < 256
+      target = omega (arith, net-sound T z .target (wireAt T k) (wire-in T k h), net-sound T z .few)
 
 -- Calm or not.
 pub calm-refused : (T : Tables) (k : ℕ) → k ≡ netNumber T → (k ≡ 0 → ⊥) → NoCalm (refusedBy k) ≡ calmAnswer T
 unfolding calmAnswer
 calm-refused T k e ne = rw (← e, ne-eqb k 0 ne)
 
-pub calm-is : (T : Tables) (b : Bool) → netNumber T ≡ 0 → b ≡ every (λ i. is Clock (fieldsAt T i)) (currentList T) → CalmIs b ≡ calmAnswer T
+pub calm-is : (T : Tables) (b : Bool) → netNumber T ≡ 0 → b ≡ every (λ i. is Clock (fieldsAt T i)) (currentList T)
+    → CalmIs b ≡ calmAnswer T
 unfolding calmAnswer calm
 calm-is T b z e = rw (z, e)
 
@@ -116,7 +114,8 @@ pub index-refused : (T : Tables) (id k : ℕ) → k ≡ netNumber T → (k ≡ 0
 unfolding indexAnswer
 index-refused T id k e ne = rw (← e, ne-eqb k 0 ne)
 
-pub index-found : (T : Tables) (id : ℕ) (r : Index) → netNumber T ≡ 0 → r ≡ found (first (λ i. eqb (idAt T i) id) (indexes T))
+pub index-found : (T : Tables) (id : ℕ) (r : Index) → netNumber T ≡ 0
+    → r ≡ found (first (λ i. eqb (idAt T i) id) (indexes T))
     → r ≡ indexAnswer T id
 unfolding indexAnswer indexOf
 index-found T id r z e = rw z e
@@ -135,16 +134,19 @@ module _ (T : Tables) (side : Side) (i p : ℕ) where
   on-net z = rw (number-net T ((17 if none) ∷ []) z) (by-test none)
     where
       by-test : (b : Bool) → cond b (NoPort (refusedBy 17)) (PortIs (valueAt T side i p))
-          ≡ cond (eqb (refusal ((17 if b) ∷ [])) 0) (PortIs (valueAt T side i p)) (NoPort (refusedBy (refusal ((17 if b) ∷ []))))
+          ≡ cond (eqb (refusal ((17 if b) ∷ [])) 0) (PortIs (valueAt T side i p))
+          (NoPort (refusedBy (refusal ((17 if b) ∷ []))))
       by-test true = refl
       by-test false = refl
 
-  lent-value : (side : Side) → valueOnNet (lent (T .components) (T .inputs) (T .outputs) [] (T .counts)) side i p ≡ valueOnNet T side i p
+  lent-value : (side : Side)
+      → valueOnNet (lent (T .components) (T .inputs) (T .outputs) [] (T .counts)) side i p ≡ valueOnNet T side i p
   unfolding valueOnNet
   lent-value Inputs = refl
   lent-value Outputs = refl
 
-  pub value-there : (r : Port) → netNumber T ≡ 0 → r ≡ valueOnNet (lent (T .components) (T .inputs) (T .outputs) [] (T .counts)) side i p
+  pub value-there : (r : Port) → netNumber T ≡ 0
+      → r ≡ valueOnNet (lent (T .components) (T .inputs) (T .outputs) [] (T .counts)) side i p
       → r ≡ valueAnswer T side i p
   value-there r z e = e ∙ lent-value side ∙ on-net z
 
@@ -156,13 +158,15 @@ module _ (T : Tables) (side : Side) (i p : ℕ) where
 
   module _ (r : Port) (f : Fields) (start w : ℕ) (h : i < T .counts .components) (e : f ≡ fieldsAt T i) where
     pub value-input : side ≡ Inputs → start ≡ firstInput T i → w ≡ inputWidth f
-        → r ≡ cond (leb (f .inputs) p) (NoPort (refusedBy 17)) (PortIs (record { number = getD (T .inputs) (start + p) 0; width = w }))
+        → r ≡ cond (leb (f .inputs) p) (NoPort (refusedBy 17))
+        (PortIs (record { number = getD (T .inputs) (start + p) 0; width = w }))
         → r ≡ valueOnNet T side i p
     unfolding valueOnNet
     value-input k q u given = given ∙ rw (k, u, q, e, lt-leb (T .counts .components) i h)
 
     pub value-output : side ≡ Outputs → start ≡ firstOutput T i → w ≡ outputWidth f
-        → r ≡ cond (leb (f .outputs) p) (NoPort (refusedBy 17)) (PortIs (record { number = getD (T .outputs) (start + p) 0; width = w }))
+        → r ≡ cond (leb (f .outputs) p) (NoPort (refusedBy 17))
+        (PortIs (record { number = getD (T .outputs) (start + p) 0; width = w }))
         → r ≡ valueOnNet T side i p
     unfolding valueOnNet
     value-output k q u given = given ∙ rw (k, u, q, e, lt-leb (T .counts .components) i h)
@@ -183,11 +187,13 @@ module _ (T : Tables) (i : ℕ) (list : List ℕ) where
 
   pub list-none : 256 ≤ length list → netNumber T ≡ 0 → T .counts .components ≤ i → 17 ≡ listNumber T i list
   list-none h z l =
-      sym (long h ∙ number-net T ((17 if leb (T .counts .components) i) ∷ []) z ∙ rw (le-leb (T .counts .components) i l))
+      sym (long h ∙ number-net T ((17 if leb (T .counts .components) i) ∷ []) z
+      ∙ rw (le-leb (T .counts .components) i l))
 
   pub list-passed : 256 ≤ length list → netNumber T ≡ 0 → i < T .counts .components → 0 ≡ listNumber T i list
   list-passed h z l =
-      sym (long h ∙ number-net T ((17 if leb (T .counts .components) i) ∷ []) z ∙ rw (lt-leb (T .counts .components) i l))
+      sym (long h ∙ number-net T ((17 if leb (T .counts .components) i) ∷ []) z
+      ∙ rw (lt-leb (T .counts .components) i l))
 
   -- and what holds where nothing was refused.
   module _ (z : listNumber T i list ≡ 0) where
@@ -195,52 +201,34 @@ module _ (T : Tables) (i : ℕ) (list : List ℕ) where
     unfolding listNumber
     list-full =
         ltb-false (length list) 256 (or-right (not (fullSize T)) (ltb (length list) 256)
-        (refusal-first 2 (not (fullSize T) || ltb (length list) 256) ((16 if not (isNet T)) ∷ (17 if leb (T .counts .components) i) ∷ [])
+        (refusal-first 2 (not (fullSize T) || ltb (length list) 256)
+        ((16 if not (isNet T)) ∷ (17 if leb (T .counts .components) i) ∷ [])
         (λ q. omega arith) z))
 
     pub list-net : netNumber T ≡ 0
     list-net = number-passed T ((17 if leb (T .counts .components) i) ∷ []) (sym (long list-full) ∙ z)
 
--- The answer and the lent list.
-module _ (k : ℕ) (xs list : List ℕ) where
-  refused-answer : (k ≡ 0 → ⊥) → NotListed (refusedBy k) ≡ listAnswer k xs
-  refused-answer ne = rw (ne-eqb k 0 ne)
+-- The answer and the lent list, where m is the number and xs is listed.
+module _ (m : ℕ) (xs list : List ℕ) where
+  pub joined-refused : (k : ℕ) → k ≡ m → (k ≡ 0 → ⊥)
+      → (NotListed (refusedBy k) ≡ listAnswer m xs) × (list ≡ listAfter m xs list)
+  joined-refused k e ne = rw (← e, ne-eqb k 0 ne) (refl, refl)
 
-  refused-list : (k ≡ 0 → ⊥) → list ≡ listAfter k xs list
-  refused-list ne = rw (ne-eqb k 0 ne)
+  pub joined-listed : (n : ℕ) (u : List ℕ) → m ≡ 0 → (n ≡ length xs) × (u ≡ overlay xs list)
+      → (Count n ≡ listAnswer m xs) × (u ≡ listAfter m xs list)
+  joined-listed n u z e = rw z (ap Count (e .0), e .1)
 
-  done-answer : (n : ℕ) → k ≡ 0 → n ≡ length xs → Count n ≡ listAnswer k xs
-  done-answer n z e = rw (z, e)
+-- Sources and targets are what wires join.
+module _ (T : Tables) (i : ℕ) (list : List ℕ) (r : Listed) (u : List ℕ) where
+  abbrev Joined : List ℕ → Type 0
+  Joined xs = (r ≡ listAnswer (listNumber T i list) xs) × (u ≡ listAfter (listNumber T i list) xs list)
 
-  done-list : (u : List ℕ) → k ≡ 0 → u ≡ overlay xs list → u ≡ listAfter k xs list
-  done-list u z e = rw z e
-
-module _ (T : Tables) (i : ℕ) (list : List ℕ) where
-  pub sources-refused : (k : ℕ) → k ≡ listNumber T i list → (k ≡ 0 → ⊥)
-      → (NotListed (refusedBy k) ≡ sourcesAnswer T i list) × (list ≡ sourcesList T i list)
+  pub sources-joined : Joined (met (T .wires) (T .counts .wires) 2 0 i (T .counts .components))
+      → (r ≡ sourcesAnswer T i list) × (u ≡ sourcesList T i list)
   unfolding sourcesAnswer sourcesList
-  sources-refused k e ne = rw (← e) (refused-answer k (sources T i) list ne, refused-list k (sources T i) list ne)
+  sources-joined e = rw (sources-met T i) e
 
-  pub targets-refused : (k : ℕ) → k ≡ listNumber T i list → (k ≡ 0 → ⊥)
-      → (NotListed (refusedBy k) ≡ targetsAnswer T i list) × (list ≡ targetsList T i list)
+  pub targets-joined : Joined (met (T .wires) (T .counts .wires) 0 2 i (T .counts .components))
+      → (r ≡ targetsAnswer T i list) × (u ≡ targetsList T i list)
   unfolding targetsAnswer targetsList
-  targets-refused k e ne = rw (← e) (refused-answer k (targetsIn T i) list ne, refused-list k (targetsIn T i) list ne)
-
-  module _ (n : ℕ) (u : List ℕ) (z : listNumber T i list ≡ 0) where
-    pub sources-listed : (n ≡ length (met (T .wires) (T .counts .wires) 2 0 i (T .counts .components)))
-        × (u ≡ overlay (met (T .wires) (T .counts .wires) 2 0 i (T .counts .components)) list)
-        → (Count n ≡ sourcesAnswer T i list) × (u ≡ sourcesList T i list)
-    unfolding sourcesAnswer sourcesList
-    sources-listed e = (
-      done-answer (listNumber T i list) (sources T i) list n z (e .0 ∙ ap length (sym (sources-met T i))),
-      done-list (listNumber T i list) (sources T i) list u z (e .1 ∙ ap (λ (l : List ℕ). overlay l list) (sym (sources-met T i))),
-    )
-
-    pub targets-listed : (n ≡ length (met (T .wires) (T .counts .wires) 0 2 i (T .counts .components)))
-        × (u ≡ overlay (met (T .wires) (T .counts .wires) 0 2 i (T .counts .components)) list)
-        → (Count n ≡ targetsAnswer T i list) × (u ≡ targetsList T i list)
-    unfolding targetsAnswer targetsList
-    targets-listed e = (
-      done-answer (listNumber T i list) (targetsIn T i) list n z (e .0 ∙ ap length (sym (targets-met T i))),
-      done-list (listNumber T i list) (targetsIn T i) list u z (e .1 ∙ ap (λ (l : List ℕ). overlay l list) (sym (targets-met T i))),
-    )
+  targets-joined e = rw (targets-met T i) e

@@ -2,21 +2,20 @@
 -- Assumes nothing.
 use mathlib.Core.Path.{_≡_, sym, ap, _∙_}
 use mathlib.Core.List.{List, [], foldl}
-use Prim.Native.Nat.{ℕ, _+_, _≤_, _<_}
+use Prim.Native.Nat.{ℕ, _≤_}
 use native.Mathlib.Omega.{arith}
 use lib.ListN.{length, take}
 use lib.Seq.{length-take-le}
-use Rattle.lists.specs.Lists.{from, overlay}
-use Rattle.lists.proofs.MembersLaws.{In, map-complete, from0-complete}
+use Rattle.lists.specs.Lists.{overlay}
 use Rattle.tables.specs.declared.Counts.{Counts}
-use Rattle.tables.specs.Tables.{Tables, tablesOf, firstInput, firstOutput, wireAt, wiresIn, currentList, followingList, standingList}
+use Rattle.tables.specs.Tables.{Tables, tablesOf, wireAt, wiresIn, currentList, followingList, standingList}
 use Rattle.tables.proofs.NamedLaws.{overlay-list}
 use Rattle.net.specs.Net.{names, netNumber}
-use Rattle.net.proofs.ClausesLaws.{Within, countsWithin-sound, kindsObeyed-at, portsFollow-inputs, portsFollow-outputs}
-use Rattle.net.proofs.NetLaws.{netNumber-net, netNumber-sizes, wiresFit-source, wiresFit-target, isOutput-comp, isOutput-port, isInput-comp, isInput-port}
+use Rattle.net.proofs.NetLaws.{netNumber-net, netNumber-sizes}
 use Rattle.simulator.specs.declared.rounds.Sizes.{Sizes}
 use Rattle.simulator.specs.Round.{State, leave, turn, evaluated, send, visit, round, roundOf}
 use Rattle.simulator.specs.Steps.{wiring, stateAt, Runs, Listed}
+use Rattle.simulator.proofs.Sound.{net-sound, net-within, current-in, following-in, wire-in, output-room, input-room}
 use Rattle.simulator.proofs.StepsLaws.{visits-current}
 
 -- A list copied to another table.
@@ -25,47 +24,18 @@ copy-list n l t t' h e = rw e (overlay-list (take n l) t n (sym (length-take-le 
 
 -- What a net gives.
 module _ (T : Tables) (z : netNumber T ≡ 0) where
-  pub net-within : Within (T .counts)
-  net-within = countsWithin-sound (T .counts) (netNumber-net T z .counts)
-
-  stored : (k : ℕ) → k < T .counts .wires → In (wireAt T k) (wiresIn T)
-  stored k h = map-complete (wireAt T) k (from 0 (T .counts .wires)) (from0-complete (T .counts .wires) k h)
-
-  source : (k : ℕ) (h : k < T .counts .wires) → firstOutput T (wireAt T k .src .comp) + wireAt T k .src .port < length (T .outputs)
-  source k h =
-      let e = wiresFit-source T (netNumber-net T z .wires) (wireAt T k) (stored k h) in
-      let i = isOutput-comp T (wireAt T k .src) e in
-      omega (
-        arith,
-        isOutput-port T (wireAt T k .src) e,
-        portsFollow-outputs T (netNumber-net T z .ports) (wireAt T k .src .comp) i,
-        net-within .outputs,
-        netNumber-sizes T z .outputs,
-      )
-
-  target : (k : ℕ) (h : k < T .counts .wires) → firstInput T (wireAt T k .dst .comp) + wireAt T k .dst .port < length (T .inputs)
-  target k h =
-      let e = wiresFit-target T (netNumber-net T z .wires) (wireAt T k) (stored k h) in
-      let i = isInput-comp T (wireAt T k .dst) e in
-      omega (
-        arith,
-        isInput-port T (wireAt T k .dst) e,
-        portsFollow-inputs T (netNumber-net T z .ports) (wireAt T k .dst .comp) i,
-        net-within .inputs,
-        netNumber-sizes T z .inputs,
-      )
-
   pub net-runs : Runs (wiring (T .components) (T .wires) (T .counts)) (T .inputs) (T .outputs)
   net-runs =
+      let g = net-sound T z in
       record {
-        few = net-within .components;
-        few-wires = net-within .wires;
-        obeyed = kindsObeyed-at T (netNumber-net T z .kinds);
-        inputs-in = λ i h. omega (arith, portsFollow-inputs T (netNumber-net T z .ports) i h, net-within .inputs, netNumber-sizes T z .inputs);
-        outputs-in = λ i h. omega (arith, portsFollow-outputs T (netNumber-net T z .ports) i h, net-within .outputs, netNumber-sizes T z .outputs);
-        source = source;
-        target = target;
-        named = λ k h. isInput-comp T (wireAt T k .dst) (wiresFit-target T (netNumber-net T z .wires) (wireAt T k) (stored k h));
+        few = g .few;
+        few-wires = net-within T z .wires;
+        obeyed = g .obeyed;
+        inputs-in = g .inputs-in;
+        outputs-in = g .outputs-in;
+        source = λ k h. output-room T g (wireAt T k) (wire-in T k h);
+        target = λ k h. input-room T g (wireAt T k) (wire-in T k h);
+        named = λ k h. g .target (wireAt T k) (wire-in T k h);
       }
 
   pub net-current : Listed (wiring (T .components) (T .wires) (T .counts)) (T .counts .current) (T .current)
@@ -73,7 +43,7 @@ module _ (T : Tables) (z : netNumber T ≡ 0) where
   net-current =
       record {
         whole = netNumber-sizes T z .current;
-        count = omega (arith, net-within .current, netNumber-sizes T z .current);
+        count = current-in T z;
         named = netNumber-net T z .current;
       }
 
@@ -83,12 +53,18 @@ module _ (T : Tables) (z : netNumber T ≡ 0) where
   unfolding names
   net-copied t t' h e =
       let k : take (T .counts .following) t' ≡ followingList T = copy-list (T .counts .following) (T .following) t t'
-      (omega (arith, net-within .following, netNumber-sizes T z .following)) e in
-      record { whole = h; count = omega (arith, net-within .following); named = rw k (netNumber-net T z .following) }
+      (following-in T z) e in
+      record {
+        whole = h;
+        count = omega (arith, net-within T z .following);
+        named = rw k
+            (netNumber-net T z .following);
+      }
 
 -- The three copies at the end.
 pub round-ended : (cur fol std next left cur' fol' std' : List ℕ) (m : Counts) (n : Sizes) → n .following ≤ length next
-    → n .standing ≤ length left → cur' ≡ overlay (take (n .following) next) cur → fol' ≡ overlay (take (n .standing) left) fol
+    → n .standing ≤ length left → cur' ≡ overlay (take (n .following) next) cur
+    → fol' ≡ overlay (take (n .standing) left) fol
     → std' ≡ overlay (take (n .standing) left) std
     → tablesOf [] [] [] [] cur' fol' std' (record {
       components = m .components;
@@ -98,7 +74,8 @@ pub round-ended : (cur fol std next left cur' fol' std' : List ℕ) (m : Counts)
       current = n .following;
       following = n .standing;
       standing = n .standing;
-    }) ≡ leave (tablesOf [] [] [] [] cur fol std m) (turn (stateAt [] [] (take (n .following) next) (take (n .standing) left)))
+    }) ≡ leave (tablesOf [] [] [] [] cur fol std m) (turn (stateAt [] [] (take (n .following) next)
+    (take (n .standing) left)))
 unfolding leave
 round-ended cur fol std next left cur' fol' std' m n h k ec ef es =
     let a : length (take (n .following) next) ≡ n .following = length-take-le (n .following) next h in
@@ -110,20 +87,26 @@ module _ (T : Tables) (t : ℕ) where
   abbrev W : Tables
   W = wiring (T .components) (T .wires) (T .counts)
 
-  round-visits : (s : State) → s ≡ foldl (visit W (wiresIn W) t) (stateAt (T .inputs) (T .outputs) (followingList T) (standingList T)) (currentList T)
+  round-visits : (s : State)
+      → s ≡ foldl (visit W (wiresIn W) t) (stateAt (T .inputs) (T .outputs) (followingList T) (standingList T))
+      (currentList T)
       → roundOf t T ≡ leave T (turn s)
   unfolding roundOf round visit evaluated send
   round-visits s e =
       ap (λ (u : State). leave T (turn u))
-      (visits-current T (wiresIn T) t (currentList T) (stateAt (T .inputs) (T .outputs) (followingList T) (standingList T)) (currentList T))
+      (visits-current T (wiresIn T) t (currentList T)
+      (stateAt (T .inputs) (T .outputs) (followingList T) (standingList T)) (currentList T))
       ∙ ap (λ (u : State). leave T (turn u)) (sym e)
 
   pub round-made : (nx lf ins outs nx' lf' cur fol std : List ℕ) (n : Sizes) (r : Counts)
       → take (T .counts .following) nx ≡ followingList T → take (T .counts .standing) lf ≡ standingList T
       → stateAt ins outs (take (n .following) nx') (take (n .standing) lf')
-      ≡ foldl (visit W (wiresIn W) t) (stateAt (T .inputs) (T .outputs) (take (T .counts .following) nx) (take (T .counts .standing) lf)) (currentList T)
+      ≡ foldl (visit W (wiresIn W) t)
+      (stateAt (T .inputs) (T .outputs) (take (T .counts .following) nx) (take (T .counts .standing) lf))
+      (currentList T)
       → tablesOf [] [] [] [] cur fol std r
-      ≡ leave (tablesOf [] [] [] [] (T .current) (T .following) (T .standing) (T .counts)) (turn (stateAt [] [] (take (n .following) nx') (take (n .standing) lf')))
+      ≡ leave (tablesOf [] [] [] [] (T .current) (T .following) (T .standing) (T .counts))
+      (turn (stateAt [] [] (take (n .following) nx') (take (n .standing) lf')))
       → tablesOf (T .components) ins outs (T .wires) cur fol std r ≡ roundOf t T
   unfolding leave
   round-made nx lf ins outs nx' lf' cur fol std n r ef es v e =

@@ -7,25 +7,24 @@ use mathlib.Core.Bool.{Bool, true, false, cond, not, _&&_}
 use Prim.Native.Nat.{ℕ, suc, _+_, _-_, _≤_, _<_}
 use native.Mathlib.Nat.{sub-zero, zero-add, add-zero}
 use native.Mathlib.Omega.{arith}
-use borrow.Author.Tests.{eq-eqb, ne-eqb, ltb-true, ltb-false, not-true}
+use borrow.Author.Tests.{ltb-true, ltb-false, not-true}
 use lib.ListN.{length, take}
 use lib.Seq.{length-take-le}
-use lib.Dec.{eqb, ltb}
+use lib.Dec.{ltb}
 use Rattle.lists.specs.Lists.{every}
 use Rattle.lists.proofs.ListsLaws.{and-left, and-right}
 use Rattle.primitive.specs.declared.kinds.Kind.the-variants.{Clock}
 use Rattle.primitive.specs.Kinds.{is}
 use Rattle.primitive.specs.Evaluate.{refusedBy}
 use Rattle.tables.specs.declared.Counts.{Counts}
-use Rattle.tables.specs.Tables.{Tables, tablesOf, fieldsIn, currentList}
+use Rattle.tables.specs.Tables.{Tables, fieldsIn, currentList}
 use Rattle.net.specs.Net.{netNumber}
-use Rattle.net.proofs.NetLaws.{netNumber-sizes}
 use Rattle.simulator.specs.declared.Ran.the-variants.{Done as RanOut, Refused as NotRun}
 use Rattle.simulator.specs.Round.{calm, roundOf}
 use Rattle.simulator.specs.Calls.{roundTables, Run, onceMore, run, runTables, runAnswer}
 use Rattle.simulator.proofs.Kept.{roundTables-done, roundTables-net}
-use Rattle.simulator.proofs.RoundLaws.{net-within}
-use Rattle.simulator.proofs.CallsLaws.{counted}
+use Rattle.simulator.proofs.Sound.{current-in}
+use Rattle.simulator.proofs.CallsLaws.{counted, counted-left, call-refused, call-made}
 
 abbrev pub onTop : ℕ → ℕ → Run → Run
 onTop r e x = record { tables = x .tables; rounds = r + x .rounds; evaluations = e + x .evaluations }
@@ -56,20 +55,21 @@ module _ (t : ℕ) (T U : Tables) (net : netNumber T ≡ 0) (made : U ≡ roundO
 
   current-length : length (currentList T) ≡ T .counts .current
   current-length =
-      length-take-le (T .counts .current) (T .current)
-      (omega (arith, net-within T net .current, netNumber-sizes T net .current))
+      length-take-le (T .counts .current) (T .current) (current-in T net)
 
   run-more : (k : ℕ) → run (suc k) t T ≡ onceMore (T .counts .current) (stopped (calm U) k t U)
   unfolding run
   run-more k = rw (left, current-length)
 
-  pub run-turn : (limit r e : ℕ) (c : Bool) (x : Run) → r < limit → c ≡ calm U → onTop r e (stopped false (limit - r) t T) ≡ x
+  pub run-turn : (limit r e : ℕ) (c : Bool) (x : Run) → r < limit → c ≡ calm U
+      → onTop r e (stopped false (limit - r) t T) ≡ x
       → onTop (r + 1) (e + T .counts .current) (stopped c (limit - (r + 1)) t U) ≡ x
   run-turn limit r e c x h q so-far =
       let d : limit - r ≡ suc (limit - (r + 1)) = omega arith in
       let y = stopped c (limit - (r + 1)) t U in
       let a : run (limit - r) t T ≡ onceMore (T .counts .current) y =
-      ap (λ (k : ℕ). run k t T) d ∙ run-more (limit - (r + 1)) ∙ ap (λ (b : Bool). onceMore (T .counts .current) (stopped b (limit - (r + 1)) t U)) (sym q) in
+      ap (λ (k : ℕ). run k t T) d ∙ run-more (limit - (r + 1))
+      ∙ ap (λ (b : Bool). onceMore (T .counts .current) (stopped b (limit - (r + 1)) t U)) (sym q) in
       let f : r + 1 + y .rounds ≡ r + suc (y .rounds) = omega arith in
       let g : e + T .counts .current + y .evaluations ≡ e + (T .counts .current + y .evaluations) = omega arith in
       let i : onTop (r + 1) (e + T .counts .current) y ≡ onTop r e (onceMore (T .counts .current) y) = rw (f, g) in
@@ -103,35 +103,31 @@ run-end true limit r e t T x q so-far = run-calm limit r e t T x so-far
 run-end false limit r e t T x q so-far = run-limit limit r e t T x (ltb-false r limit q) so-far
 
 -- Calm is read off the components and the current list.
-pub calm-list : (U : Tables) → every (λ i. is Clock (fieldsIn (U .components) i)) (take (U .counts .current) (U .current)) ≡ calm U
+pub calm-list : (U : Tables)
+    → every (λ i. is Clock (fieldsIn (U .components) i)) (take (U .counts .current) (U .current)) ≡ calm U
 unfolding calm
 calm-list U = refl
 
 -- The call.
 module _ (T : Tables) (t limit k : ℕ) (number : k ≡ netNumber T) where
   module _ (refused : k ≡ 0 → ⊥) where
-    none : eqb (netNumber T) 0 ≡ false
-    none = ne-eqb (netNumber T) 0 (λ q. refused (number ∙ q))
-
     pub run-refused : NotRun (refusedBy k) ≡ runAnswer T t limit
     unfolding runAnswer
-    run-refused = rw (number, none)
+    run-refused = rw (number, call-refused T k number refused)
 
     pub run-kept : counted T (runTables T t limit .counts) ≡ runTables T t limit
     unfolding runTables
-    run-kept = rw none
+    run-kept = rw (call-refused T k number refused)
 
   module _ (zero : k ≡ 0) (U : Tables) (m : Counts) (rounds evaluations : ℕ)
       (made : record { tables = counted U m; rounds = rounds; evaluations = evaluations } ≡ run limit t T) where
-    done : eqb (netNumber T) 0 ≡ true
-    done = eq-eqb (netNumber T) 0 (sym number ∙ zero)
-
     pub run-answered : RanOut m rounds evaluations ≡ runAnswer T t limit
     unfolding runAnswer
-    run-answered = rw done (ap (λ (x : Run). RanOut (x .tables .counts) (x .rounds) (x .evaluations)) made)
+    run-answered =
+        rw (call-made T k number zero)
+        (ap (λ (x : Run). RanOut (x .tables .counts) (x .rounds) (x .evaluations)) made)
 
     pub run-left : counted U (runTables T t limit .counts) ≡ runTables T t limit
     unfolding runTables
     run-left =
-        let e : counted U m ≡ run limit t T .tables = ap (λ (x : Run). x .tables) made in
-        rw done (ap (counted U) (sym (ap (λ (X : Tables). X .counts) e)) ∙ e)
+        rw (call-made T k number zero) (counted-left U (run limit t T .tables) m (ap (λ (x : Run). x .tables) made))

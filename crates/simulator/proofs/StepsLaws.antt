@@ -1,7 +1,7 @@
--- Laws of the steps of a round, one step at a time: a wire, the wires of a component, an evaluation, and a component of the list.
+-- Laws of the steps of a round, one step at a time: a wire, the wires of a component, an evaluation, and a component of
+-- the list.
 -- Assumes nothing.
 use mathlib.Core.Path.{_≡_, refl, sym, ap, _∙_, subst}
-use mathlib.Core.Logic.{inl, inr}
 use mathlib.Core.Bool.{Bool, true, false, cond}
 use mathlib.Core.List.{List, [], _∷_, _++_, map, foldl, append-assoc}
 use Prim.Native.Nat.{ℕ, zero, suc, _+_, _-_, _*_, _≤_, _<_}
@@ -31,6 +31,7 @@ use Rattle.net.proofs.NetLaws.{names-existing}
 use Rattle.simulator.specs.Round.{State, wiresFrom, evaluated, send, visit}
 use Rattle.simulator.specs.Steps.{bare, wiring, stateAt, Evaluates, Sends, Runs, Listed, Step}
 use Rattle.simulator.proofs.Ports.{numbers-length}
+use Rattle.simulator.proofs.Held.{foldl-keeps, carried, received, written, SendCase, agrees, writes, send-case}
 
 -- Where the ends of wire k stand, as they are read.
 module _ (T : Tables) (k comp port first : ℕ) where
@@ -38,7 +39,8 @@ module _ (T : Tables) (k comp port first : ℕ) where
       → first + port ≡ outputPlace T (wireAt T k .src)
   source-place c p f = rw (f, c, p)
 
-  pub target-place : comp ≡ getD (T .wires) (4 * k + 2) 0 → port ≡ getD (T .wires) (4 * k + 3) 0 → first ≡ wordOf T comp 6
+  pub target-place : comp ≡ getD (T .wires) (4 * k + 2) 0 → port ≡ getD (T .wires) (4 * k + 3) 0
+      → first ≡ wordOf T comp 6
       → first + port ≡ inputPlace T (wireAt T k .dst)
   target-place c p f = rw (f, c, p)
 
@@ -49,19 +51,23 @@ module _ (T : Tables) (ins outs fol : List ℕ) (n : ℕ) (w : Wire) (a b x y : 
   test = rw (ex, ey, pa, pb)
 
   -- They agree.
-  pub send-agrees : x ≡ y → n ≤ length fol → Step n fol (stateAt ins outs (take n fol) []) (send T (stateAt ins outs (take n fol) []) w)
+  pub send-agrees : x ≡ y → n ≤ length fol
+      → Step n fol (stateAt ins outs (take n fol) []) (send T (stateAt ins outs (take n fol) []) w)
   unfolding send
   send-agrees e h =
-      let z : eqb (getD outs (outputPlace T (w .src)) 0) (getD ins (inputPlace T (w .dst)) 0) ≡ true = test ∙ eq-eqb x y e in
+      let z : eqb (getD outs (outputPlace T (w .src)) 0) (getD ins (inputPlace T (w .dst)) 0) ≡ true =
+      test ∙ eq-eqb x y e in
       record { count = h; state = rw z }
 
   -- They differ, and the target is appended.
-  pub send-writes : (x ≡ y → ⊥) → (to r : ℕ) (fol' : List ℕ) → to ≡ w .dst .comp → r ≡ length (appendNew to (take n fol))
+  pub send-writes : (x ≡ y → ⊥) → (to r : ℕ) (fol' : List ℕ) → to ≡ w .dst .comp
+      → r ≡ length (appendNew to (take n fol))
       → fol' ≡ overlay (appendNew to (take n fol)) fol
       → Step r fol' (stateAt (set ins b x) outs (take r fol') []) (send T (stateAt ins outs (take n fol) []) w)
   unfolding send
   send-writes e to r fol' et er ef =
-      let z : eqb (getD outs (outputPlace T (w .src)) 0) (getD ins (inputPlace T (w .dst)) 0) ≡ false = test ∙ ne-eqb x y e in
+      let z : eqb (getD outs (outputPlace T (w .src)) 0) (getD ins (inputPlace T (w .dst)) 0) ≡ false =
+      test ∙ ne-eqb x y e in
       let l : take r fol' ≡ appendNew (w .dst .comp) (take n fol) =
       rw ef (overlay-list (appendNew to (take n fol)) fol r er) ∙ ap (λ (c : ℕ). appendNew c (take n fol)) et in
       let i : set ins b x ≡ set ins (inputPlace T (w .dst)) (getD outs (outputPlace T (w .src)) 0) = rw (ex, pa, pb) in
@@ -118,48 +124,45 @@ module _ (T : Tables) (ins outs : List ℕ) (i : ℕ) (v : Evaluates T ins outs 
     outputs-put t zs e =
         let w = outputsAfter (fieldsAt T i) (inputsAt T ins i) (outputsAt T outs i) t in
         let z : zs ≡ w = e ∙ rw (xs-are, ys-are, ef) in
-        let l : length w ≡ fieldsAt T i .outputs = outputsAfter-length (fieldsAt T i) (inputsAt T ins i) (outputsAt T outs i) t all-own in
+        let l : length w ≡ fieldsAt T i .outputs =
+        outputsAfter-length (fieldsAt T i) (inputsAt T ins i) (outputsAt T outs i) t all-own in
         let h : b ≤ b + f .outputs = omega arith in
         let r : putMid b (b + f .outputs - b) outs zs ≡ take b outs ++ (zs ++ drop (b + f .outputs) outs) =
         rw (post-is b (b + f .outputs) outs h) in
         let m : firstOutput T i + length w ≤ length outs = omega (arith, v .outputs-in) in
-        let q : sets outs (firstOutput T i) w ≡ take (firstOutput T i) outs ++ (w ++ drop (firstOutput T i + fieldsAt T i .outputs) outs) =
-        sets-eq w outs (firstOutput T i) m ∙ append-assoc (take (firstOutput T i) outs) w (drop (firstOutput T i + length w) outs)
+        let q : sets outs (firstOutput T i) w ≡ take (firstOutput T i) outs ++
+        (w ++ drop (firstOutput T i + fieldsAt T i .outputs) outs) =
+        sets-eq w outs (firstOutput T i) m
+        ∙ append-assoc (take (firstOutput T i) outs) w (drop (firstOutput T i + length w) outs)
         ∙ ap (λ (k : ℕ). take (firstOutput T i) outs ++ (w ++ drop (firstOutput T i + k) outs)) l in
         r ∙ rw (eb, z, ef) (sym q)
 
     -- A Clock stays in the standing list,
     pub evaluated-clock : (t n : ℕ) (zs std : List ℕ) → zs ≡ outputsAfter f xs ys t → f .kind ≡ 12 → n ≤ length std
-        → Step n std (stateAt ins (putMid b (b + f .outputs - b) outs zs) [] (take n std)) (evaluated T t i (stateAt ins outs [] (take n std)))
+        → Step n std (stateAt ins (putMid b (b + f .outputs - b) outs zs) [] (take n std))
+        (evaluated T t i (stateAt ins outs [] (take n std)))
     unfolding evaluated
     evaluated-clock t n zs std e k h =
-        let c : is Clock (fieldsAt T i) ≡ true = eq-eqb (fieldsAt T i .kind) 12 (ap (λ (g : Fields). g .kind) (sym ef) ∙ k) in
+        let c : is Clock (fieldsAt T i) ≡ true =
+        eq-eqb (fieldsAt T i .kind) 12 (ap (λ (g : Fields). g .kind) (sym ef) ∙ k) in
         record { count = h; state = rw (outputs-put t zs e, c) }
 
     -- and any other component is struck.
     pub evaluated-struck : (t n r : ℕ) (zs std std' : List ℕ) → zs ≡ outputsAfter f xs ys t → (f .kind ≡ 12 → ⊥)
         → r ≡ length (strike i (take n std)) → take r std' ≡ strike i (take n std)
-        → Step r std' (stateAt ins (putMid b (b + f .outputs - b) outs zs) [] (take r std')) (evaluated T t i (stateAt ins outs [] (take n std)))
+        → Step r std' (stateAt ins (putMid b (b + f .outputs - b) outs zs) [] (take r std'))
+        (evaluated T t i (stateAt ins outs [] (take n std)))
     unfolding evaluated
     evaluated-struck t n r zs std std' e k l s =
-        let c : is Clock (fieldsAt T i) ≡ false = ne-eqb (fieldsAt T i .kind) 12 (λ q. k (ap (λ (g : Fields). g .kind) ef ∙ q)) in
+        let c : is Clock (fieldsAt T i) ≡ false =
+        ne-eqb (fieldsAt T i .kind) 12 (λ q. k (ap (λ (g : Fields). g .kind) ef ∙ q)) in
         let m : length (take r std') ≡ r = ap length s ∙ sym l in
         record { count = omega (arith, length-take r std'); state = rw (outputs-put t zs e, c, s) }
 
--- A state with the input of a wire written, and its target appended.
-abbrev wrote : Tables → Wire → State → State
-wrote T w u =
-    record {
-      inputs = set (u .inputs) (inputPlace T (w .dst)) (getD (u .outputs) (outputPlace T (w .src)) 0);
-      outputs = u .outputs;
-      current = u .current;
-      following = appendNew (w .dst .comp) (u .following);
-      standing = u .standing;
-    }
-
 -- The lists: what an append needs, and that a wire keeps them.
 module _ (T : Tables) where
-  pub append-room : (x : ℕ) (xs t : List ℕ) → names T xs ≡ true → x < T .counts .components → T .counts .components ≤ 256
+  pub append-room : (x : ℕ) (xs t : List ℕ) → names T xs ≡ true → x < T .counts .components
+      → T .counts .components ≤ 256
       → 256 ≤ length t → length (appendNew x xs) ≤ length t
   unfolding names
   append-room x xs t e h f l =
@@ -169,7 +172,8 @@ module _ (T : Tables) where
             (names-append (T .counts .components) x xs h (names-sound (T .counts .components) xs e)),
       )
 
-  pub append-names : (x : ℕ) (xs : List ℕ) → names T xs ≡ true → x < T .counts .components → names T (appendNew x xs) ≡ true
+  pub append-names : (x : ℕ) (xs : List ℕ) → names T xs ≡ true → x < T .counts .components
+      → names T (appendNew x xs) ≡ true
   unfolding names
   append-names x xs e h =
       names-complete (T .counts .components) (appendNew x xs)
@@ -177,13 +181,12 @@ module _ (T : Tables) where
 
   pub send-names : (s : State) (w : Wire) → w .dst .comp < T .counts .components → names T (s .following) ≡ true
       → names T (send T s w .following) ≡ true
-  unfolding send
-  send-names s w h e =
-      by-test (eqb (getD (s .outputs) (outputPlace T (w .src)) 0) (getD (s .inputs) (inputPlace T (w .dst)) 0))
+  unfolding written
+  send-names s w h e = by-case (send-case T s w)
     where
-      by-test : (b : Bool) → names T (cond b s (wrote T w s) .following) ≡ true
-      by-test true = e
-      by-test false = append-names (w .dst .comp) (s .following) e h
+      by-case : SendCase T s w → names T (send T s w .following) ≡ true
+      by-case (agrees p q) = rw q e
+      by-case (writes p q) = rw q (append-names (w .dst .comp) (s .following) e h)
 
 -- A loop over all wires, of which those of component i are sent: what is still to come.
 module _ (T : Tables) (i q n : ℕ) (s : State) (x : State) where
@@ -197,17 +200,20 @@ module _ (T : Tables) (i q n : ℕ) (s : State) (x : State) where
       let y : to-come s q ≡ to-come (send T s (wireAt T q)) (q + 1) = rw (from-step q n h, z) in
       rw eu (sym y ∙ so-far)
 
-  pub sends-passed : (c : ℕ) → q < n → c ≡ getD (T .wires) (4 * q) 0 → (c ≡ i → ⊥) → to-come s q ≡ x → to-come s (q + 1) ≡ x
+  pub sends-passed : (c : ℕ) → q < n → c ≡ getD (T .wires) (4 * q) 0 → (c ≡ i → ⊥) → to-come s q ≡ x
+      → to-come s (q + 1) ≡ x
   sends-passed c h e t so-far =
       let z : eqb (getD (T .wires) (4 * q) 0) i ≡ false = ne-eqb (getD (T .wires) (4 * q) 0) i (λ p. t (e ∙ p)) in
       let y : to-come s q ≡ to-come s (q + 1) = rw (from-step q n h, z) in
       sym y ∙ so-far
 
-  pub sends-start : foldl (send T) s (wiresFrom i (map (wireAt T) (from 0 (n - 0)))) ≡ foldl (send T) s (wiresFrom i (map (wireAt T) (from 0 n)))
+  pub sends-start : foldl (send T) s (wiresFrom i (map (wireAt T) (from 0 (n - 0))))
+      ≡ foldl (send T) s (wiresFrom i (map (wireAt T) (from 0 n)))
   sends-start = ap (λ (k : ℕ). foldl (send T) s (wiresFrom i (map (wireAt T) (from 0 k)))) (sub-zero n)
 
   pub sends-end : n ≤ q → to-come s q ≡ x → s ≡ x
-  sends-end h so-far = ap (λ (l : List ℕ). foldl (send T) s (wiresFrom i (map (wireAt T) l))) (sym (from-end q n h)) ∙ so-far
+  sends-end h so-far =
+      ap (λ (l : List ℕ). foldl (send T) s (wiresFrom i (map (wireAt T) l))) (sym (from-end q n h)) ∙ so-far
 
 -- A step of the bare components and wires is one of those with their counts.
 module _ (cs ws : List ℕ) (m : Counts) where
@@ -216,19 +222,23 @@ module _ (cs ws : List ℕ) (m : Counts) where
   send-bare s w = refl
 
   -- Wire k of a net can be sent along.
-  pub runs-sends : (ins outs fol : List ℕ) (n k : ℕ) → Runs (wiring cs ws m) ins outs → Listed (wiring cs ws m) n fol → k < m .wires
+  pub runs-sends : (ins outs fol : List ℕ) (n k : ℕ) → Runs (wiring cs ws m) ins outs → Listed (wiring cs ws m) n fol
+      → k < m .wires
       → Sends (bare cs ws) ins outs n fol (wireAt (bare cs ws) k)
   runs-sends ins outs fol n k g l h =
       record {
         source = g .source k h;
         target = g .target k h;
         count = l .count;
-        room = append-room (wiring cs ws m) (wireAt (bare cs ws) k .dst .comp) (take n fol) fol (l .named) (g .named k h) (g .few) (l .whole);
+        room = append-room (wiring cs ws m) (wireAt (bare cs ws) k .dst .comp) (take n fol) fol (l .named)
+            (g .named k h) (g .few) (l .whole);
       }
 
   -- The list stays one of names.
-  pub sent-listed : (ins outs fol ins' fol' : List ℕ) (n k r : ℕ) → Runs (wiring cs ws m) ins outs → Listed (wiring cs ws m) n fol → k < m .wires
-      → Step r fol' (stateAt ins' outs (take r fol') []) (send (bare cs ws) (stateAt ins outs (take n fol) []) (wireAt (bare cs ws) k))
+  pub sent-listed : (ins outs fol ins' fol' : List ℕ) (n k r : ℕ) → Runs (wiring cs ws m) ins outs
+      → Listed (wiring cs ws m) n fol → k < m .wires
+      → Step r fol' (stateAt ins' outs (take r fol') [])
+      (send (bare cs ws) (stateAt ins outs (take n fol) []) (wireAt (bare cs ws) k))
       → length fol' ≡ length fol → Listed (wiring cs ws m) r fol'
   unfolding send
   sent-listed ins outs fol ins' fol' n k r g l h d e =
@@ -237,11 +247,13 @@ module _ (cs ws : List ℕ) (m : Counts) where
         count = d .count;
         named =
             ap (λ (u : State). names (wiring cs ws m) (u .following)) (d .state)
-            ∙ send-names (wiring cs ws m) (stateAt ins outs (take n fol) []) (wireAt (bare cs ws) k) (g .named k h) (l .named);
+            ∙ send-names (wiring cs ws m) (stateAt ins outs (take n fol) []) (wireAt (bare cs ws) k) (g .named k h)
+            (l .named);
       }
 
   -- What a net gives depends on the port tables by their lengths only.
-  pub runs-kept : (ins outs ins' outs' : List ℕ) → Runs (wiring cs ws m) ins outs → length ins' ≡ length ins → length outs' ≡ length outs
+  pub runs-kept : (ins outs ins' outs' : List ℕ) → Runs (wiring cs ws m) ins outs → length ins' ≡ length ins
+      → length outs' ≡ length outs
       → Runs (wiring cs ws m) ins' outs'
   runs-kept ins outs ins' outs' g p q =
       record {
@@ -256,11 +268,21 @@ module _ (cs ws : List ℕ) (m : Counts) where
       }
 
 -- What a step leaves beside: sends leave the standing list, and no step reads or writes the current one.
+abbrev beside : (List ℕ → List ℕ) → (List ℕ → List ℕ) → State → State
+beside f g s =
+    record {
+      inputs = s .inputs;
+      outputs = s .outputs;
+      current = f (s .current);
+      following = s .following;
+      standing = g (s .standing);
+    }
+
 abbrev standingAs : List ℕ → State → State
-standingAs d s = record { inputs = s .inputs; outputs = s .outputs; current = s .current; following = s .following; standing = d }
+standingAs d = beside (λ l. l) (λ l. d)
 
 abbrev currentAs : List ℕ → State → State
-currentAs d s = record { inputs = s .inputs; outputs = s .outputs; current = d; following = s .following; standing = s .standing }
+currentAs d = beside (λ l. d) (λ l. l)
 
 foldl-beside : {A : Type 0} (g : State → State) (f : State → A → State) → ((s : State) (a : A) → f (g s) a ≡ g (f s a))
     → (s : State) (xs : List A) → foldl f (g s) xs ≡ g (foldl f s xs)
@@ -268,27 +290,19 @@ foldl-beside g f h s [] = refl
 foldl-beside {A} g f h s (x ∷ xs) = ap (λ (u : State). foldl f u xs) (h s x) ∙ foldl-beside g f h (f s x) xs
 
 module _ (T : Tables) where
-  send-standing : (d : List ℕ) (s : State) (w : Wire) → send T (standingAs d s) w ≡ standingAs d (send T s w)
-  unfolding send
-  send-standing d s w =
-      by-test (eqb (getD (s .outputs) (outputPlace T (w .src)) 0) (getD (s .inputs) (inputPlace T (w .dst)) 0))
+  send-beside : (f g : List ℕ → List ℕ) (s : State) (w : Wire) → send T (beside f g s) w ≡ beside f g (send T s w)
+  unfolding send written
+  send-beside f g s w = by-test (eqb (carried T s w) (received T s w))
     where
-      by-test : (b : Bool) → cond b (standingAs d s) (wrote T w (standingAs d s)) ≡ standingAs d (cond b s (wrote T w s))
+      by-test : (b : Bool) → cond b (beside f g s) (written T (beside f g s) w) ≡ beside f g (cond b s (written T s w))
       by-test true = refl
       by-test false = refl
 
-  send-current : (d : List ℕ) (s : State) (w : Wire) → send T (currentAs d s) w ≡ currentAs d (send T s w)
-  unfolding send
-  send-current d s w =
-      by-test (eqb (getD (s .outputs) (outputPlace T (w .src)) 0) (getD (s .inputs) (inputPlace T (w .dst)) 0))
-    where
-      by-test : (b : Bool) → cond b (currentAs d s) (wrote T w (currentAs d s)) ≡ currentAs d (cond b s (wrote T w s))
-      by-test true = refl
-      by-test false = refl
-
-  visit-current : (ws : List Wire) (t : ℕ) (d : List ℕ) (s : State) (i : ℕ) → visit T ws t (currentAs d s) i ≡ currentAs d (visit T ws t s i)
+  visit-current : (ws : List Wire) (t : ℕ) (d : List ℕ) (s : State) (i : ℕ)
+      → visit T ws t (currentAs d s) i ≡ currentAs d (visit T ws t s i)
   unfolding visit evaluated
-  visit-current ws t d s i = foldl-beside (currentAs d) (send T) (send-current d) (evaluated T t i s) (wiresFrom i ws)
+  visit-current ws t d s i =
+      foldl-beside (currentAs d) (send T) (send-beside (λ l. d) (λ l. l)) (evaluated T t i s) (wiresFrom i ws)
 
   pub visits-current : (ws : List Wire) (t : ℕ) (d : List ℕ) (s : State) (xs : List ℕ)
       → foldl (visit T ws t) (currentAs d s) xs ≡ currentAs d (foldl (visit T ws t) s xs)
@@ -305,39 +319,50 @@ module _ (T : Tables) where
       let d : std' ≡ evaluated T t i (stateAt ins outs [] std) .standing = ap (λ (u : State). u .standing) e in
       let v : stateAt ins outs' fol std' ≡ evaluated T t i (stateAt ins outs fol std) = rw (o, d) in
       ap (standingAs std') f
-      ∙ sym (foldl-beside (standingAs std') (send T) (send-standing std') (stateAt ins outs' fol []) (wiresFrom i ws))
+      ∙ sym (foldl-beside (standingAs std') (send T) (send-beside (λ l. l) (λ l. std')) (stateAt ins outs' fol [])
+      (wiresFrom i ws))
       ∙ ap (λ (u : State). foldl (send T) u (wiresFrom i ws)) v
 
   -- The following list stays one of names.
   sends-names : (ws : List Wire) → ((w : Wire) → In w ws → w .dst .comp < T .counts .components) → (s : State)
       → names T (s .following) ≡ true → names T (foldl (send T) s ws .following) ≡ true
-  sends-names [] f s e = e
-  sends-names (w ∷ ws) f s e = sends-names ws (λ x m. f x (inr m)) (send T s w) (send-names T s w (f w (inl refl)) e)
+  sends-names ws f =
+      foldl-keeps (λ (s : State). names T (s .following) ≡ true) (send T) ws (λ u w m. send-names T u w (f w m))
 
-  pub visit-names : (ws : List Wire) (t i : ℕ) → ((w : Wire) → In w ws → w .dst .comp < T .counts .components) → (s : State)
+  pub visit-names : (ws : List Wire) (t i : ℕ) → ((w : Wire) → In w ws → w .dst .comp < T .counts .components)
+      → (s : State)
       → names T (s .following) ≡ true → names T (visit T ws t s i .following) ≡ true
   unfolding visit evaluated
   visit-names ws t i f s e =
-      sends-names (wiresFrom i ws) (λ w m. f w (keep-sound (λ (x : Wire). eqb (x .src .comp) i) w ws m .1)) (evaluated T t i s) e
+      sends-names (wiresFrom i ws) (λ w m. f w (keep-sound (λ (x : Wire). eqb (x .src .comp) i) w ws m .1))
+      (evaluated T t i s) e
 
   -- A wire of the table is one of those by number.
   pub wires-named : ((k : ℕ) → k < T .counts .wires → wireAt T k .dst .comp < T .counts .components)
       → (w : Wire) → In w (wiresIn T) → w .dst .comp < T .counts .components
   wires-named f w m =
       let r = map-sound (wireAt T) w (from 0 (T .counts .wires)) m in
-      subst (λ (x : Wire). x .dst .comp < T .counts .components) (sym (r .2)) (f (r .0) (from0-sound (T .counts .wires) (r .0) (r .1)))
+      subst (λ (x : Wire). x .dst .comp < T .counts .components) (sym (r .2))
+      (f (r .0) (from0-sound (T .counts .wires) (r .0) (r .1)))
 
 -- What visits need at a turn, and keep.
 module _ (cs ws : List ℕ) (m : Counts) where
-  pub runs-evaluates : (ins outs : List ℕ) (i : ℕ) → Runs (wiring cs ws m) ins outs → i < m .components → Evaluates (bare cs []) ins outs i
+  pub runs-evaluates : (ins outs : List ℕ) (i : ℕ) → Runs (wiring cs ws m) ins outs → i < m .components
+      → Evaluates (bare cs []) ins outs i
   runs-evaluates ins outs i g h =
-      record { few = omega (arith, g .few); obeyed = g .obeyed i h; inputs-in = g .inputs-in i h; outputs-in = g .outputs-in i h }
+      record {
+        few = omega (arith, g .few);
+        obeyed = g .obeyed i h;
+        inputs-in = g .inputs-in i h;
+        outputs-in = g .outputs-in i h;
+      }
 
   pub evaluated-bare : (t i : ℕ) (s : State) → evaluated (bare cs []) t i s ≡ evaluated (wiring cs ws m) t i s
   unfolding evaluated
   evaluated-bare t i s = refl
 
-  pub visited-listed : (ins outs fol std : List ℕ) (s : State) (i t n r : ℕ) (fol' : List ℕ) → Runs (wiring cs ws m) ins outs
+  pub visited-listed : (ins outs fol std : List ℕ) (s : State) (i t n r : ℕ) (fol' : List ℕ)
+      → Runs (wiring cs ws m) ins outs
       → Listed (wiring cs ws m) n fol → s .following ≡ take r fol'
       → s ≡ visit (wiring cs ws m) (wiresIn (wiring cs ws m)) t (stateAt ins outs (take n fol) std) i
       → r ≤ length fol' → length fol' ≡ length fol → Listed (wiring cs ws m) r fol'
@@ -351,7 +376,8 @@ module _ (cs ws : List ℕ) (m : Counts) where
             (stateAt ins outs (take n fol) std) (l .named);
       }
 
-  pub listed-at : (n : ℕ) (t : List ℕ) (k i : ℕ) → Listed (wiring cs ws m) n t → k < n → i ≡ getD t k 0 → i < m .components
+  pub listed-at : (n : ℕ) (t : List ℕ) (k i : ℕ) → Listed (wiring cs ws m) n t → k < n → i ≡ getD t k 0
+      → i < m .components
   listed-at n t k i l h e =
       let b : k < length (take n t) = omega (arith, length-take-le n t (l .count)) in
       names-existing (wiring cs ws m) (take n t) (l .named) i
@@ -362,7 +388,8 @@ module _ (T : Tables) (ws : List Wire) (t : ℕ) (cur : List ℕ) (q n : ℕ) (s
   pub visits-next : (u : State) (i : ℕ) → q < n → n ≤ length cur → i ≡ getD cur q 0 → u ≡ visit T ws t s i
       → foldl (visit T ws t) s (slice q n cur) ≡ x → foldl (visit T ws t) u (slice (q + 1) n cur) ≡ x
   visits-next u i h l e eu so-far =
-      let y : foldl (visit T ws t) s (slice q n cur) ≡ foldl (visit T ws t) (visit T ws t s (getD cur q 0)) (slice (q + 1) n cur) =
+      let y : foldl (visit T ws t) s (slice q n cur) ≡ foldl (visit T ws t) (visit T ws t s (getD cur q 0))
+      (slice (q + 1) n cur) =
       rw (slice-cons q n cur 0 h l, add-one) in
       rw (eu, e) (sym y ∙ so-far)
 

@@ -1,6 +1,8 @@
--- What questions and edits ask, on the lists of words that a function inside this crate is handed. `sources`, `targetsIn`, `driven`,
--- `valueAnswer` and `editNumber` are these on a net (proofs/EndsLaws, QuestionsLaws, EditsLaws); only contracts of such functions cite them.
---   endOf ws k e             the component at end e of wire k: 0 is where it comes from, 2 where it goes to
+-- What questions and edits ask, on the lists of words that a function inside this crate is handed. `sources`,
+-- `targetsIn`, `driven`, `valueAnswer` and `editNumber` are these on a net (proofs/EndsLaws, QuestionsLaws, EditsLaws);
+-- only contracts of such functions cite them.
+--   isEnd e                  e is an end of a wire: 0 is where it comes from, 2 where it goes to
+--   endOf ws k e             the component at end e of wire k
 --   meets ws m near far i j  one of m wires has component i at its end `near` and component j at its end `far`
 --   met ws m near far i n    the components below n that wires join to component i so
 --   ends ws m e i            one of m wires has component i at its end e
@@ -27,6 +29,10 @@ use Rattle.simulator.specs.declared.Side.{Side}
 use Rattle.simulator.specs.declared.Port.{Port}
 use Rattle.simulator.specs.declared.Port.the-variants.{Is as PortIs, Refused as NoPort}
 use Rattle.simulator.specs.Questions.{portCount, valueAt}
+
+-- The ends of a wire, by the place of their component among its words.
+abbrev pub isEnd : ℕ → Bool
+isEnd e = eqb e 0 || eqb e 2
 
 -- The component at end e of wire k.
 abbrev pub endOf : List ℕ → ℕ → ℕ → ℕ
@@ -57,7 +63,8 @@ pub record RowRight (cs is os : List ℕ) (i : ℕ) : Type 0 where
 -- The value of port p of component i on a side, or 17.
 unfoldable pub valueOnNet : Tables → Side → ℕ → ℕ → Port
 valueOnNet T side i p =
-    cond (leb (T .counts .components) i || leb (portCount T side i) p) (NoPort (refusedBy 17)) (PortIs (valueAt T side i p))
+    cond (leb (T .counts .components) i || leb (portCount T side i) p) (NoPort (refusedBy 17))
+    (PortIs (valueAt T side i p))
 
 -- An edit of component i to the number v: 17, 18, 19.
 unfoldable pub editRefusal : List ℕ → List ℕ → Counts → ℕ → ℕ → ℕ
@@ -65,5 +72,6 @@ editRefusal cs ws m i v =
     refusal
     ((17 if leb (m .components) i)
     ∷ (18 if not (is Switch (fieldsIn cs i) || (is Input (fieldsIn cs i) && not (ends ws (m .wires) 2 i))))
-    ∷ (19 if not (below v (cond (is Switch (fieldsIn cs i)) (outputWidth (fieldsIn cs i)) (inputWidth (fieldsIn cs i)))))
+    ∷ (19 if not (below v
+    (cond (is Switch (fieldsIn cs i)) (outputWidth (fieldsIn cs i)) (inputWidth (fieldsIn cs i)))))
     ∷ [])

@@ -1,4 +1,4 @@
--- What the steps of a round are handed, and what a net gives them. Only contracts of functions inside this crate cite it.
+-- What the steps of a round are handed, and what a net gives them. Only contracts of functions of this crate cite it.
 --   bare, wiring       the components and the wires, which no round writes: without the counts, and with them
 --   stateAt            the ports and the two lists that a round changes as it goes; no step reads the current list
 --   Evaluates, Sends   component i can be evaluated; wire w can be sent along, and its target appended

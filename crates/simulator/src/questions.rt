@@ -1,7 +1,7 @@
 // The questions: calm or not, the index of an id, a port's value, a component's sources and targets. They change no table of a net.
 // Rule: docs/SPECIFICATION.md, "Numbers given back". Source: flatten.rs, `id_to_idx`, `deps`, `inv_deps`; the others are added.
 ghost use mathlib.Core.Path.{_≡_};
-ghost use mathlib.Core.Bool.{cond};
+ghost use mathlib.Core.Bool.{true, cond};
 ghost use mathlib.Core.List.{[]};
 ghost use Prim.Native.Nat.{ℕ, _+_, _<_, _≤_};
 ghost use lib.ListN.{length, getD, take};
@@ -13,8 +13,8 @@ ghost use Rattle.primitive.specs.Evaluate.{refusedBy};
 ghost use Rattle.tables.specs.Tables.{tablesOf, wordIn, fieldsIn};
 ghost use Rattle.net.specs.Net.{lent};
 ghost use Rattle.simulator.specs.declared.Port.the-variants.{Is as PortIs, Refused as NoPort};
-ghost use Rattle.simulator.specs.Questions.{found, calmAnswer, indexAnswer, valueAnswer, listNumber, sourcesAnswer, sourcesList, targetsAnswer, targetsList};
-ghost use Rattle.simulator.specs.Asked.{endOf, meets, met, marked, RowRight, valueOnNet};
+ghost use Rattle.simulator.specs.Questions.{found, calmAnswer, indexAnswer, valueAnswer, listNumber, listAnswer, listAfter, sourcesAnswer, sourcesList, targetsAnswer, targetsList};
+ghost use Rattle.simulator.specs.Asked.{isEnd, endOf, meets, met, marked, RowRight, valueOnNet};
 use crate::Calm;
 use crate::Index;
 use crate::Listed;
@@ -166,23 +166,13 @@ fn value_in(
     match side {
         Side::Inputs => {
             let first = tables::word_of(components, i, 6) as usize;
-            port_value(
-                inputs,
-                first,
-                f.inputs as usize,
-                primitive::input_width(f),
-                port,
-            )
+            let width = primitive::input_width(f);
+            port_value(inputs, first, f.inputs as usize, width, port)
         }
         Side::Outputs => {
             let first = tables::word_of(components, i, 7) as usize;
-            port_value(
-                outputs,
-                first,
-                f.outputs as usize,
-                primitive::output_width(f),
-                port,
-            )
+            let width = primitive::output_width(f);
+            port_value(outputs, first, f.outputs as usize, width, port)
         }
     }
 }
@@ -222,6 +212,45 @@ fn list_number(
         return 17;
     }
     0
+}
+
+// Lists what wires join to component i, where nothing is refused. `near` and `far` are ends of a wire.
+fn list_joined(
+    components: &[u64],
+    inputs: &[u64],
+    outputs: &[u64],
+    wires: &[u16],
+    current: &[u16],
+    following: &[u16],
+    standing: &[u16],
+    counts: Counts,
+    near: usize,
+    far: usize,
+    i: usize,
+    list: &mut [u16],
+) -> Listed
+    requires { ⌜ (isEnd near ≡ true) × (isEnd far ≡ true) ⌝ }
+    ensures { λ r. ⌜ (r ≡ listAnswer (listNumber (tablesOf (now (components .entry)) (now (inputs .entry)) (now (outputs .entry)) (now (wires .entry)) (now (current .entry)) (now (following .entry)) (now (standing .entry)) counts) i (now (list .entry))) (met (now (wires .entry)) (counts .wires) near far i (counts .components))) × (now (list .exit) ≡ listAfter (listNumber (tablesOf (now (components .entry)) (now (inputs .entry)) (now (outputs .entry)) (now (wires .entry)) (now (current .entry)) (now (following .entry)) (now (standing .entry)) counts) i (now (list .entry))) (met (now (wires .entry)) (counts .wires) near far i (counts .components)) (now (list .entry))) ⌝ }
+{
+    let number = list_number(
+        components,
+        inputs,
+        outputs,
+        wires,
+        current,
+        following,
+        standing,
+        counts,
+        i,
+        list,
+    );
+    if number != 0 {
+        return Listed::Refused(Refusal {
+            number,
+            position: 0,
+        });
+    }
+    Listed::Count(list_ends(wires, counts, near, far, i, list))
 }
 
 // Calm or not: whether the current list names only Clocks.
@@ -339,7 +368,9 @@ pub fn sources_of(
 ) -> Listed
     ensures { λ r. ⌜ (r ≡ sourcesAnswer (tablesOf (now (components .entry)) (now (inputs .entry)) (now (outputs .entry)) (now (wires .entry)) (now (current .entry)) (now (following .entry)) (now (standing .entry)) counts) (index .0) (now (list .entry))) × (now (list .exit) ≡ sourcesList (tablesOf (now (components .entry)) (now (inputs .entry)) (now (outputs .entry)) (now (wires .entry)) (now (current .entry)) (now (following .entry)) (now (standing .entry)) counts) (index .0) (now (list .entry))) ⌝ }
 {
-    let number = list_number(
+    let near = TARGET;
+    let far = SOURCE;
+    list_joined(
         components,
         inputs,
         outputs,
@@ -348,16 +379,11 @@ pub fn sources_of(
         following,
         standing,
         counts,
+        near,
+        far,
         index.0,
         list,
-    );
-    if number != 0 {
-        return Listed::Refused(Refusal {
-            number,
-            position: 0,
-        });
-    }
-    Listed::Count(list_ends(wires, counts, TARGET, SOURCE, index.0, list))
+    )
 }
 
 // A component's targets, likewise.
@@ -375,7 +401,9 @@ pub fn targets_of(
 ) -> Listed
     ensures { λ r. ⌜ (r ≡ targetsAnswer (tablesOf (now (components .entry)) (now (inputs .entry)) (now (outputs .entry)) (now (wires .entry)) (now (current .entry)) (now (following .entry)) (now (standing .entry)) counts) (index .0) (now (list .entry))) × (now (list .exit) ≡ targetsList (tablesOf (now (components .entry)) (now (inputs .entry)) (now (outputs .entry)) (now (wires .entry)) (now (current .entry)) (now (following .entry)) (now (standing .entry)) counts) (index .0) (now (list .entry))) ⌝ }
 {
-    let number = list_number(
+    let near = SOURCE;
+    let far = TARGET;
+    list_joined(
         components,
         inputs,
         outputs,
@@ -384,14 +412,9 @@ pub fn targets_of(
         following,
         standing,
         counts,
+        near,
+        far,
         index.0,
         list,
-    );
-    if number != 0 {
-        return Listed::Refused(Refusal {
-            number,
-            position: 0,
-        });
-    }
-    Listed::Count(list_ends(wires, counts, SOURCE, TARGET, index.0, list))
+    )
 }

@@ -4,7 +4,8 @@ use mathlib.Core.Path.{_≡_, sym, _∙_}
 use native.Mathlib.Omega.{arith}
 use Rattle.tables.specs.Tables.{Tables, tablesOf}
 use Rattle.simulator.specs.Calls.{editNumber}
-use Rattle.simulator.proofs.EditsLaws.{edit-index, edit-output, edit-input, edit-standing, edit-room, edit-kept, edit-made}
+use Rattle.simulator.proofs.Sound.{standing-in}
+use Rattle.simulator.proofs.EditsLaws.{edit-index, edit-output, edit-input, edit-is-net, edit-room, edit-kept, edit-made}
 use borrow.Author.Needs.{needs}
 use Rattle.simulator.proofs.edits.edit.Statement.{statement}
 use Rattle.simulator.proofs.edits.edit.Tie as tie
@@ -12,10 +13,14 @@ use Rattle.simulator.proofs.edits.edit.Tie as tie
 abbrev came : tie.Start → Tables
 came s =
     let a = s .args in
-    tablesOf (a .components .now) (a .inputs .now) (a .outputs .now) (a .wires .now) (a .current .now) (a .following .now)
+    tablesOf (a .components .now) (a .inputs .now) (a .outputs .now) (a .wires .now) (a .current .now)
+    (a .following .now)
     (a .standing .now) (a .counts)
 
-passed : (c : tie.Else1) → editNumber (came (c .before .before .before .before .before .before .before .before .before .before .before .before)) (c .before .before .before .before .before .before .before .before .before .before .before .before .args .index .0) (c .before .before .before .before .before .before .before .before .before .before .before .before .args .number) ≡ 0
+abbrev start : tie.Else1 → tie.Start
+start c = c .before .before .before .before .before .before .before .before .before .before .before .before
+
+passed : (c : tie.Else1) → editNumber (came (start c)) (start c .args .index .0) (start c .args .number) ≡ 0
 passed c = sym (c .before .edit-checks .ensures) ∙ c .if1 .left
 
 edit-checks-requires : tie.Need-edit-checks-requires
@@ -32,25 +37,39 @@ same-length-3 c = search needs
 
 returns : tie.Need-returns
 returns c =
-    let a = c .before .before .before .before .before .before .before .before .before .before .before .before .args in
-    edit-kept (a .components .now) (a .inputs .now) (a .outputs .now) (a .wires .now) (a .current .now) (a .following .now) (a .standing .now)
+    let s = c .before .before .before .before .before .before .before .before .before .before .before .before in
+    let a = s .args in
+    edit-kept (a .components .now) (a .inputs .now) (a .outputs .now) (a .wires .now) (a .current .now)
+    (a .following .now) (a .standing .now)
     (a .counts) (a .index .0) (a .number) _ (c .before .edit-checks .ensures) (c .if1 .taken)
 
 set-port-requires : tie.Need-set-port-requires
 set-port-requires c κs =
-    let a = c .before .before .before .before .before .before .before .before .before .before .before .before .before .before .args in
-    let T = came (c .before .before .before .before .before .before .before .before .before .before .before .before .before .before) in
-    let z = passed (c .before .before) in
-    (edit-index T (a .index .0) (a .number) z, edit-output T (a .index .0) (a .number) z, edit-input T (a .index .0) (a .number) z)
+    let p = c .before .before .before .before .before .before .before .before .before .before in
+    let s = p .before .before .before .before in
+    let a = s .args in
+    let T = came s in
+    let z = passed (c .before .before) in (
+      edit-index T (a .index .0) (a .number) z,
+      edit-output T (a .index .0) (a .number) z,
+      edit-input T (a .index .0)
+          (a .number) z,
+    )
 
 cast-append-new : tie.Need-cast-append-new
-cast-append-new c = omega (arith, edit-index (came (c .before .before .before .before .before .before .before .before .before .before .before .before .before .before .before .before .before .before .before .before)) (c .before .before .before .before .before .before .before .before .before .before .before .before .before .before .before .before .before .before .before .before .args .index .0) (c .before .before .before .before .before .before .before .before .before .before .before .before .before .before .before .before .before .before .before .before .args .number) (passed (c .before .before .before .before .before .before .before .before)))
+cast-append-new c =
+    let at-place = c .before .before .before .before .before .before .before .before in
+    let s = at-place .before .before .before .before .before .before .before .before .before .before .before .before in
+    omega (arith, edit-index (came s) (s .args .index .0) (s .args .number) (passed at-place))
 
 append-new-requires : tie.Need-append-new-requires
 append-new-requires c κs =
-    let a = c .before .before .before .before .before .before .before .before .before .before .before .before .before .before .before .before .before .before .before .before .args in
-    let T = came (c .before .before .before .before .before .before .before .before .before .before .before .before .before .before .before .before .before .before .before .before) in
-    (edit-standing T (a .index .0) (a .number) (passed (c .before .before .before .before .before .before .before .before)), edit-room T (a .index .0) (a .number) (passed (c .before .before .before .before .before .before .before .before)))
+    let at-place = c .before .before .before .before .before .before .before .before in
+    let s = at-place .before .before .before .before .before .before .before .before .before .before .before .before in
+    let a = s .args in
+    let T = came s in
+    let z = passed at-place in
+    (standing-in T (edit-is-net T (a .index .0) (a .number) z), edit-room T (a .index .0) (a .number) z)
 
 same-length-4 : tie.Need-same-length-4
 same-length-4 c = search needs
@@ -63,11 +82,15 @@ same-length-6 c = search needs
 
 returns-2 : tie.Need-returns-2
 returns-2 c =
-    let a = c .before .before .before .before .before .before .before .before .before .before .before .before .before .before .before .before .before .before .before .before .before .before .before .args in
-    let p = c .before .before .before .before .before .before .before .before .set-port .ensures in
+    let at-set-port = c .before .before .before .before .before .before .before .before in
+    let at-place = at-set-port .before .before .before in
+    let s = at-place .before .before .before .before .before .before .before .before .before .before .before .before in
+    let a = s .args in
+    let p = at-set-port .set-port .ensures in
     let e = c .before .before .append-new .ensures in
-    edit-made (a .components .now) (a .inputs .now) (a .outputs .now) (a .wires .now) (a .current .now) (a .following .now) (a .standing .now)
-    (a .counts) (a .index .0) (a .number) (passed (c .before .before .before .before .before .before .before .before .before .before .before)) _ _ _ _ (p .0) (p .1) (e .0) (e .1)
+    edit-made (a .components .now) (a .inputs .now) (a .outputs .now) (a .wires .now) (a .current .now)
+    (a .following .now) (a .standing .now)
+    (a .counts) (a .index .0) (a .number) (passed at-place) _ _ _ _ (p .0) (p .1) (e .0) (e .1)
 
 pub edit-spec : {M : Type 1} → statement M
 edit-spec =

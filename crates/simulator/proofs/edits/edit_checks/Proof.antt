@@ -3,7 +3,8 @@
 use mathlib.Core.Path.{_≡_, sym, _∙_}
 use Rattle.tables.specs.Tables.{Tables, tablesOf}
 use Rattle.net.specs.Net.{netNumber}
-use Rattle.simulator.proofs.QuestionsLaws.{net-within, net-row}
+use Rattle.simulator.proofs.Sound.{net-within}
+use Rattle.simulator.proofs.QuestionsLaws.{net-row}
 use Rattle.simulator.proofs.EditsLaws.{edit-refused, edit-net}
 use borrow.Author.Needs.{needs}
 use Rattle.simulator.proofs.edits.edit_checks.Statement.{statement}
@@ -12,28 +13,37 @@ use Rattle.simulator.proofs.edits.edit_checks.Tie as tie
 abbrev came : tie.Start → Tables
 came s =
     let a = s .args in
-    tablesOf (a .components .now) (a .inputs .now) (a .outputs .now) (a .wires .now) (a .current .now) (a .following .now)
+    tablesOf (a .components .now) (a .inputs .now) (a .outputs .now) (a .wires .now) (a .current .now)
+    (a .following .now)
     (a .standing .now) (a .counts)
 
-is-net : (c : tie.Else1) → netNumber (came (c .before .before .before .before .before .before .before .before .before)) ≡ 0
+abbrev start : tie.Else1 → tie.Start
+start c = c .before .before .before .before .before .before .before .before .before
+
+is-net : (c : tie.Else1) → netNumber (came (start c)) ≡ 0
 is-net c = sym (c .before .net-number .ensures) ∙ c .if1 .left
 
 net-number-requires : tie.Need-net-number-requires
 net-number-requires c κs = search needs
 
 returns : tie.Need-returns
-returns c = edit-refused (came (c .before .before .before .before .before .before .before .before .before)) (c .before .before .before .before .before .before .before .before .before .args .i) (c .before .before .before .before .before .before .before .before .before .args .number) _ (c .before .net-number .ensures) (c .if1 .taken)
+returns c =
+    let s = c .before .before .before .before .before .before .before .before .before in
+    edit-refused (came s) (s .args .i) (s .args .number) _ (c .before .net-number .ensures) (c .if1 .taken)
 
 edit-number-requires : tie.Need-edit-number-requires
 edit-number-requires c κs =
-    let T = came (c .before .before .before .before .before .before .before .before .before) in (
+    let s = c .before .before .before .before .before .before .before .before .before in
+    let T = came s in (
       net-within T (is-net c) .components,
       net-within T (is-net c) .wires,
-      λ h. net-row T (is-net c) (c .before .before .before .before .before .before .before .before .before .args .i) h .fit,
+      λ h. net-row T (is-net c) (s .args .i) h .fit,
     )
 
 returns-2 : tie.Need-returns-2
-returns-2 c = c .edit-number .ensures ∙ edit-net (came (c .before .before .before .before .before .before .before .before .before .before)) (c .before .before .before .before .before .before .before .before .before .before .args .i) (c .before .before .before .before .before .before .before .before .before .before .args .number) (is-net (c .before))
+returns-2 c =
+    let s = c .before .before .before .before .before .before .before .before .before .before in
+    c .edit-number .ensures ∙ edit-net (came s) (s .args .i) (s .args .number) (is-net (c .before))
 
 pub edit-checks-spec : {M : Type 1} → statement M
 edit-checks-spec = tie.close (tie.spec net-number-requires returns edit-number-requires returns-2)

@@ -19,13 +19,15 @@ abbrev enters : List ℕ → ℕ → ℕ → Bool
 enters ws i k = eqb (endOf ws k 2) i
 
 abbrev Inv-loop : tie.InvT-loop
-Inv-loop wires count i k₀ k = (k ≤ count) × (any (enters wires i) (from k (count - k)) ≡ any (enters wires i) (from 0 count))
+Inv-loop wires count i k₀ k =
+    (k ≤ count) × (any (enters wires i) (from k (count - k)) ≡ any (enters wires i) (from 0 count))
 
 abbrev μ-loop : tie.MeasureT-loop
 μ-loop wires count i k₀ k = count - k
 
 loop-holds : tie.Need-loop-holds Inv-loop μ-loop
-loop-holds c = let a = c .before .args in (omega arith, ap (any (enters (a .wires .now) (a .i))) (from-start (a .count)))
+loop-holds c =
+    let a = c .before .args in (omega arith, ap (any (enters (a .wires .now) (a .i))) (from-start (a .count)))
 
 mul-entry : tie.Need-mul-entry Inv-loop μ-loop
 mul-entry c = search needs

@@ -17,7 +17,9 @@ word-of-requires : tie.Need-word-of-requires
 word-of-requires c κs = search needs
 
 slice-write-outputs : tie.Need-slice-write-outputs
-slice-write-outputs c = omega (arith, c .word-of .ensures, c .before .before .before .before .before .before .pre .1 (sym (c .before .before .is-kind .ensures) ∙ c .before .if1 .taken))
+slice-write-outputs c =
+    let s = c .before .before .before .before .before .before in
+    omega (arith, c .word-of .ensures, s .pre .1 (sym (c .before .before .is-kind .ensures) ∙ c .before .if1 .taken))
 
 mul-outputs : tie.Need-mul-outputs
 mul-outputs c = omega (arith, slice-write-outputs c)
@@ -27,7 +29,13 @@ word-of-requires-2 c κs = search needs
 
 slice-write-inputs : tie.Need-slice-write-inputs
 slice-write-inputs c =
-    omega (arith, c .word-of2 .ensures, c .before .before .before .before .before .before .pre .2 (λ e. true≢false (sym e ∙ sym (c .before .before .is-kind .ensures) ∙ c .before .if1 .left)))
+    let s = c .before .before .before .before .before .before in
+    omega (
+      arith,
+      c .word-of2 .ensures,
+      s .pre .2
+          (λ e. true≢false (sym e ∙ sym (c .before .before .is-kind .ensures) ∙ c .before .if1 .left)),
+    )
 
 mul-inputs : tie.Need-mul-inputs
 mul-inputs c = omega (arith, slice-write-inputs c)
@@ -37,8 +45,10 @@ same-length c = search needs
 
 returns : tie.Need-returns
 returns c =
-    let a = c .before .before .before .before .before .before .args in
-    let k : is Switch (fieldsIn (a .components .now) (a .i)) ≡ true = sym (c .before .before .is-kind .ensures) ∙ c .before .if1 .taken in
+    let s = c .before .before .before .before .before .before in
+    let a = s .args in
+    let k : is Switch (fieldsIn (a .components .now) (a .i)) ≡ true =
+    sym (c .before .before .is-kind .ensures) ∙ c .before .if1 .taken in
     rw (k, c .word-of .ensures) (refl, refl)
 
 same-length-2 : tie.Need-same-length-2
@@ -46,8 +56,10 @@ same-length-2 c = search needs
 
 returns-2 : tie.Need-returns-2
 returns-2 c =
-    let a = c .before .before .before .before .before .before .args in
-    let k : is Switch (fieldsIn (a .components .now) (a .i)) ≡ false = sym (c .before .before .is-kind .ensures) ∙ c .before .if1 .left in
+    let s = c .before .before .before .before .before .before in
+    let a = s .args in
+    let k : is Switch (fieldsIn (a .components .now) (a .i)) ≡ false =
+    sym (c .before .before .is-kind .ensures) ∙ c .before .if1 .left in
     rw (k, c .word-of2 .ensures) (refl, refl)
 
 pub set-port-spec : {M : Type 1} → statement M

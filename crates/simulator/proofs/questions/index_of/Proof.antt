@@ -3,7 +3,8 @@
 use mathlib.Core.Path.{_≡_, sym, _∙_}
 use Rattle.tables.specs.Tables.{Tables, tablesOf}
 use Rattle.net.specs.Net.{netNumber}
-use Rattle.simulator.proofs.QuestionsLaws.{net-within, index-refused, index-found}
+use Rattle.simulator.proofs.Sound.{net-within}
+use Rattle.simulator.proofs.QuestionsLaws.{index-refused, index-found}
 use borrow.Author.Needs.{needs}
 use Rattle.simulator.proofs.questions.index_of.Statement.{statement}
 use Rattle.simulator.proofs.questions.index_of.Tie as tie
@@ -11,23 +12,33 @@ use Rattle.simulator.proofs.questions.index_of.Tie as tie
 abbrev came : tie.Start → Tables
 came s =
     let a = s .args in
-    tablesOf (a .components .now) (a .inputs .now) (a .outputs .now) (a .wires .now) (a .current .now) (a .following .now)
+    tablesOf (a .components .now) (a .inputs .now) (a .outputs .now) (a .wires .now) (a .current .now)
+    (a .following .now)
     (a .standing .now) (a .counts)
 
-is-net : (c : tie.Else1) → netNumber (came (c .before .before .before .before .before .before .before .before .before)) ≡ 0
+abbrev start : tie.Else1 → tie.Start
+start c = c .before .before .before .before .before .before .before .before .before
+
+is-net : (c : tie.Else1) → netNumber (came (start c)) ≡ 0
 is-net c = sym (c .before .net-number .ensures) ∙ c .if1 .left
 
 net-number-requires : tie.Need-net-number-requires
 net-number-requires c κs = search needs
 
 returns : tie.Need-returns
-returns c = index-refused (came (c .before .before .before .before .before .before .before .before .before)) (c .before .before .before .before .before .before .before .before .before .args .id .0) _ (c .before .net-number .ensures) (c .if1 .taken)
+returns c =
+    let s = c .before .before .before .before .before .before .before .before .before in
+    index-refused (came s) (s .args .id .0) _ (c .before .net-number .ensures) (c .if1 .taken)
 
 search-id-requires : tie.Need-search-id-requires
-search-id-requires c κs = net-within (came (c .before .before .before .before .before .before .before .before .before)) (is-net c) .components
+search-id-requires c κs =
+    let s = c .before .before .before .before .before .before .before .before .before in
+    net-within (came s) (is-net c) .components
 
 returns-2 : tie.Need-returns-2
-returns-2 c = index-found (came (c .before .before .before .before .before .before .before .before .before .before)) (c .before .before .before .before .before .before .before .before .before .before .args .id .0) _ (is-net (c .before)) (c .search-id .ensures)
+returns-2 c =
+    let s = c .before .before .before .before .before .before .before .before .before .before in
+    index-found (came s) (s .args .id .0) _ (is-net (c .before)) (c .search-id .ensures)
 
 pub index-of-spec : {M : Type 1} → statement M
 index-of-spec = tie.close (tie.spec net-number-requires returns search-id-requires returns-2)

@@ -27,11 +27,14 @@ same-length c = search needs
 
 returns : tie.Need-returns
 returns c =
-    let a = c .before .before .before .before .before .before .before .before .before .before .args in
+    let at-mark-ends = c .before .before .before .before .before .before in
+    let s = at-mark-ends .before .before .before .before in
+    let a = s .args in
     let e = c .before .before .list-marked .ensures in
     let m =
-    marked-met (a .wires .now) (c .before .before .before .before .before .before .mark-ends .last .1 .1 .1 .1 .1 .0) 256 (a .counts .wires) (a .near) (a .far) (a .i) (a .counts .components)
-    (c .before .before .before .before .before .before .mark-ends .ensures) in
+    marked-met (a .wires .now) (at-mark-ends .mark-ends .last .1 .1 .1 .1 .1 .0) 256 (a .counts .wires) (a .near)
+    (a .far) (a .i) (a .counts .components)
+    (at-mark-ends .mark-ends .ensures) in
     (e .0 ∙ ap length m, e .1 ∙ ap (λ (l : List ℕ). overlay l (a .list .now)) m)
 
 pub list-ends-spec : {M : Type 1} → statement M

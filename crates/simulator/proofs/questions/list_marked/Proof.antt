@@ -15,7 +15,8 @@ use Rattle.simulator.proofs.questions.list_marked.Tie as tie
 
 abbrev Inv-loop : tie.InvT-loop
 Inv-loop marks count list₀ listed₀ j₀ list listed j =
-    (j ≤ count) × (listed ≤ j) × (length list ≡ length list₀) × (listed ≡ length (marked marks j)) × (list ≡ overlay (marked marks j) list₀)
+    (j ≤ count) × (listed ≤ j) × (length list ≡ length list₀) × (listed ≡ length (marked marks j))
+    × (list ≡ overlay (marked marks j) list₀)
 
 abbrev μ-loop : tie.MeasureT-loop
 μ-loop marks count list₀ listed₀ j₀ list listed j = count - j
@@ -46,14 +47,18 @@ loop-less c = omega arith
 
 loop-again : tie.Need-loop-again Inv-loop μ-loop
 loop-again c =
-    let a = c .before .before .before .before .args in
+    let s = c .before .before .before .before in
+    let a = s .args in
     let l = c .before .before .before .loop in
     ⊎-elim
     (λ w.
-    let r = list-here (a .marks .now) (a .list .now) (l .list) (l .listed) (l .j) (l .inv .3) (l .inv .4) (omega arith) (w .0 .taken) in
+    let r =
+    list-here (a .marks .now) (a .list .now) (l .list) (l .listed) (l .j) (l .inv .3) (l .inv .4) (omega arith)
+    (w .0 .taken) in
     rw (w .1, w .2) (omega arith, omega arith, simp length-set (l .inv .2), r .0, r .1))
     (λ w.
-    let r = list-none (a .marks .now) (a .list .now) (l .list) (l .listed) (l .j) (l .inv .3) (l .inv .4) (w .0 .left) in
+    let r =
+    list-none (a .marks .now) (a .list .now) (l .list) (l .listed) (l .j) (l .inv .3) (l .inv .4) (w .0 .left) in
     rw (w .1, w .2) (omega arith, omega arith, l .inv .2, r .0, r .1))
     (c .if1 .came)
 

@@ -1,4 +1,5 @@
--- `mark_ends`: after the wires passed, a component is marked exactly if one of them joins it to component i, or if it was.
+-- `mark_ends`: after the wires passed, a component is marked exactly if one of them joins it to component i, or if it
+-- was.
 -- Assumes nothing.
 use mathlib.Core.Path.{_≡_, refl, sym, _∙_}
 use mathlib.Core.Bool.{cond}
@@ -42,7 +43,10 @@ entry-requires-2 : tie.Need-entry-requires-2 Inv-loop μ-loop
 entry-requires-2 c κs = search needs
 
 slice-write-marks : tie.Need-slice-write-marks Inv-loop μ-loop
-slice-write-marks c = omega (arith, c .entry2 .ensures, c .before .before .before .before .before .before .before .pre .3 (c .before .before .before .before .loop .k) (c .before .before .before .loop-test .taken))
+slice-write-marks c =
+    let at-loop = c .before .before .before .before in
+    let s = at-loop .before .before .before in
+    omega (arith, c .entry2 .ensures, s .pre .3 (at-loop .loop .k) (c .before .before .before .loop-test .taken))
 
 add-k : tie.Need-add-k Inv-loop μ-loop
 add-k c = search needs
@@ -52,7 +56,8 @@ loop-less c = omega arith
 
 loop-again : tie.Need-loop-again Inv-loop μ-loop
 loop-again c =
-    let a = c .before .before .before .before .before .before .args in
+    let s = c .before .before .before .before .before .before in
+    let a = s .args in
     let l = c .before .before .before .loop in
     let n = c .before .entry .ensures in
     ⊎-elim
@@ -61,12 +66,13 @@ loop-again c =
       simp length-set (l .inv .1),
       mark-here (a .wires .now) (a .marks .now) (l .marks) (a .near) (a .far) (a .i) (l .k) (l .inv .2) (w .1 .result)
           (sym n ∙ w .0 .taken) (w .1 .ensures)
-          (omega (arith, w .1 .ensures, l .inv .1, c .before .before .before .before .before .before .pre .3 (l .k) (c .before .before .loop-test .taken))),
+          (omega (arith, w .1 .ensures, l .inv .1, s .pre .3 (l .k) (c .before .before .loop-test .taken))),
     ))
     (λ w. rw (w .1) (
       omega arith,
       l .inv .1,
-      mark-none (a .wires .now) (a .marks .now) (l .marks) (a .near) (a .far) (a .i) (l .k) (l .inv .2) (λ e. w .0 .left (n ∙ e)),
+      mark-none (a .wires .now) (a .marks .now) (l .marks) (a .near) (a .far) (a .i) (l .k) (l .inv .2)
+          (λ e. w .0 .left (n ∙ e)),
     ))
     (c .if1 .came)
 

@@ -21,7 +21,8 @@ abbrev clock : List ℕ → ℕ → Bool
 clock cs i = is Clock (fieldsIn cs i)
 
 abbrev Inv-loop : tie.InvT-loop
-Inv-loop components list count k₀ k = (k ≤ count) × (every (clock components) (slice k count list) ≡ every (clock components) (take count list))
+Inv-loop components list count k₀ k =
+    (k ≤ count) × (every (clock components) (slice k count list) ≡ every (clock components) (take count list))
 
 abbrev μ-loop : tie.MeasureT-loop
 μ-loop components list count k₀ k = count - k
@@ -33,14 +34,18 @@ entry-requires : tie.Need-entry-requires Inv-loop μ-loop
 entry-requires c κs = search needs
 
 is-kind-requires : tie.Need-is-kind-requires Inv-loop μ-loop
-is-kind-requires c κs = omega (arith, c .entry .ensures, c .before .before .before .shared-slice-known2 .given (c .before .before .loop .k))
+is-kind-requires c κs =
+    omega (arith, c .entry .ensures, c .before .before .before .shared-slice-known2 .given (c .before .before .loop .k))
 
 returns : tie.Need-returns Inv-loop μ-loop
 returns c =
-    let a = c .before .before .before .before .before .before .before .args in
-    let l = c .before .before .before .before .loop in
-    everySlice-fails (clock (a .components .now)) (a .list .now) (l .k) (a .count) _ (c .before .before .before .before .before .before .before .pre) (l .inv .1) (omega arith)
-    (ap (clock (a .components .now)) (sym (c .before .before .entry .ensures)) ∙ sym (c .before .is-kind .ensures) ∙ not-true _ (c .if1 .taken))
+    let at-loop = c .before .before .before .before in
+    let s = at-loop .before .before .before in
+    let a = s .args in
+    let l = at-loop .loop in
+    everySlice-fails (clock (a .components .now)) (a .list .now) (l .k) (a .count) _ (s .pre) (l .inv .1) (omega arith)
+    (ap (clock (a .components .now)) (sym (c .before .before .entry .ensures)) ∙ sym
+    (c .before .is-kind .ensures) ∙ not-true _ (c .if1 .taken))
 
 add-k : tie.Need-add-k Inv-loop μ-loop
 add-k c = search needs
@@ -50,18 +55,22 @@ loop-less c = search needs
 
 loop-again : tie.Need-loop-again Inv-loop μ-loop
 loop-again c =
-    let a = c .before .before .before .before .before .before .before .args in
-    let l = c .before .before .before .before .loop in (
+    let at-loop = c .before .before .before .before in
+    let s = at-loop .before .before .before in
+    let a = s .args in
+    let l = at-loop .loop in (
       omega arith,
-      everySlice-next (clock (a .components .now)) (a .list .now) (l .k) (a .count) _ (c .before .before .before .before .before .before .before .pre) (l .inv .1) (omega arith)
-          (ap (clock (a .components .now)) (sym (c .before .before .entry .ensures)) ∙ sym (c .before .is-kind .ensures) ∙ not-false _ (c .if1 .left)),
+      everySlice-next (clock (a .components .now)) (a .list .now) (l .k) (a .count) _ (s .pre) (l .inv .1) (omega arith)
+          (ap (clock (a .components .now)) (sym (c .before .before .entry .ensures)) ∙ sym
+          (c .before .is-kind .ensures) ∙ not-false _ (c .if1 .left)),
     )
 
 returns-2 : tie.Need-returns-2 Inv-loop μ-loop
 returns-2 c =
-    let a = c .before .before .before .before .args in
+    let s = c .before .before .before .before in
+    let a = s .args in
     let l = c .before .loop in
-    everySlice-end (clock (a .components .now)) (a .list .now) (l .k) (a .count) _ (c .before .before .before .before .pre) (l .inv .1) (omega arith)
+    everySlice-end (clock (a .components .now)) (a .list .now) (l .k) (a .count) _ (s .pre) (l .inv .1) (omega arith)
 
 pub only-clocks-spec : {M : Type 1} → statement M
 only-clocks-spec =

@@ -21,7 +21,8 @@ hasId cs id i = eqb (wordIn cs i 1) id
 
 abbrev Inv-loop : tie.InvT-loop
 Inv-loop components count sought i₀ i =
-    (i ≤ count) × (first (hasId components sought) (from i (count - i)) ≡ first (hasId components sought) (from 0 count))
+    (i ≤ count) × (first (hasId components sought) (from i (count - i)) ≡ first (hasId components sought)
+    (from 0 count))
 
 abbrev μ-loop : tie.MeasureT-loop
 μ-loop components count sought i₀ i = count - i
@@ -30,7 +31,9 @@ cast-sought : tie.Need-cast-sought Inv-loop μ-loop
 cast-sought c = search needs
 
 loop-holds : tie.Need-loop-holds Inv-loop μ-loop
-loop-holds c = let a = c .before .before .args in (omega arith, ap (first (hasId (a .components .now) (a .id .0))) (from-start (a .count)))
+loop-holds c =
+    let a = c .before .before .args in
+    (omega arith, ap (first (hasId (a .components .now) (a .id .0))) (from-start (a .count)))
 
 word-of-requires : tie.Need-word-of-requires Inv-loop μ-loop
 word-of-requires c κs = search needs
@@ -51,11 +54,13 @@ loop-less c = search needs
 
 loop-again : tie.Need-loop-again Inv-loop μ-loop
 loop-again c =
-    let a = c .before .before .before .before .before .before .args in
+    let s = c .before .before .before .before .before .before in
+    let a = s .args in
     let l = c .before .before .before .loop in (
       omega arith,
       first-next (hasId (a .components .now) (a .id .0)) (l .i) (a .count) _ (l .inv .1) (omega arith)
-          (ne-eqb (wordIn (a .components .now) (l .i) 1) (a .id .0) (λ e. c .if1 .left (c .before .word-of .ensures ∙ e))),
+          (ne-eqb (wordIn (a .components .now) (l .i) 1) (a .id .0)
+          (λ e. c .if1 .left (c .before .word-of .ensures ∙ e))),
     )
 
 returns-2 : tie.Need-returns-2 Inv-loop μ-loop

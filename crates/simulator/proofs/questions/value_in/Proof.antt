@@ -15,11 +15,19 @@ use Rattle.simulator.proofs.questions.value_in.Tie as tie
 abbrev came : tie.Start → Tables
 came s = lent (s .args .components .now) (s .args .inputs .now) (s .args .outputs .now) [] (s .args .counts)
 
-right : (c : tie.Else1) → RowRight (c .before .before .before .before .before .args .components .now) (c .before .before .before .before .before .args .inputs .now) (c .before .before .before .before .before .args .outputs .now) (c .before .before .before .before .before .args .i)
-right c = c .before .before .before .before .before .pre .1 (c .if1 .left)
+abbrev start : tie.Else1 → tie.Start
+start c = c .before .before .before .before .before
+
+abbrev Right : tie.Start → Type 0
+Right s = RowRight (s .args .components .now) (s .args .inputs .now) (s .args .outputs .now) (s .args .i)
+
+right : (c : tie.Else1) → Right (start c)
+right c = start c .pre .1 (c .if1 .left)
 
 returns : tie.Need-returns
-returns c = value-none (came (c .before .before .before .before .before)) (c .before .before .before .before .before .args .side) (c .before .before .before .before .before .args .i) (c .before .before .before .before .before .args .port) (c .if1 .taken)
+returns c =
+    let s = c .before .before .before .before .before in
+    value-none (came s) (s .args .side) (s .args .i) (s .args .port) (c .if1 .taken)
 
 fields-at-requires : tie.Need-fields-at-requires
 fields-at-requires c κs = (omega arith, right c .fit)
@@ -30,15 +38,17 @@ enum-told c = search needs
 word-of-requires : tie.Need-word-of-requires
 word-of-requires c κs = search needs
 
-cast-port-value : tie.Need-cast-port-value
-cast-port-value c = search needs
-
 input-width-requires : tie.Need-input-width-requires
 input-width-requires c κs = search needs
 
+cast-port-value : tie.Need-cast-port-value
+cast-port-value c = search needs
+
 port-value-requires : tie.Need-port-value-requires
 port-value-requires c κs =
-    omega (arith, right (c .before .before .before .before .before .before) .inputs-in, c .before .before .word-of .ensures, ap (λ (f : Fields). f .inputs) (c .before .before .before .before .before .fields-at .ensures))
+    let f = c .before .before .before .before .before in
+    let n = ap (λ (f : Fields). f .inputs) (f .fields-at .ensures) in
+    omega (arith, right (f .before) .inputs-in, c .before .before .word-of .ensures, n)
 
 enum-told-2 : tie.Need-enum-told-2
 enum-told-2 c = search needs
@@ -46,27 +56,37 @@ enum-told-2 c = search needs
 word-of-requires-2 : tie.Need-word-of-requires-2
 word-of-requires-2 c κs = search needs
 
-cast-port-value-2 : tie.Need-cast-port-value-2
-cast-port-value-2 c = search needs
-
 output-width-requires : tie.Need-output-width-requires
 output-width-requires c κs = search needs
 
+cast-port-value-2 : tie.Need-cast-port-value-2
+cast-port-value-2 c = search needs
+
 port-value-requires-2 : tie.Need-port-value-requires-2
 port-value-requires-2 c κs =
-    omega (arith, right (c .before .before .before .before .before .before) .outputs-in, c .before .before .word-of2 .ensures, ap (λ (f : Fields). f .outputs) (c .before .before .before .before .before .fields-at .ensures))
+    let f = c .before .before .before .before .before in
+    let n = ap (λ (f : Fields). f .outputs) (f .fields-at .ensures) in
+    omega (arith, right (f .before) .outputs-in, c .before .before .word-of2 .ensures, n)
 
 returns-2 : tie.Need-returns-2
 returns-2 c =
-    let a = c .before .before .before .before .before .before .before .before .before .before .before .before .args in
-    value-input (came (c .before .before .before .before .before .before .before .before .before .before .before .before)) (a .side) (a .i) (a .port) _ _ _ _ (c .before .before .before .before .before .before .before .if1 .left) (c .before .before .before .before .before .before .fields-at .ensures) (c .before .before .before .before .enum-told .given .1)
-    (c .before .before .before .word-of .ensures) (c .before .input-width .ensures) (c .port-value .ensures)
+    let w = c .before .before .before in
+    let f = w .before .before .before in
+    let s = start (f .before) in
+    value-input (came s) (s .args .side) (s .args .i) (s .args .port) _ _ _ _ (f .before .if1 .left)
+    (f .fields-at .ensures)
+    (w .before .enum-told .given .1) (w .word-of .ensures) (c .before .before .input-width .ensures)
+    (c .port-value .ensures)
 
 returns-3 : tie.Need-returns-3
 returns-3 c =
-    let a = c .before .before .before .before .before .before .before .before .before .before .before .before .args in
-    value-output (came (c .before .before .before .before .before .before .before .before .before .before .before .before)) (a .side) (a .i) (a .port) _ _ _ _ (c .before .before .before .before .before .before .before .if1 .left) (c .before .before .before .before .before .before .fields-at .ensures) (c .before .before .before .before .enum-told2 .given .1)
-    (c .before .before .before .word-of2 .ensures) (c .before .output-width .ensures) (c .port-value2 .ensures)
+    let w = c .before .before .before in
+    let f = w .before .before .before in
+    let s = start (f .before) in
+    value-output (came s) (s .args .side) (s .args .i) (s .args .port) _ _ _ _ (f .before .if1 .left)
+    (f .fields-at .ensures)
+    (w .before .enum-told2 .given .1) (w .word-of2 .ensures) (c .before .before .output-width .ensures)
+    (c .port-value2 .ensures)
 
 pub value-in-spec : {M : Type 1} → statement M
 value-in-spec =
@@ -76,13 +96,13 @@ value-in-spec =
     fields-at-requires
     enum-told
     word-of-requires
-    cast-port-value
     input-width-requires
+    cast-port-value
     port-value-requires
     enum-told-2
     word-of-requires-2
-    cast-port-value-2
     output-width-requires
+    cast-port-value-2
     port-value-requires-2
     returns-2
     returns-3)

@@ -3,7 +3,8 @@
 use mathlib.Core.Path.{_≡_, sym, _∙_}
 use Rattle.tables.specs.Tables.{Tables, tablesOf}
 use Rattle.net.specs.Net.{netNumber}
-use Rattle.simulator.proofs.QuestionsLaws.{net-within, net-row, value-refused, value-there}
+use Rattle.simulator.proofs.Sound.{net-within}
+use Rattle.simulator.proofs.QuestionsLaws.{net-row, value-refused, value-there}
 use borrow.Author.Needs.{needs}
 use Rattle.simulator.proofs.questions.value_of.Statement.{statement}
 use Rattle.simulator.proofs.questions.value_of.Tie as tie
@@ -11,10 +12,14 @@ use Rattle.simulator.proofs.questions.value_of.Tie as tie
 abbrev came : tie.Start → Tables
 came s =
     let a = s .args in
-    tablesOf (a .components .now) (a .inputs .now) (a .outputs .now) (a .wires .now) (a .current .now) (a .following .now)
+    tablesOf (a .components .now) (a .inputs .now) (a .outputs .now) (a .wires .now) (a .current .now)
+    (a .following .now)
     (a .standing .now) (a .counts)
 
-is-net : (c : tie.Else1) → netNumber (came (c .before .before .before .before .before .before .before .before .before)) ≡ 0
+abbrev start : tie.Else1 → tie.Start
+start c = c .before .before .before .before .before .before .before .before .before
+
+is-net : (c : tie.Else1) → netNumber (came (start c)) ≡ 0
 is-net c = sym (c .before .net-number .ensures) ∙ c .if1 .left
 
 net-number-requires : tie.Need-net-number-requires
@@ -22,16 +27,20 @@ net-number-requires c κs = search needs
 
 returns : tie.Need-returns
 returns c =
-    let a = c .before .before .before .before .before .before .before .before .before .args in
-    value-refused (came (c .before .before .before .before .before .before .before .before .before)) (a .side) (a .index .0) (a .port) _ (c .before .net-number .ensures) (c .if1 .taken)
+    let s = c .before .before .before .before .before .before .before .before .before in
+    let a = s .args in
+    value-refused (came s) (a .side) (a .index .0) (a .port) _ (c .before .net-number .ensures) (c .if1 .taken)
 
 value-in-requires : tie.Need-value-in-requires
-value-in-requires c κs = (net-within (came (c .before .before .before .before .before .before .before .before .before)) (is-net c) .components, net-row (came (c .before .before .before .before .before .before .before .before .before)) (is-net c) (c .before .before .before .before .before .before .before .before .before .args .index .0))
+value-in-requires c κs =
+    let s = c .before .before .before .before .before .before .before .before .before in
+    (net-within (came s) (is-net c) .components, net-row (came s) (is-net c) (s .args .index .0))
 
 returns-2 : tie.Need-returns-2
 returns-2 c =
-    let a = c .before .before .before .before .before .before .before .before .before .before .args in
-    value-there (came (c .before .before .before .before .before .before .before .before .before .before)) (a .side) (a .index .0) (a .port) _ (is-net (c .before)) (c .value-in .ensures)
+    let s = c .before .before .before .before .before .before .before .before .before .before in
+    let a = s .args in
+    value-there (came s) (a .side) (a .index .0) (a .port) _ (is-net (c .before)) (c .value-in .ensures)
 
 pub value-of-spec : {M : Type 1} → statement M
 value-of-spec = tie.close (tie.spec net-number-requires returns value-in-requires returns-2)

@@ -1,11 +1,9 @@
--- `end_round`: the three copies are the tables that are left. Assumes nothing.
+-- `end_round`: the three copies are the tables that are left.
+-- Assumes nothing.
 use Rattle.simulator.proofs.RoundLaws.{round-ended}
 use borrow.Author.Needs.{needs}
 use Rattle.simulator.proofs.rounds.end_round.Statement.{statement}
 use Rattle.simulator.proofs.rounds.end_round.Tie as tie
-use Rattle.simulator.proofs.rounds.end_round.Reads as reads
-use Rattle.simulator.proofs.rounds.end_round.Lts as lts
-use Rattle.tables.proofs.copy.Reads as copy-reads
 
 copy-requires : tie.Need-copy-requires
 copy-requires c κs = search needs
@@ -27,8 +25,11 @@ same-length-3 c = search needs
 
 returns : tie.Need-returns
 returns c =
-    let s = c .before .before .before .before .before .before .before .before .before .before .before .before .before .before .before .before .before in
-    round-ended _ _ _ _ _ _ _ _ (s .args .counts) (s .args .sizes) (s .pre .0) (s .pre .1) (c .before .before .before .before .before .before .before .before .before .before .copy .ensures) (c .before .before .before .before .before .before .copy2 .ensures) (c .before .before .copy3 .ensures)
+    let at-copy2 = c .before .before .before .before .before .before in
+    let at-copy = at-copy2 .before .before .before .before in
+    let s = at-copy .before .before .before .before .before .before .before in
+    round-ended _ _ _ _ _ _ _ _ (s .args .counts) (s .args .sizes) (s .pre .0) (s .pre .1) (at-copy .copy .ensures)
+    (at-copy2 .copy2 .ensures) (c .before .before .copy3 .ensures)
 
 pub end-round-spec : {M : Type 1} → statement M
 end-round-spec =

@@ -1,4 +1,5 @@
--- `evaluate_at`: the component's own ports are lent to `update` and put back; a Clock stays in the standing list, any other is struck.
+-- `evaluate_at`: the component's own ports are lent to `update` and put back; a Clock stays in the standing list, any
+-- other is struck.
 -- Assumes nothing.
 use mathlib.Core.List.{[]}
 use native.Mathlib.Omega.{arith}
@@ -8,15 +9,11 @@ use Rattle.simulator.proofs.StepsLaws.{lent-inputs, lent-outputs, lent-
 use borrow.Author.Needs.{needs}
 use Rattle.simulator.proofs.rounds.evaluate_at.Statement.{statement}
 use Rattle.simulator.proofs.rounds.evaluate_at.Tie as tie
-use Rattle.simulator.proofs.rounds.evaluate_at.Reads as reads
-use Rattle.simulator.proofs.rounds.evaluate_at.Lts as lts
-use Rattle.primitive.proofs.update.Reads as update-reads
-use Rattle.tables.proofs.strike.Reads as strike-reads
-use Rattle.tables.proofs.fields_at.Reads as fields-at-reads
-use Rattle.tables.proofs.word_of.Reads as word-of-reads
 
 fields-at-requires : tie.Need-fields-at-requires
-fields-at-requires c κs = (omega (arith, c .before .before .before .before .pre .1 .few), obeyed-fit _ (c .before .before .before .before .pre .1 .obeyed))
+fields-at-requires c κs =
+    let s = c .before .before .before .before in
+    (omega (arith, s .pre .1 .few), obeyed-fit _ (s .pre .1 .obeyed))
 
 word-of-requires : tie.Need-word-of-requires
 word-of-requires c κs = search needs
@@ -47,8 +44,12 @@ part-update-start c = search needs
 
 part-update-end : tie.Need-part-update-end
 part-update-end c =
-    let a = c .before .before .before .before .before .before .before .before .before .args in
-    lent-inputs (bare (a .components .now) []) (a .inputs .now) (a .outputs .now) (a .i) (c .before .before .before .before .before .before .before .before .before .pre .1) _ _ _ (c .before .before .before .before .fields-at .ensures) (c .before .before .before .word-of .ensures) (c .before .before .word-of2 .ensures)
+    let at-fields-at = c .before .before .before .before in
+    let s = at-fields-at .before .before .before .before .before in
+    let a = s .args in
+    lent-inputs (bare (a .components .now) []) (a .inputs .now) (a .outputs .now) (a .i) (s .pre .1) _ _ _
+    (at-fields-at .fields-at .ensures) (c .before .before .before .word-of .ensures)
+    (c .before .before .word-of2 .ensures)
 
 mul-update-2 : tie.Need-mul-update-2
 mul-update-2 c = search needs
@@ -61,21 +62,37 @@ part-update-start-2 c = search needs
 
 part-update-end-2 : tie.Need-part-update-end-2
 part-update-end-2 c =
-    let a = c .before .before .before .before .before .before .before .before .before .before .args in
-    lent-outputs (bare (a .components .now) []) (a .inputs .now) (a .outputs .now) (a .i) (c .before .before .before .before .before .before .before .before .before .before .pre .1) _ _ _ (c .before .before .before .before .before .fields-at .ensures) (c .before .before .before .before .word-of .ensures) (c .before .before .before .word-of2 .ensures)
+    let at-word-of = c .before .before .before .before in
+    let at-fields-at = at-word-of .before in
+    let s = at-fields-at .before .before .before .before .before in
+    let a = s .args in
+    lent-outputs (bare (a .components .now) []) (a .inputs .now) (a .outputs .now) (a .i) (s .pre .1) _ _ _
+    (at-fields-at .fields-at .ensures) (at-word-of .word-of .ensures) (c .before .before .before .word-of2 .ensures)
 
 update-requires : tie.Need-update-requires
 update-requires c κs =
-    let a = c .before .before .before .before .before .before .before .before .before .before .before .args in
-    lent-own (bare (a .components .now) []) (a .inputs .now) (a .outputs .now) (a .i) (c .before .before .before .before .before .before .before .before .before .before .before .pre .1) _ _ _ (c .before .before .before .before .before .before .fields-at .ensures) (c .before .before .before .before .before .word-of .ensures) (c .before .before .before .before .word-of2 .ensures)
+    let at-word-of2 = c .before .before .before .before in
+    let at-word-of = at-word-of2 .before in
+    let at-fields-at = at-word-of .before in
+    let s = at-fields-at .before .before .before .before .before in
+    let a = s .args in
+    lent-own (bare (a .components .now) []) (a .inputs .now) (a .outputs .now) (a .i) (s .pre .1) _ _ _
+    (at-fields-at .fields-at .ensures) (at-word-of .word-of .ensures) (at-word-of2 .word-of2 .ensures)
 
 same-length : tie.Need-same-length
 same-length c = search needs
 
 returns : tie.Need-returns
 returns c =
-    let a = c .before .before .before .before .before .before .before .before .before .before .before .before .before .before .before .before .args in
-    evaluated-clock (bare (a .components .now) []) (a .inputs .now) (a .outputs .now) (a .i) (c .before .before .before .before .before .before .before .before .before .before .before .before .before .before .before .before .pre .1) _ _ _ (c .before .before .before .before .before .before .before .before .before .before .before .fields-at .ensures) (c .before .before .before .before .before .before .before .before .before .before .word-of .ensures) (c .before .before .before .before .before .before .before .before .before .word-of2 .ensures) (a .time) (a .count) _ (a .standing .now) (c .before .before .before .before .update .ensures) (c .if1 .taken) (c .before .before .before .before .before .before .before .before .before .before .before .before .before .before .before .before .pre .0)
+    let at-update = c .before .before .before .before in
+    let at-word-of2 = at-update .before .before .before .before .before in
+    let at-word-of = at-word-of2 .before in
+    let at-fields-at = at-word-of .before in
+    let s = at-fields-at .before .before .before .before .before in
+    let a = s .args in
+    evaluated-clock (bare (a .components .now) []) (a .inputs .now) (a .outputs .now) (a .i) (s .pre .1) _ _ _
+    (at-fields-at .fields-at .ensures) (at-word-of .word-of .ensures) (at-word-of2 .word-of2 .ensures) (a .time)
+    (a .count) _ (a .standing .now) (at-update .update .ensures) (c .if1 .taken) (s .pre .0)
 
 cast-strike : tie.Need-cast-strike
 cast-strike c = search needs
@@ -91,8 +108,17 @@ same-length-3 c = search needs
 
 returns-2 : tie.Need-returns-2
 returns-2 c =
-    let a = c .before .before .before .before .before .before .before .before .before .before .before .before .before .before .before .before .before .before .before .before .args in
-    evaluated-struck (bare (a .components .now) []) (a .inputs .now) (a .outputs .now) (a .i) (c .before .before .before .before .before .before .before .before .before .before .before .before .before .before .before .before .before .before .before .before .pre .1) _ _ _ (c .before .before .before .before .before .before .before .before .before .before .before .before .before .before .before .fields-at .ensures) (c .before .before .before .before .before .before .before .before .before .before .before .before .before .before .word-of .ensures) (c .before .before .before .before .before .before .before .before .before .before .before .before .before .word-of2 .ensures) (a .time) (a .count) _ _ (a .standing .now) _ (c .before .before .before .before .before .before .before .before .update .ensures) (c .before .before .before .before .if1 .left) (c .before .before .strike .ensures .0) (c .before .before .strike .ensures .1)
+    let at-if1 = c .before .before .before .before in
+    let at-update = at-if1 .before .before .before .before in
+    let at-word-of2 = at-update .before .before .before .before .before in
+    let at-word-of = at-word-of2 .before in
+    let at-fields-at = at-word-of .before in
+    let s = at-fields-at .before .before .before .before .before in
+    let a = s .args in
+    evaluated-struck (bare (a .components .now) []) (a .inputs .now) (a .outputs .now) (a .i) (s .pre .1) _ _ _
+    (at-fields-at .fields-at .ensures) (at-word-of .word-of .ensures) (at-word-of2 .word-of2 .ensures) (a .time)
+    (a .count) _ _ (a .standing .now) _ (at-update .update .ensures) (at-if1 .if1 .left)
+    (c .before .before .strike .ensures .0) (c .before .before .strike .ensures .1)
 
 pub evaluate-at-spec : {M : Type 1} → statement M
 evaluate-at-spec =

@@ -4,20 +4,17 @@ use mathlib.Core.Path.{_∙_}
 use native.Mathlib.Omega.{arith}
 use Rattle.tables.specs.Tables.{Tables, tablesOf}
 use Rattle.net.proofs.NetLaws.{netNumber-sizes}
-use Rattle.simulator.proofs.RoundLaws.{net-within, net-runs, net-current, net-copied, copy-list, round-made}
+use Rattle.simulator.proofs.Sound.{net-within}
+use Rattle.simulator.proofs.RoundLaws.{net-runs, net-current, net-copied, copy-list, round-made}
 use borrow.Author.Needs.{needs}
 use Rattle.simulator.proofs.rounds.net_round.Statement.{statement}
 use Rattle.simulator.proofs.rounds.net_round.Tie as tie
-use Rattle.simulator.proofs.rounds.net_round.Reads as reads
-use Rattle.simulator.proofs.rounds.net_round.Lts as lts
-use Rattle.simulator.proofs.rounds.end_round.Reads as end-round-reads
-use Rattle.simulator.proofs.rounds.visit_all.Reads as visit-all-reads
-use Rattle.tables.proofs.copy.Reads as copy-reads
 
 -- The tables that came in.
 abbrev came : tie.Start → Tables
 came s =
-    tablesOf (s .args .components .now) (s .args .inputs .now) (s .args .outputs .now) (s .args .wires .now) (s .args .current .now)
+    tablesOf (s .args .components .now) (s .args .inputs .now) (s .args .outputs .now) (s .args .wires .now)
+    (s .args .current .now)
     (s .args .following .now) (s .args .standing .now) (s .args .counts)
 
 slice-aggregate-copy : tie.Need-slice-aggregate-copy
@@ -48,12 +45,14 @@ slice-aggregate-visit-all-2 c = search needs
 
 visit-all-requires : tie.Need-visit-all-requires
 visit-all-requires c κs =
-    let s = c .before .before .before .before .before .before .before .before .before .before .before .before .before .before .before .before .before .before .before .before in
+    let at-copy2 = c .before .before .before .before .before .before in
+    let at-copy = at-copy2 .before .before .before .before in
+    let s = at-copy .before .before .before .before .before .before .before .before .before .before in
     let w = net-within (came s) (s .pre) in (
       net-runs (came s) (s .pre),
       net-current (came s) (s .pre),
-      net-copied (came s) (s .pre) _ _ (omega (arith, c .before .before .before .before .before .before .before .before .before .before .copy .kept .1 .1 .0)) (c .before .before .before .before .before .before .before .before .before .before .copy .ensures),
-      omega (arith, w .standing, c .before .before .before .before .before .before .copy2 .kept .1 .1 .0),
+      net-copied (came s) (s .pre) _ _ (omega (arith, at-copy .copy .kept .1 .1 .0)) (at-copy .copy .ensures),
+      omega (arith, w .standing, at-copy2 .copy2 .kept .1 .1 .0),
     )
 
 slice-aggregate-end-round : tie.Need-slice-aggregate-end-round
@@ -64,11 +63,14 @@ slice-aggregate-end-round-2 c = search needs
 
 end-round-requires : tie.Need-end-round-requires
 end-round-requires c κs =
-    let s = c .before .before .before .before .before .before .before .before .before .before .before .before .before .before .before .before .before .before .before .before .before .before .before .before .before .before .before .before .before .before .before .before in
+    let at-visit-all = c .before .before .before .before .before .before .before .before .before .before .before in
+    let at-copy2 = at-visit-all .before .before .before .before .before .before .before in
+    let at-copy = at-copy2 .before .before .before .before in
+    let s = at-copy .before .before .before .before .before .before .before .before .before .before in
     let f = netNumber-sizes (came s) (s .pre) in
-    let v = c .before .before .before .before .before .before .before .before .before .before .before .visit-all in
-    let n = v .kept .1 .1 .1 .1 .1 .0 ∙ c .before .before .before .before .before .before .before .before .before .before .before .before .before .before .before .before .before .before .before .before .before .before .copy .kept .1 .1 .0 in
-    let l = v .kept .1 .1 .1 .1 .1 .1 .0 ∙ c .before .before .before .before .before .before .before .before .before .before .before .before .before .before .before .before .before .before .copy2 .kept .1 .1 .0 in (
+    let v = at-visit-all .visit-all in
+    let n = v .kept .1 .1 .1 .1 .1 .0 ∙ at-copy .copy .kept .1 .1 .0 in
+    let l = v .kept .1 .1 .1 .1 .1 .1 .0 ∙ at-copy2 .copy2 .kept .1 .1 .0 in (
       v .ensures .following,
       v .ensures .standing,
       omega (arith, v .ensures .following, n, f .current),
@@ -93,13 +95,20 @@ same-length-5 c = search needs
 
 returns : tie.Need-returns
 returns c =
-    let s = c .before .before .before .before .before .before .before .before .before .before .before .before .before .before .before .before .before .before .before .before .before .before .before .before .before .before .before .before .before .before .before .before .before .before .before .before .before .before .before in
+    let at-end-round = c .before .before .before .before .before .before in
+    let at-visit-all =
+    at-end-round .before .before .before .before .before .before .before .before .before .before .before .before in
+    let at-copy2 = at-visit-all .before .before .before .before .before .before .before in
+    let at-copy = at-copy2 .before .before .before .before in
+    let s = at-copy .before .before .before .before .before .before .before .before .before .before in
     let w = net-within (came s) (s .pre) in
     let f = netNumber-sizes (came s) (s .pre) in
-    round-made (came s) (s .args .time) _ _ _ _ _ _ _ _ _ (c .before .before .before .before .before .before .before .before .before .before .before .before .before .before .before .before .before .before .visit-all .result) _
-    (copy-list (s .args .counts .following) (s .args .following .now) _ _ (omega (arith, w .following, f .following)) (c .before .before .before .before .before .before .before .before .before .before .before .before .before .before .before .before .before .before .before .before .before .before .before .before .before .before .before .before .before .copy .ensures))
-    (copy-list (s .args .counts .standing) (s .args .standing .now) _ _ (omega (arith, w .standing, f .standing)) (c .before .before .before .before .before .before .before .before .before .before .before .before .before .before .before .before .before .before .before .before .before .before .before .before .before .copy2 .ensures))
-    (c .before .before .before .before .before .before .before .before .before .before .before .before .before .before .before .before .before .before .visit-all .ensures .state) (c .before .before .before .before .before .before .end-round .ensures)
+    round-made (came s) (s .args .time) _ _ _ _ _ _ _ _ _ (at-visit-all .visit-all .result) _
+    (copy-list (s .args .counts .following) (s .args .following .now) _ _ (omega (arith, w .following, f .following))
+    (at-copy .copy .ensures))
+    (copy-list (s .args .counts .standing) (s .args .standing .now) _ _ (omega (arith, w .standing, f .standing))
+    (at-copy2 .copy2 .ensures))
+    (at-visit-all .visit-all .ensures .state) (at-end-round .end-round .ensures)
 
 pub net-round-spec : {M : Type 1} → statement M
 net-round-spec =

@@ -1,19 +1,17 @@
--- `round`: the number decides; where it is 0 the tables are a net, and the round is made. Assumes nothing.
+-- `round`: the number decides; where it is 0 the tables are a net, and the round is made.
+-- Assumes nothing.
 use mathlib.Core.Path.{sym, _∙_}
 use Rattle.tables.specs.Tables.{Tables, tablesOf}
 use Rattle.simulator.proofs.CallsLaws.{round-refused, round-kept, round-answered, round-left}
 use borrow.Author.Needs.{needs}
 use Rattle.simulator.proofs.rounds.round.Statement.{statement}
 use Rattle.simulator.proofs.rounds.round.Tie as tie
-use Rattle.simulator.proofs.rounds.round.Reads as reads
-use Rattle.simulator.proofs.rounds.round.Lts as lts
-use Rattle.net.proofs.net_number.Reads as net-number-reads
-use Rattle.simulator.proofs.rounds.net_round.Reads as net-round-reads
 
 -- The tables that came in.
 abbrev came : tie.Start → Tables
 came s =
-    tablesOf (s .args .components .now) (s .args .inputs .now) (s .args .outputs .now) (s .args .wires .now) (s .args .current .now)
+    tablesOf (s .args .components .now) (s .args .inputs .now) (s .args .outputs .now) (s .args .wires .now)
+    (s .args .current .now)
     (s .args .following .now) (s .args .standing .now) (s .args .counts)
 
 net-number-requires : tie.Need-net-number-requires
@@ -36,12 +34,19 @@ same-length-5 c = search needs
 
 returns : tie.Need-returns
 returns c =
-    let s = c .before .before .before .before .before .before .before .before .before .before .before .before .before .before in
-    let e = c .before .net-number .ensures in
-    (round-refused (came s) (s .args .time) _ e (c .if1 .taken), round-kept (came s) (s .args .time) _ e (c .if1 .taken))
+    let p = c .before .before .before .before .before .before .before .before .before .before in
+    let s = p .before .before .before .before in
+    let e = c .before .net-number .ensures in (
+      round-refused (came s) (s .args .time) _ e (c .if1 .taken),
+      round-kept (came s) (s .args .time) _ e
+          (c .if1 .taken),
+    )
 
 net-round-requires : tie.Need-net-round-requires
-net-round-requires c κs = sym (c .before .before .before .before .before .before .net-number .ensures) ∙ c .before .before .before .before .before .if1 .left
+net-round-requires c κs =
+    let at-if1 = c .before .before .before .before .before in
+    let at-net-number = at-if1 .before in
+    sym (at-net-number .net-number .ensures) ∙ at-if1 .if1 .left
 
 same-length-6 : tie.Need-same-length-6
 same-length-6 c = search needs
@@ -60,12 +65,21 @@ same-length-10 c = search needs
 
 returns-2 : tie.Need-returns-2
 returns-2 c =
-    let s = c .before .before .before .before .before .before .before .before .before .before .before .before .before .before .before .before .before .before .before .before .before .before .before .before .before .before .before .before .before .before in
-    let e = c .before .before .before .before .before .before .before .before .before .before .before .before .before .before .before .before .before .net-number .ensures in
-    let z = c .before .before .before .before .before .before .before .before .before .before .before .before .before .before .before .before .if1 .left in
-    let r = c .before .before .before .before .before .before .before .before .before .before .net-round in
-    let U = tablesOf (s .args .components .now) (r .last .1 .0) (r .last .1 .1 .0) (s .args .wires .now) (r .last .1 .1 .1 .1 .0) (r .last .1 .1 .1 .1 .1 .0) (r .last .1 .1 .1 .1 .1 .1 .0) (r .result) in
-    (round-answered (came s) (s .args .time) _ e z U (r .result) (r .ensures), round-left (came s) (s .args .time) _ e z U (r .result) (r .ensures))
+    let at-net-round = c .before .before .before .before .before .before .before .before .before .before in
+    let at-if1 = at-net-round .before .before .before .before .before .before in
+    let at-net-number = at-if1 .before in
+    let p = at-net-number .before .before .before .before .before .before .before .before .before .before in
+    let s = p .before .before .before in
+    let e = at-net-number .net-number .ensures in
+    let z = at-if1 .if1 .left in
+    let r = at-net-round .net-round in
+    let U =
+    tablesOf (s .args .components .now) (r .last .1 .0) (r .last .1 .1 .0) (s .args .wires .now)
+    (r .last .1 .1 .1 .1 .0) (r .last .1 .1 .1 .1 .1 .0) (r .last .1 .1 .1 .1 .1 .1 .0) (r .result) in (
+      round-answered (came s) (s .args .time) _ e z U (r .result) (r .ensures),
+      round-left (came s)
+          (s .args .time) _ e z U (r .result) (r .ensures),
+    )
 
 pub round-spec : {M : Type 1} → statement M
 round-spec =

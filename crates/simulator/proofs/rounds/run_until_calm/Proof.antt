@@ -1,19 +1,17 @@
--- `run_until_calm`: the number decides; where it is 0 the tables are a net, and the rounds are run. Assumes nothing.
+-- `run_until_calm`: the number decides; where it is 0 the tables are a net, and the rounds are run.
+-- Assumes nothing.
 use mathlib.Core.Path.{sym, _∙_}
 use Rattle.tables.specs.Tables.{Tables, tablesOf}
 use Rattle.simulator.proofs.RunLaws.{run-refused, run-kept, run-answered, run-left}
 use borrow.Author.Needs.{needs}
 use Rattle.simulator.proofs.rounds.run_until_calm.Statement.{statement}
 use Rattle.simulator.proofs.rounds.run_until_calm.Tie as tie
-use Rattle.simulator.proofs.rounds.run_until_calm.Reads as reads
-use Rattle.simulator.proofs.rounds.run_until_calm.Lts as lts
-use Rattle.net.proofs.net_number.Reads as net-number-reads
-use Rattle.simulator.proofs.rounds.net_run.Reads as net-run-reads
 
 -- The tables that came in.
 abbrev came : tie.Start → Tables
 came s =
-    tablesOf (s .args .components .now) (s .args .inputs .now) (s .args .outputs .now) (s .args .wires .now) (s .args .current .now)
+    tablesOf (s .args .components .now) (s .args .inputs .now) (s .args .outputs .now) (s .args .wires .now)
+    (s .args .current .now)
     (s .args .following .now) (s .args .standing .now) (s .args .counts)
 
 net-number-requires : tie.Need-net-number-requires
@@ -36,12 +34,19 @@ same-length-5 c = search needs
 
 returns : tie.Need-returns
 returns c =
-    let s = c .before .before .before .before .before .before .before .before .before .before .before .before .before .before in
-    let e = c .before .net-number .ensures in
-    (run-refused (came s) (s .args .time) (s .args .limit) _ e (c .if1 .taken), run-kept (came s) (s .args .time) (s .args .limit) _ e (c .if1 .taken))
+    let p = c .before .before .before .before .before .before .before .before .before .before in
+    let s = p .before .before .before .before in
+    let e = c .before .net-number .ensures in (
+      run-refused (came s) (s .args .time) (s .args .limit) _ e (c .if1 .taken),
+      run-kept (came s) (s .args .time)
+          (s .args .limit) _ e (c .if1 .taken),
+    )
 
 net-run-requires : tie.Need-net-run-requires
-net-run-requires c κs = sym (c .before .before .before .before .before .before .net-number .ensures) ∙ c .before .before .before .before .before .if1 .left
+net-run-requires c κs =
+    let at-if1 = c .before .before .before .before .before in
+    let at-net-number = at-if1 .before in
+    sym (at-net-number .net-number .ensures) ∙ at-if1 .if1 .left
 
 same-length-6 : tie.Need-same-length-6
 same-length-6 c = search needs
@@ -60,13 +65,21 @@ same-length-10 c = search needs
 
 returns-2 : tie.Need-returns-2
 returns-2 c =
-    let s = c .before .before .before .before .before .before .before .before .before .before .before .before .before .before .before .before .before .before .before .before .before .before .before .before .before .before .before .before .before .before .before in
-    let e = c .before .before .before .before .before .before .before .before .before .before .before .before .before .before .before .before .before .before .net-number .ensures in
-    let z = c .before .before .before .before .before .before .before .before .before .before .before .before .before .before .before .before .before .if1 .left in
-    let r = c .before .before .before .before .before .before .before .before .before .before .before .net-run in
-    let U = tablesOf (s .args .components .now) (r .last .1 .0) (r .last .1 .1 .0) (s .args .wires .now) (r .last .1 .1 .1 .1 .0) (r .last .1 .1 .1 .1 .1 .0) (r .last .1 .1 .1 .1 .1 .1 .0) (r .result .counts) in (
-      run-answered (came s) (s .args .time) (s .args .limit) _ e z U (r .result .counts) (r .result .rounds) (r .result .evaluations) (r .ensures),
-      run-left (came s) (s .args .time) (s .args .limit) _ e z U (r .result .counts) (r .result .rounds) (r .result .evaluations) (r .ensures),
+    let at-net-run = c .before .before .before .before .before .before .before .before .before .before .before in
+    let at-if1 = at-net-run .before .before .before .before .before .before in
+    let at-net-number = at-if1 .before in
+    let p = at-net-number .before .before .before .before .before .before .before .before .before .before in
+    let s = p .before .before .before in
+    let e = at-net-number .net-number .ensures in
+    let z = at-if1 .if1 .left in
+    let r = at-net-run .net-run in
+    let U =
+    tablesOf (s .args .components .now) (r .last .1 .0) (r .last .1 .1 .0) (s .args .wires .now)
+    (r .last .1 .1 .1 .1 .0) (r .last .1 .1 .1 .1 .1 .0) (r .last .1 .1 .1 .1 .1 .1 .0) (r .result .counts) in (
+      run-answered (came s) (s .args .time) (s .args .limit) _ e z U (r .result .counts) (r .result .rounds)
+          (r .result .evaluations) (r .ensures),
+      run-left (came s) (s .args .time) (s .args .limit) _ e z U (r .result .counts) (r .result .rounds)
+          (r .result .evaluations) (r .ensures),
     )
 
 pub run-until-calm-spec : {M : Type 1} → statement M

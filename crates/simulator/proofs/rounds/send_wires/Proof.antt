@@ -14,10 +14,6 @@ use Rattle.simulator.proofs.StepsLaws.{send-bare, runs-kept, runs-sends
 use borrow.Author.Needs.{needs}
 use Rattle.simulator.proofs.rounds.send_wires.Statement.{statement}
 use Rattle.simulator.proofs.rounds.send_wires.Tie as tie
-use Rattle.simulator.proofs.rounds.send_wires.Reads as reads
-use Rattle.simulator.proofs.rounds.send_wires.Lts as lts
-use Rattle.simulator.proofs.rounds.send_wire.Reads as send-wire-reads
-use Rattle.tables.proofs.entry.Reads as entry-reads
 
 abbrev Inv-loop : tie.InvT-loop
 Inv-loop components wires inputs₀ outputs following₀ count counts i filled₀ k₀ inputs following filled k =
@@ -29,13 +25,21 @@ Inv-loop components wires inputs₀ outputs following₀ count counts i filled�
     (wiresFrom i (wiresIn (wiring components wires counts))))
 
 abbrev μ-loop : tie.MeasureT-loop
-μ-loop components wires inputs₀ outputs following₀ count counts i filled₀ k₀ inputs following filled k = counts .wires - k
+μ-loop components wires inputs₀ outputs following₀ count counts i filled₀ k₀ inputs following filled k =
+    counts .wires - k
 
 loop-holds : tie.Need-loop-holds Inv-loop μ-loop
 loop-holds c =
     let s = c .before .before .before .before .before in
-    let T = wiring (s .args .components .now) (s .args .wires .now) (s .args .counts) in
-    (omega arith, refl, refl, s .pre .1, sends-start T (s .args .i) 0 (s .args .counts .wires) (stateAt (s .args .inputs .now) (s .args .outputs .now) (take (s .args .count) (s .args .following .now)) []) (stateAt [] [] [] []))
+    let T = wiring (s .args .components .now) (s .args .wires .now) (s .args .counts) in (
+      omega arith,
+      refl,
+      refl,
+      s .pre .1,
+      sends-start T (s .args .i) 0 (s .args .counts .wires)
+          (stateAt (s .args .inputs .now) (s .args .outputs .now) (take (s .args .count) (s .args .following .now)) [])
+          (stateAt [] [] [] []),
+    )
 
 mul-entry : tie.Need-mul-entry Inv-loop μ-loop
 mul-entry c = search needs
@@ -45,11 +49,16 @@ entry-requires c κs = search needs
 
 send-wire-requires : tie.Need-send-wire-requires Inv-loop μ-loop
 send-wire-requires c κs =
-    let s = c .before .before .before .before .before .before .before .before .before .before .before .before in
-    let l = c .before .before .before .before .before .before .loop in
-    let g = runs-kept (s .args .components .now) (s .args .wires .now) (s .args .counts) (s .args .inputs .now) (s .args .outputs .now) (l .inputs) (s .args .outputs .now) (s .pre .0) (l .inv .1) refl in (
-      omega (arith, s .pre .0 .few-wires, c .before .before .before .before .if1 .taken),
-      runs-sends (s .args .components .now) (s .args .wires .now) (s .args .counts) (l .inputs) (s .args .outputs .now) (l .following) (l .filled) (l .k) g (l .inv .3) (c .before .before .before .before .if1 .taken),
+    let at-if1 = c .before .before .before .before in
+    let at-loop = at-if1 .before .before in
+    let s = at-loop .before .before .before .before .before .before in
+    let l = at-loop .loop in
+    let g =
+    runs-kept (s .args .components .now) (s .args .wires .now) (s .args .counts) (s .args .inputs .now)
+    (s .args .outputs .now) (l .inputs) (s .args .outputs .now) (s .pre .0) (l .inv .1) refl in (
+      omega (arith, s .pre .0 .few-wires, at-if1 .if1 .taken),
+      runs-sends (s .args .components .now) (s .args .wires .now) (s .args .counts) (l .inputs) (s .args .outputs .now)
+          (l .following) (l .filled) (l .k) g (l .inv .3) (at-if1 .if1 .taken),
     )
 
 add-k : tie.Need-add-k Inv-loop μ-loop
@@ -60,25 +69,32 @@ loop-less c = search needs
 
 loop-again : tie.Need-loop-again Inv-loop μ-loop
 loop-again c =
-    let s = c .before .before .before .before .before .before .before .before .before .before in
-    let l = c .before .before .before .before .loop in
+    let at-loop = c .before .before .before .before in
+    let s = at-loop .before .before .before .before .before .before in
+    let l = at-loop .loop in
     let T = wiring (s .args .components .now) (s .args .wires .now) (s .args .counts) in
     let b = c .before .before .if1 .taken in
-    let g = runs-kept (s .args .components .now) (s .args .wires .now) (s .args .counts) (s .args .inputs .now) (s .args .outputs .now) (l .inputs) (s .args .outputs .now) (s .pre .0) (l .inv .1) refl in
+    let g =
+    runs-kept (s .args .components .now) (s .args .wires .now) (s .args .counts) (s .args .inputs .now)
+    (s .args .outputs .now) (l .inputs) (s .args .outputs .now) (s .pre .0) (l .inv .1) refl in
     ⊎-elim
     (λ w. rw (w .8, w .9, w .10) (
       omega arith,
       w .3 .kept .1 .1 .0 ∙ l .inv .1,
       w .3 .kept .1 .1 .1 .1 .0 ∙ l .inv .2,
-      sent-listed (s .args .components .now) (s .args .wires .now) (s .args .counts) (l .inputs) (s .args .outputs .now) (l .following) _ _ (l .filled) (l .k) _ g (l .inv .3) b (w .3 .ensures) (w .3 .kept .1 .1 .1 .1 .0),
-      sends-taken T (s .args .i) (l .k) (s .args .counts .wires) _ _ _ _ b (c .before .entry .ensures) (w .0 .taken) (w .3 .ensures .state ∙ send-bare (s .args .components .now) (s .args .wires .now) (s .args .counts) _ _) (l .inv .4),
+      sent-listed (s .args .components .now) (s .args .wires .now) (s .args .counts) (l .inputs) (s .args .outputs .now)
+          (l .following) _ _ (l .filled) (l .k) _ g (l .inv .3) b (w .3 .ensures) (w .3 .kept .1 .1 .1 .1 .0),
+      sends-taken T (s .args .i) (l .k) (s .args .counts .wires) _ _ _ _ b (c .before .entry .ensures) (w .0 .taken)
+          (w .3 .ensures .state ∙ send-bare (s .args .components .now) (s .args .wires .now) (s .args .counts) _ _)
+          (l .inv .4),
     ))
     (λ w. rw (w .1, w .2, w .3) (
       omega arith,
       l .inv .1,
       l .inv .2,
       l .inv .3,
-      sends-passed T (s .args .i) (l .k) (s .args .counts .wires) _ _ _ b (c .before .entry .ensures) (w .0 .left) (l .inv .4),
+      sends-passed T (s .args .i) (l .k) (s .args .counts .wires) _ _ _ b (c .before .entry .ensures) (w .0 .left)
+          (l .inv .4),
     ))
     (c .if2 .came)
 
@@ -92,7 +108,12 @@ returns : tie.Need-returns Inv-loop μ-loop
 returns c =
     let s = c .before .before .before .before .before .before .before .before in
     let l = c .before .before .loop in
-    record { count = l .inv .3 .count; state = sends-end (wiring (s .args .components .now) (s .args .wires .now) (s .args .counts)) (s .args .i) (l .k) (s .args .counts .wires) _ _ (omega arith) (l .inv .4) }
+    record {
+      count = l .inv .3 .count;
+      state = sends-end
+          (wiring (s .args .components .now) (s .args .wires .now) (s .args .counts)) (s .args .i) (l .k)
+          (s .args .counts .wires) _ _ (omega arith) (l .inv .4);
+    }
 
 pub send-wires-spec : {M : Type 1} → statement M
 send-wires-spec =

@@ -1,4 +1,5 @@
--- `visit`: the evaluation leaves the lengths of the tables, and the wires the standing list. Assumes nothing.
+-- `visit`: the evaluation leaves the lengths of the tables, and the wires the standing list.
+-- Assumes nothing.
 use mathlib.Core.Path.{refl, _∙_}
 use Rattle.tables.specs.Tables.{wiresIn}
 use Rattle.simulator.specs.Steps.{wiring}
@@ -6,20 +7,24 @@ use Rattle.simulator.proofs.StepsLaws.{runs-kept, runs-evaluates, evalu
 use borrow.Author.Needs.{needs}
 use Rattle.simulator.proofs.rounds.visit.Statement.{statement}
 use Rattle.simulator.proofs.rounds.visit.Tie as tie
-use Rattle.simulator.proofs.rounds.visit.Reads as reads
-use Rattle.simulator.proofs.rounds.visit.Lts as lts
-use Rattle.simulator.proofs.rounds.evaluate_at.Reads as evaluate-at-reads
-use Rattle.simulator.proofs.rounds.send_wires.Reads as send-wires-reads
 
 evaluate-at-requires : tie.Need-evaluate-at-requires
 evaluate-at-requires c κs =
-    let s = c .before .before .before .before .before .before .before .before .before in
-    (s .pre .2, runs-evaluates (s .args .components .now) (s .args .wires .now) (s .args .counts) (s .args .inputs .now) (s .args .outputs .now) (s .args .i) (s .pre .0) (s .pre .3))
+    let s = c .before .before .before .before .before .before .before .before .before in (
+      s .pre .2,
+      runs-evaluates (s .args .components .now) (s .args .wires .now) (s .args .counts) (s .args .inputs .now)
+          (s .args .outputs .now) (s .args .i) (s .pre .0) (s .pre .3),
+    )
 
 send-wires-requires : tie.Need-send-wires-requires
 send-wires-requires c κs =
-    let s = c .before .before .before .before .before .before .before .before .before .before .before .before .before .before .before .before .before in
-    (runs-kept (s .args .components .now) (s .args .wires .now) (s .args .counts) (s .args .inputs .now) (s .args .outputs .now) (s .args .inputs .now) _ (s .pre .0) refl (c .before .before .before .before .before .before .before .evaluate-at .kept .1 .1 .0), s .pre .1)
+    let at-evaluate-at = c .before .before .before .before .before .before .before in
+    let s = at-evaluate-at .before .before .before .before .before .before .before .before .before .before in (
+      runs-kept (s .args .components .now) (s .args .wires .now) (s .args .counts) (s .args .inputs .now)
+          (s .args .outputs .now) (s .args .inputs .now) _ (s .pre .0) refl
+          (at-evaluate-at .evaluate-at .kept .1 .1 .0),
+      s .pre .1,
+    )
 
 same-length : tie.Need-same-length
 same-length c = search needs
@@ -35,14 +40,19 @@ same-length-4 c = search needs
 
 returns : tie.Need-returns
 returns c =
-    let s = c .before .before .before .before .before .before .before .before .before .before .before .before .before .before .before .before .before .before .before .before .before .before in
+    let at-send-wires = c .before .before .before .before in
+    let at-evaluate-at = at-send-wires .before .before .before .before .before .before .before .before in
+    let s = at-evaluate-at .before .before .before .before .before .before .before .before .before .before in
     let T = wiring (s .args .components .now) (s .args .wires .now) (s .args .counts) in
-    let e = c .before .before .before .before .before .before .before .before .before .before .before .before .evaluate-at in
-    let w = c .before .before .before .before .send-wires in
+    let e = at-evaluate-at .evaluate-at in
+    let w = at-send-wires .send-wires in
     record {
       following = w .ensures .count;
       standing = e .ensures .count;
-      state = visited T (wiresIn T) (s .args .time) (s .args .i) (s .args .inputs .now) (s .args .outputs .now) _ _ _ _ _ _ (e .ensures .state ∙ evaluated-bare (s .args .components .now) (s .args .wires .now) (s .args .counts) _ _ _) (w .ensures .state);
+      state = visited T (wiresIn T) (s .args .time) (s .args .i) (s .args .inputs .now)
+          (s .args .outputs .now) _ _ _ _ _ _
+          (e .ensures .state ∙ evaluated-bare (s .args .components .now) (s .args .wires .now) (s .args .counts) _ _ _)
+          (w .ensures .state);
     }
 
 pub visit-spec : {M : Type 1} → statement M

@@ -13,23 +13,24 @@ use Rattle.simulator.proofs.StepsLaws.{runs-kept, listed-at, visited-li
 use borrow.Author.Needs.{needs}
 use Rattle.simulator.proofs.rounds.visit_all.Statement.{statement}
 use Rattle.simulator.proofs.rounds.visit_all.Tie as tie
-use Rattle.simulator.proofs.rounds.visit_all.Reads as reads
-use Rattle.simulator.proofs.rounds.visit_all.Lts as lts
-use Rattle.simulator.proofs.rounds.visit.Reads as visit-reads
-use Rattle.tables.proofs.entry.Reads as entry-reads
 
 abbrev Inv-loop : tie.InvT-loop
-Inv-loop components wires current inputs₀ outputs₀ following₀ standing₀ counts time reached₀ k₀ inputs outputs following standing reached k =
+Inv-loop components wires current inputs₀ outputs₀ following₀ standing₀ counts time reached₀ k₀
+    inputs outputs following standing reached k =
     (k ≤ counts .current) × (length inputs ≡ length inputs₀) × (length outputs ≡ length outputs₀)
     × (length following ≡ length following₀) × (length standing ≡ length standing₀)
     × Listed (wiring components wires counts) (reached .following) following × (reached .standing ≤ length standing)
     × (foldl (visit (wiring components wires counts) (wiresIn (wiring components wires counts)) time)
-    (stateAt inputs outputs (take (reached .following) following) (take (reached .standing) standing)) (slice k (counts .current) current)
+    (stateAt inputs outputs (take (reached .following) following) (take (reached .standing) standing))
+    (slice k (counts .current) current)
     ≡ foldl (visit (wiring components wires counts) (wiresIn (wiring components wires counts)) time)
-    (stateAt inputs₀ outputs₀ (take (reached₀ .following) following₀) (take (reached₀ .standing) standing₀)) (take (counts .current) current))
+    (stateAt inputs₀ outputs₀ (take (reached₀ .following) following₀) (take (reached₀ .standing) standing₀))
+    (take (counts .current) current))
 
 abbrev μ-loop : tie.MeasureT-loop
-μ-loop components wires current inputs₀ outputs₀ following₀ standing₀ counts time reached₀ k₀ inputs outputs following standing reached k = counts .current - k
+μ-loop components wires current inputs₀ outputs₀ following₀ standing₀ counts time reached₀ k₀
+    inputs outputs following standing reached k =
+    counts .current - k
 
 loop-holds : tie.Need-loop-holds Inv-loop μ-loop
 loop-holds c =
@@ -41,12 +42,17 @@ entry-requires c κs = search needs
 
 visit-requires : tie.Need-visit-requires Inv-loop μ-loop
 visit-requires c κs =
-    let s = c .before .before .before .before .before .before .before .before .before .before .before .before .before .before .before in
-    let l = c .before .before .before .before .before .before .before .loop in (
-      runs-kept (s .args .components .now) (s .args .wires .now) (s .args .counts) (s .args .inputs .now) (s .args .outputs .now) (l .inputs) (l .outputs) (s .pre .0) (l .inv .1) (l .inv .2),
+    let at-entry = c .before .before .before .before in
+    let at-if1 = at-entry .before in
+    let at-loop = at-if1 .before .before in
+    let s = at-loop .before .before .before .before .before .before .before .before in
+    let l = at-loop .loop in (
+      runs-kept (s .args .components .now) (s .args .wires .now) (s .args .counts) (s .args .inputs .now)
+          (s .args .outputs .now) (l .inputs) (l .outputs) (s .pre .0) (l .inv .1) (l .inv .2),
       l .inv .5,
       l .inv .6,
-      listed-at (s .args .components .now) (s .args .wires .now) (s .args .counts) (s .args .counts .current) (s .args .current .now) (l .k) _ (s .pre .1) (c .before .before .before .before .before .if1 .taken) (c .before .before .before .before .entry .ensures),
+      listed-at (s .args .components .now) (s .args .wires .now) (s .args .counts) (s .args .counts .current)
+          (s .args .current .now) (l .k) _ (s .pre .1) (at-if1 .if1 .taken) (at-entry .entry .ensures),
     )
 
 add-k : tie.Need-add-k Inv-loop μ-loop
@@ -57,20 +63,29 @@ loop-less c = search needs
 
 loop-again : tie.Need-loop-again Inv-loop μ-loop
 loop-again c =
-    let s = c .before .before .before .before .before .before .before .before .before .before .before .before .before .before .before .before .before .before .before .before .before .before .before .before in
-    let l = c .before .before .before .before .before .before .before .before .before .before .before .before .before .before .before .before .loop in
-    let v = c .before .before .before .before .before .before .before .before .visit in
-    let b = c .before .before .before .before .before .before .before .before .before .before .before .before .before .before .if1 .taken in
+    let at-visit = c .before .before .before .before .before .before .before .before in
+    let at-entry = at-visit .before .before .before .before .before in
+    let at-if1 = at-entry .before in
+    let at-loop = at-if1 .before .before in
+    let s = at-loop .before .before .before .before .before .before .before .before in
+    let l = at-loop .loop in
+    let v = at-visit .visit in
+    let b = at-if1 .if1 .taken in
     let T = wiring (s .args .components .now) (s .args .wires .now) (s .args .counts) in
-    let g = runs-kept (s .args .components .now) (s .args .wires .now) (s .args .counts) (s .args .inputs .now) (s .args .outputs .now) (l .inputs) (l .outputs) (s .pre .0) (l .inv .1) (l .inv .2) in (
+    let g =
+    runs-kept (s .args .components .now) (s .args .wires .now) (s .args .counts) (s .args .inputs .now)
+    (s .args .outputs .now) (l .inputs) (l .outputs) (s .pre .0) (l .inv .1) (l .inv .2) in (
       omega (arith, b),
       v .kept .1 .1 .0 ∙ l .inv .1,
       v .kept .1 .1 .1 .0 ∙ l .inv .2,
       v .kept .1 .1 .1 .1 .0 ∙ l .inv .3,
       v .kept .1 .1 .1 .1 .1 .0 ∙ l .inv .4,
-      visited-listed (s .args .components .now) (s .args .wires .now) (s .args .counts) (l .inputs) (l .outputs) (l .following) _ _ _ _ (l .reached .following) (v .result .following) _ g (l .inv .5) refl (v .ensures .state) (v .ensures .following) (v .kept .1 .1 .1 .1 .0),
+      visited-listed (s .args .components .now) (s .args .wires .now) (s .args .counts) (l .inputs) (l .outputs)
+          (l .following) _ _ _ _ (l .reached .following) (v .result .following) _ g (l .inv .5) refl (v .ensures .state)
+          (v .ensures .following) (v .kept .1 .1 .1 .1 .0),
       v .ensures .standing,
-      visits-next T (wiresIn T) (s .args .time) (s .args .current .now) (l .k) (s .args .counts .current) _ _ _ _ b (s .pre .1 .count) (c .before .before .before .before .before .before .before .before .before .before .before .before .before .entry .ensures) (v .ensures .state) (l .inv .7),
+      visits-next T (wiresIn T) (s .args .time) (s .args .current .now) (l .k) (s .args .counts .current) _ _ _ _ b
+          (s .pre .1 .count) (at-entry .entry .ensures) (v .ensures .state) (l .inv .7),
     )
 
 same-length : tie.Need-same-length Inv-loop μ-loop
@@ -93,7 +108,8 @@ returns c =
     record {
       following = l .inv .5 .count;
       standing = l .inv .6;
-      state = visits-end T (wiresIn T) (s .args .time) (s .args .current .now) (l .k) (s .args .counts .current) _ _ (omega arith) (l .inv .7);
+      state = visits-end T (wiresIn T) (s .args .time) (s .args .current .now) (l .k) (s .args .counts .current) _ _
+          (omega arith) (l .inv .7);
     }
 
 pub visit-all-spec : {M : Type 1} → statement M
