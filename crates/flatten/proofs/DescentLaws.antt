@@ -192,7 +192,7 @@ module _ (at : ℕ → Record) (n : ℕ) where
 
 -- In a file: record q is r, and b says whether a test holds of it.
 module _ (s : List ℕ) (n : ℕ) where
-  primitive-is : (c : ℕ) (r : Record) (b x : Bool) → r ≡ recordAt s c → b ≡ isPrimitive r → b ≡ x → isPrimitive (recordAt s c) ≡ x
+  pub primitive-is : (c : ℕ) (r : Record) (b x : Bool) → r ≡ recordAt s c → b ≡ isPrimitive r → b ≡ x → isPrimitive (recordAt s c) ≡ x
   primitive-is c r b x e h t = sym (h ∙ ap isPrimitive e) ∙ t
 
   -- the source: a primitive; a composite
@@ -288,21 +288,21 @@ module _ (s : List ℕ) (n : ℕ) where
   fails15-other p r e k = rw (← e, ne-eqb (formOf r) 2 (formOf-no-connection r k))
 
   module _ (p o a b : ℕ) (f t : ChildNo) (r : Record) (e : r ≡ recordAt s p) (k : r ≡ Connection o f a t b) where
-    source-is : (m c : ℕ) (x : Pin) → m ≡ deepest → c ≡ child (recordAt s) n o (f .0) → x ≡ source (recordAt s) n m c a
+    pub source-is : (m c : ℕ) (x : Pin) → m ≡ deepest → c ≡ child (recordAt s) n o (f .0) → x ≡ source (recordAt s) n m c a
         → x ≡ sourceOf (recordAt s) n p
     unfolding sourceOf
     source-is m c x em ec ex =
         ex ∙ ap (λ (j : ℕ). source (recordAt s) n j c a) em ∙ ap (λ (j : ℕ). source (recordAt s) n deepest j a) ec
         ∙ ap (λ (y : Record). source (recordAt s) n deepest (child (recordAt s) n (ownerOf y) (fromOf y)) (outputOf y)) (sym k ∙ e)
 
-    targets-are : (m c : ℕ) → m ≡ deepest → c ≡ child (recordAt s) n o (t .0)
+    pub targets-are : (m c : ℕ) → m ≡ deepest → c ≡ child (recordAt s) n o (t .0)
         → targets (recordAt s) n m c b ≡ targetsOf (recordAt s) n p
     unfolding targetsOf
     targets-are m c em ec =
         ap (λ (j : ℕ). targets (recordAt s) n j c b) em ∙ ap (λ (j : ℕ). targets (recordAt s) n deepest j b) ec
         ∙ ap (λ (y : Record). targets (recordAt s) n deepest (child (recordAt s) n (ownerOf y) (toOf y)) (inputOf y)) (sym k ∙ e)
 
-    form-is : formOf (recordAt s p) ≡ 2
+    pub form-is : formOf (recordAt s p) ≡ 2
     form-is = ap formOf (sym e ∙ k)
 
     differing : Wire → Bool

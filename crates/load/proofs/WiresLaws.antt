@@ -36,7 +36,7 @@ use Rattle.flatten.specs.Descent.{source, targets, sourceOf, targetsOf, wiresAt
 use Rattle.flatten.specs.Steps.{entered, IsStretch}
 use Rattle.flatten.specs.Verdict.{verdict}
 use Rattle.flatten.proofs.DescentLaws.{given, targets-bottom, targets-ends, targets-stretch, given-to, given-nothing}
-use Rattle.flatten.proofs.DescentLaws.{joined-end}
+use Rattle.flatten.proofs.DescentLaws.{joined-end, primitive-is, source-is, targets-are, form-is}
 use Rattle.leads.proofs.Accepted.{Passed, accepted-sized, accepted-passed}
 use Rattle.leads.proofs.Components.{primitive-component, component-number}
 use Rattle.leads.proofs.Descent.{source-sound}
@@ -65,13 +65,10 @@ module _ (s : List ℕ) (n d c i : ℕ) (f : Pin) (t : List ℕ) (k : ℕ) where
       record { table = ap (sets t k) (sym e); place = omega (arith, ap (λ (l : List ℕ). length l) e) }
 
   module _ (r : Record) (b : Bool) (h : d ≡ 0 → ⊥) (er : r ≡ recordAt s c) (eb : b ≡ isPrimitive r) where
-    primitive-is : (x : Bool) → b ≡ x → isPrimitive (recordAt s c) ≡ x
-    primitive-is x e = sym (eb ∙ ap isPrimitive er) ∙ e
-
     -- A primitive: one wire.
     module _ (p : b ≡ true) where
       led-here : led s n f (targets (recordAt s) n d c i) ≡ f .comp ∷ f .port ∷ flat (recordAt s) n c ∷ i ∷ []
-      led-here = ap (led s n f) (targets-ends (recordAt s) n d c i h (primitive-is true p))
+      led-here = ap (led s n f) (targets-ends (recordAt s) n d c i h (primitive-is s n c r b true er eb p))
 
       pub lead-room : k + length (led s n f (targets (recordAt s) n d c i)) ≤ length t → k + 4 ≤ length t
       lead-room room = omega (arith, ap (λ (l : List ℕ). length l) led-here)
@@ -90,7 +87,7 @@ module _ (s : List ℕ) (n d c i : ℕ) (f : Pin) (t : List ℕ) (k : ℕ) where
     -- A composite: the loop over its input maps starts.
     pub leading-start : (a e : ℕ) → b ≡ false → IsStretch (recordAt s) n c a e → Leading s n d c i f t k a e t k
     leading-start a e p z =
-        let y = targets-stretch (recordAt s) n d c i a e h (primitive-is false p) z in
+        let y = targets-stretch (recordAt s) n d c i a e h (primitive-is s n c r b false er eb p) z in
         record {
           size = refl;
           table = ap (λ (ts : List Pin). sets t k (led s n f ts)) (sym y);
@@ -168,7 +165,7 @@ pub primitive-number : (s : List ℕ) (n c : ℕ) (cs lo hi fs : List ℕ) (r : 
     → r ≡ recordAt s c → b ≡ isPrimitive r → b ≡ true → c < 256
 primitive-number s n c cs lo hi fs r b h er eb p =
     component-number (recordAt s) _ (accepted-passed s (h .accepted)) c
-    (primitive-component (recordAt s c) (sym (eb ∙ ap isPrimitive er) ∙ p))
+    (primitive-component (recordAt s c) (primitive-is s n c r b true er eb p))
 
 -- The wires of the record at p: it is no connection; a connection.
 module _ (s : List ℕ) (n : ℕ) where
@@ -180,48 +177,34 @@ module _ (s : List ℕ) (n : ℕ) where
       record { table = ap (sets t k) (sym z); place = omega (arith, ap (λ (l : List ℕ). length l) z) }
 
   module _ (p w a b : ℕ) (f g : ChildNo) (r : Record) (e : r ≡ recordAt s p) (y : r ≡ Connection w f a g b) where
-    form-is : formOf (recordAt s p) ≡ 2
-    form-is = ap formOf (sym e ∙ y)
-
     module _ (m c : ℕ) (x : Pin) (em : m ≡ deepest) (ec : c ≡ child (recordAt s) n w (f .0))
         (ex : x ≡ source (recordAt s) n m c a) where
-      source-is : x ≡ sourceOf (recordAt s) n p
-      unfolding sourceOf
-      source-is =
-          ex ∙ ap (λ (j : ℕ). source (recordAt s) n j c a) em ∙ ap (λ (j : ℕ). source (recordAt s) n deepest j a) ec
-          ∙ ap (λ (z : Record). source (recordAt s) n deepest (child (recordAt s) n (ownerOf z) (fromOf z))
-          (outputOf z)) (sym y ∙ e)
+      from-source : x ≡ sourceOf (recordAt s) n p
+      from-source = source-is s n p w a b f g r e y m c x em ec ex
 
       -- The source is a primitive's, and its number is below 256.
       pub source-number : (cs lo hi fs : List ℕ) → Ready s n cs lo hi fs → p < n → x .comp < 256
       unfolding sourceOf
       source-number cs lo hi fs h l =
           let d = subst (Passed (recordAt s)) (sym (h .count)) (accepted-passed s (h .accepted)) in
-          let there = connection-ends (recordAt s) n d p l form-is .0 in
+          let there = connection-ends (recordAt s) n d p l (form-is s n p w a b f g r e y) .0 in
           let comes = source-sound (recordAt s) n d 0 deepest
           (child (recordAt s) n (ownerOf (recordAt s p)) (fromOf (recordAt s p)))
           (outputOf (recordAt s p)) (zero-add deepest) refl there in
-          rw source-is
+          rw from-source
           (component-number (recordAt s) n d (sourceOf (recordAt s) n p .comp)
           (primitive-component (recordAt s (sourceOf (recordAt s) n p .comp))
           (from-there (recordAt s) n d _ _ _ there comes .of-primitive)))
 
       module _ (l q : ℕ) (i : Pin) (el : l ≡ deepest) (eq : q ≡ child (recordAt s) n w (g .0))
           (ei : i ≡ flatPin (recordAt s) n x) where
-        targets-are : targets (recordAt s) n l q b ≡ targetsOf (recordAt s) n p
-        unfolding targetsOf
-        targets-are =
-            ap (λ (j : ℕ). targets (recordAt s) n j q b) el ∙ ap (λ (j : ℕ). targets (recordAt s) n deepest j b) eq
-            ∙ ap (λ (z : Record). targets (recordAt s) n deepest (child (recordAt s) n (ownerOf z) (toOf z))
-            (inputOf z)) (sym y ∙ e)
-
         pub wires-are : led s n i (targets (recordAt s) n l q b) ≡ wiresGiven (recordAt s) n p
         wires-are =
-            ap (led s n i) targets-are
-            ∙ ap (λ (z : Pin). led s n z (targetsOf (recordAt s) n p)) (ei ∙ ap (flatPin (recordAt s) n) source-is)
+            ap (led s n i) (targets-are s n p w a b f g r e y l q el eq)
+            ∙ ap (λ (z : Pin). led s n z (targetsOf (recordAt s) n p)) (ei ∙ ap (flatPin (recordAt s) n) from-source)
             ∙ ap (λ (z : Bool). cond z
             (led s n (flatPin (recordAt s) n (sourceOf (recordAt s) n p)) (targetsOf (recordAt s) n p)) [])
-            (sym (eq-eqb (formOf (recordAt s p)) 2 form-is))
+            (sym (eq-eqb (formOf (recordAt s p)) 2 (form-is s n p w a b f g r e y)))
 
         pub connect-room : (t : List ℕ) (k : ℕ) → k + length (wiresGiven (recordAt s) n p) ≤ length t
             → k + length (led s n i (targets (recordAt s) n l q b)) ≤ length t
