@@ -22,8 +22,8 @@ use Rattle.simulator.proofs.Held.{Held, Agree}
 use Rattle.quiet.proofs.Edited.{Editable, driven-none, stood, switched, fed, EditCase, switch, input, edit-case, switch-others, switch-left, input-others, input-left}
 use Rattle.quiet.proofs.Invariant.{clocked, Fits, Awaits, Named, now, next, later, Inv}
 
--- An edit of component i, which is no Clock: the invariant holds of the new state where no wire but those of i and no
--- component but i are the worse for it.
+-- An edit of component i, which is no Clock: the invariant holds of the new state where each wire that does not leave i
+-- still agrees if it did, and each component but i still fits if it did.
 module _ (T : Tables) (ran : Bool) (t i : ℕ) (unclocked : clocked T i ≡ false) (s : State) (a : Inv T ran t s)
     (xs ys : List ℕ) where
   abbrev n : ℕ

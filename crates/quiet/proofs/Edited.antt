@@ -24,7 +24,7 @@ use Rattle.tables.specs.Tables.{Tables, fieldsAt, firstInput, firstOutput, numb
 use Rattle.simulator.specs.Round.{State, edited}
 use Rattle.simulator.specs.Calls.{driven, editNumber}
 use Rattle.simulator.proofs.EditsLaws.{edit-there, edit-settable, edit-fits}
-use Rattle.simulator.proofs.Ports.{Off, numbers-cong}
+use Rattle.simulator.proofs.Ports.{Off, off-apart, numbers-cong}
 use Rattle.simulator.proofs.Evaluation.{is-other, const-outputs, switch-outputs, input-inputs}
 use Rattle.simulator.proofs.Sound.{outputCount, inputCount, Sound, output-off, input-off}
 use Rattle.simulator.proofs.Held.{Held}
@@ -100,11 +100,7 @@ module _ (n i v : ℕ) (first count : ℕ → ℕ) (one : count i ≡ 1)
     (off : (d j : ℕ) → d < n → (d ≡ i → ⊥) → j < count d → Off (first i) (count i) (first d + j)) (l : List ℕ) where
   -- It is no port of another component, and those are left.
   only-apart : (d j : ℕ) → d < n → (d ≡ i → ⊥) → j < count d → first d + j ≡ first i → ⊥
-  only-apart d j q ne u e = by-side (off d j q ne u)
-    where
-      by-side : Off (first i) (count i) (first d + j) → ⊥
-      by-side (inl a) = omega arith
-      by-side (inr a) = omega arith
+  only-apart d j q ne u e = off-apart (first i) (count i) (first d + j) 0 (off d j q ne u) (omega arith) (omega arith)
 
   only-others : (d j : ℕ) → d < n → (d ≡ i → ⊥) → j < count d
       → getD (set l (first i) v) (first d + j) 0 ≡ getD l (first d + j) 0

@@ -1,6 +1,7 @@
 -- The invariant behind demand 3: what rounds and edits leave undone is named in one of the three lists.
 -- docs/SPECIFICATION.md, "Rounds".
 --   Fits T t s i       an evaluation of component i at time t would change nothing
+--   Clocks T xs        the list xs names every Clock
 --   Named s i          one of the three lists names i
 --   Awaits T ran s i   so it is, and where a round has run i is no Clock
 --   Inv T ran t s      between calls: whether a round has run, and the time of the last
@@ -45,6 +46,10 @@ pub data Named (s : State) (i : ℕ) : Type 0 where
   next : In i (s .following) → Named s i
   later : In i (s .standing) → Named s i
 
+-- A list names every Clock.
+abbrev pub Clocks : Tables → List ℕ → Type 0
+Clocks T xs = (i : ℕ) → i < T .counts .components → clocked T i ≡ true → In i xs
+
 -- Component i is named and, where a round has run, no Clock.
 abbrev pub Awaits : Tables → Bool → State → ℕ → Type 0
 Awaits T ran s i = ((ran && clocked T i) ≡ false) × Named s i
@@ -55,9 +60,9 @@ pub record Inv (T : Tables) (ran : Bool) (t : ℕ) (s : State) : Type 0 where
   pub wired : (w : Wire) → In w (wiresIn T)
       → Agree T s w ⊎ Awaits T ran s (w .src .comp)
   pub fitted : (i : ℕ) → i < T .counts .components → Fits T t s i ⊎ Awaits T ran s i
-  pub clock-current : (i : ℕ) → i < T .counts .components → clocked T i ≡ true → In i (s .current)
-  pub clock-following : (i : ℕ) → i < T .counts .components → clocked T i ≡ true → In i (s .following)
-  pub clock-standing : (i : ℕ) → i < T .counts .components → clocked T i ≡ true → In i (s .standing)
+  pub clock-current : Clocks T (s .current)
+  pub clock-following : Clocks T (s .following)
+  pub clock-standing : Clocks T (s .standing)
 
 pub data Due (T : Tables) (rest : List ℕ) (s : State) (i : ℕ) : Type 0 where
   in-rest : In i rest → Due T rest s i
@@ -68,8 +73,8 @@ pub record Mid (T : Tables) (t : ℕ) (rest : List ℕ) (todo : List Wire) (s : 
   pub held : Held T s
   pub wired : (w : Wire) → In w (wiresIn T) → Agree T s w ⊎ (Due T rest s (w .src .comp) ⊎ In w todo)
   pub fitted : (i : ℕ) → i < T .counts .components → Fits T t s i ⊎ Due T rest s i
-  pub clock-following : (i : ℕ) → i < T .counts .components → clocked T i ≡ true → In i (s .following)
-  pub clock-standing : (i : ℕ) → i < T .counts .components → clocked T i ≡ true → In i (s .standing)
+  pub clock-following : Clocks T (s .following)
+  pub clock-standing : Clocks T (s .standing)
 
 -- An evaluation of component i leaves every other name in the standing list.
 pub evaluated-standing : (T : Tables) (t i d : ℕ) (s : State) → (d ≡ i → ⊥) → In d (s .standing)
@@ -332,8 +337,8 @@ module _ (T : Tables) (g : Sound T) where
 
 -- The state as a load leaves it: the current list names every component, the two others every Clock.
 pub start-inv : (T : Tables) (t : ℕ) (s : State) → Sound T → ((i : ℕ) → i < T .counts .components → In i (s .current))
-    → ((i : ℕ) → i < T .counts .components → clocked T i ≡ true → In i (s .following))
-    → ((i : ℕ) → i < T .counts .components → clocked T i ≡ true → In i (s .standing)) → Inv T false t s
+    → Clocks T (s .following)
+    → Clocks T (s .standing) → Inv T false t s
 start-inv T t s g all fol std =
     record {
       wired = λ w m. inr (refl, now (all (w .src .comp) (g .source w m)));

@@ -25,7 +25,7 @@ module _ (T : Tables) (i v : ℕ) (e : editNumber T i v ≡ 0) where
   net : isNet T ≡ true
   net = netNumber-isNet T (edit-is-net T i v e)
 
-  pub edited-leaves : Held T (edited T i v (stateOf T))
+  edited-leaves : Held T (edited T i v (stateOf T))
   edited-leaves =
       edited-held T (isNet-wiring T full net) i v (edit-there T i v e) (stateOf T) (isNet-held T full net)
       (editNumber-editable T i v e)

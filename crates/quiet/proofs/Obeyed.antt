@@ -22,12 +22,11 @@ use Rattle.primitive.specs.Evaluate.{functionOf}
 use Rattle.flatten.specs.declared.Wire.{Wire}
 use Rattle.tables.specs.Tables.{Tables, fieldsAt, firstOutput, inputPlace, outputPlace, numbers, inputsAt, outputsAt, wiresIn, currentList, followingList, standingList, named}
 use Rattle.net.specs.Net.{netNumber}
-use Rattle.net.proofs.NetLaws.{netNumber-full, netNumber-isNet}
 use Rattle.simulator.specs.Round.{stateOf}
 use Rattle.simulator.proofs.Evaluation.{const-outputs, outputsAfter-function, functionOf-const}
 use Rattle.simulator.proofs.Sound.{Sound, net-sound}
 use Rattle.simulator.proofs.Held.{Held, Agree}
-use Rattle.simulator.proofs.Left.{isNet-held}
+use Rattle.simulator.proofs.Left.{net-held}
 use Rattle.quiet.proofs.Invariant.{clocked, Fits, Awaits, Named, now, next, later}
 use Rattle.quiet.proofs.Since.{Fresh, Since, Unbroken, since-net, since-unbroken}
 
@@ -73,7 +72,7 @@ module _ (T : Tables) (ran : Bool) (t : ℕ) (e : netNumber T ≡ 0) (a : Unbrok
   g = net-sound T e
 
   held : Held T (stateOf T)
-  held = isNet-held T (netNumber-full T e) (netNumber-isNet T e)
+  held = net-held T e
 
   -- A component that an evaluation would leave as it is follows its function, a Switch aside.
   fits-follows : (i : ℕ) → i < T .counts .components → is Switch (fieldsAt T i) ≡ false → Fits T t (stateOf T) i

@@ -15,13 +15,12 @@ use Rattle.primitive.specs.Kinds.{is}
 use Rattle.flatten.specs.declared.Wire.{Wire}
 use Rattle.tables.specs.Tables.{Tables, fieldsAt, wiresIn, currentList, followingList, standingList}
 use Rattle.net.specs.Net.{netNumber}
-use Rattle.net.proofs.NetLaws.{netNumber-full, netNumber-isNet}
 use Rattle.simulator.specs.Round.{State, stateOf, leave, round, edited as editedState, roundOf}
 use Rattle.simulator.specs.Calls.{roundTables, editNumber, editTables}
 use Rattle.simulator.proofs.Sound.{net-sound}
 use Rattle.simulator.proofs.Held.{Order, stored-order}
 use Rattle.quiet.proofs.Edited.{editNumber-editable}
-use Rattle.simulator.proofs.Left.{SameWiring, SameLengths, sameWiring-none, sameWiring-more, sameLengths-none, sameLengths-more, stateOf-leave, isNet-held}
+use Rattle.simulator.proofs.Left.{SameWiring, SameLengths, sameWiring-none, sameWiring-more, sameLengths-none, sameLengths-more, stateOf-leave, net-held}
 use Rattle.simulator.proofs.EditsLaws.{edit-is-net, edit-there}
 use Rattle.simulator.proofs.Kept.{by-number, roundTables-wiring, roundTables-lengths, roundTables-net}
 use Rattle.quiet.proofs.Kept.{editTables-wiring, editTables-lengths, editTables-net}
@@ -77,7 +76,7 @@ pub round-unbroken : (T : Tables) (ws : List Wire) → Order T ws → (ran : Boo
     → Unbroken (leave T (round T ws u (stateOf T))) true u
 round-unbroken T ws o ran t u e a =
     leave-unbroken T true u (round T ws u (stateOf T))
-    (round-inv T (net-sound T e) ws o u ran t (stateOf T) (isNet-held T (netNumber-full T e) (netNumber-isNet T e)) a)
+    (round-inv T (net-sound T e) ws o u ran t (stateOf T) (net-held T e) a)
 
 -- A round as a call keeps it: refused, it is none that has run.
 pub roundTables-unbroken : (T : Tables) (ran : Bool) (t u : ℕ) → Unbroken T ran t
@@ -102,7 +101,7 @@ editTables-unbroken T ran t i v a =
         let z = edit-is-net T i v e in
         leave-unbroken T ran t (editedState T i v (stateOf T))
         (edited-inv T (net-sound T z) ran t i v (edit-there T i v e) (stateOf T)
-        (isNet-held T (netNumber-full T z) (netNumber-isNet T z)) a (editNumber-editable T i v e))
+        (net-held T z) a (editNumber-editable T i v e))
 
 -- Whatever rounds and edits reach from a net as a load leaves it is a net: no call on it is given 2 or 16.
 pub since-net : (T₀ : Tables) → Fresh T₀ → {ran : Bool} {t : ℕ} {T : Tables} → Since T₀ ran t T → netNumber T ≡ 0

@@ -26,7 +26,7 @@ use Rattle.primitive.proofs.FitLaws.{outputsAfter-length, outputsAfter-fits}
 use Rattle.flatten.specs.declared.Wire.{Wire}
 use Rattle.tables.specs.Tables.{Tables, fieldsAt, firstInput, firstOutput, inputPlace, outputPlace, inputsAt, outputsAt, wiresIn}
 use Rattle.simulator.specs.Round.{State, wiresFrom, evaluated, send, visit, round}
-use Rattle.simulator.proofs.Ports.{Off, sets-at-ne, sets-at, numbers-length, numbers-at, numbers-fit}
+use Rattle.simulator.proofs.Ports.{off-apart, sets-at-ne, sets-at, numbers-length, numbers-at, numbers-fit}
 use Rattle.simulator.proofs.Evaluation.{const-outputs, outputsAfter-const}
 use Rattle.simulator.proofs.Sound.{outputsEnd, inputsEnd, Sound, output-off, inputs-off, input-room}
 
@@ -136,18 +136,14 @@ module _ (T : Tables) (g : Sound T) where
           (getD-set-other (s .inputs) (inputPlace T (w .dst)) (firstInput T i + j) (carried T s w) 0 p)
           ∙ a .inputs-fit i h j l
 
-      apart : (i j : ℕ) → j < fieldsAt T i .inputs → Off (firstInput T i) (fieldsAt T i .inputs) (inputPlace T (w .dst))
-          → firstInput T i + j ≡ inputPlace T (w .dst) → ⊥
-      apart i j l (inl o) e = omega arith
-      apart i j l (inr o) e = omega arith
-
       fit : (i : ℕ) → i < T .counts .components → (j : ℕ) → j < fieldsAt T i .inputs → Dec (i ≡ w .dst .comp)
           → inputFits T (written T s w .inputs) i j ≡ true
       fit i h j l (yes e) = at-input i j e h l (ℕ-discrete (firstInput T i + j) (inputPlace T (w .dst)))
       fit i h j l (no e) =
           ap (λ (x : ℕ). below x (inputWidth (fieldsAt T i)))
           (getD-set-other (s .inputs) (inputPlace T (w .dst)) (firstInput T i + j) (carried T s w) 0
-          (apart i j l (inputs-off T g i w h m (λ q. e (sym q)))))
+          (off-apart (firstInput T i) (fieldsAt T i .inputs) (inputPlace T (w .dst)) j
+          (inputs-off T g i w h m (λ q. e (sym q))) l))
           ∙ a .inputs-fit i h j l
 
       new : Held T (written T s w)

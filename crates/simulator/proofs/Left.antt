@@ -19,9 +19,9 @@ use Rattle.flatten.specs.declared.Wire.{Wire}
 use Rattle.flatten.specs.Descent.{pin}
 use Rattle.tables.specs.Tables.{Tables, fullSize, fieldsAt, firstInput, firstOutput, inputsAt, outputsAt, indexes, wiresIn, currentList, followingList, standingList}
 use Rattle.tables.proofs.SizesLaws.{Full, fullSize-sound}
-use Rattle.net.specs.Net.{countsWithin, kindsObeyed, idsDistinct, portsFollow, valuesFit, constsHeld, wiresFit, inputsOnce, names, isNet}
+use Rattle.net.specs.Net.{countsWithin, kindsObeyed, idsDistinct, portsFollow, valuesFit, constsHeld, wiresFit, inputsOnce, names, isNet, netNumber}
 use Rattle.net.proofs.ClausesLaws.{Within, countsWithin-sound}
-use Rattle.net.proofs.NetLaws.{Net, isNet-sound, isNet-complete, valuesFit-inputs, valuesFit-outputs, constsHeld-at}
+use Rattle.net.proofs.NetLaws.{Net, isNet-sound, isNet-complete, netNumber-full, netNumber-isNet, valuesFit-inputs, valuesFit-outputs, constsHeld-at}
 use Rattle.simulator.specs.Round.{State, stateOf, leave}
 use Rattle.simulator.proofs.Ports.{numbers-fit-at, numbers-fit}
 use Rattle.simulator.proofs.Clauses.{fullSize-complete, countsWithin-complete}
@@ -320,3 +320,7 @@ module _ (T : Tables) (full : fullSize T ≡ true) (net : isNet T ≡ true) wher
           following = following-kept;
           standing = standing-kept;
         })
+
+-- The state of tables whose number is 0.
+pub net-held : (T : Tables) → netNumber T ≡ 0 → Held T (stateOf T)
+net-held T z = isNet-held T (netNumber-full T z) (netNumber-isNet T z)

@@ -18,6 +18,11 @@ use Rattle.tables.specs.Tables.{numbers}
 abbrev pub Off : ℕ → ℕ → ℕ → Type 0
 Off a k j = (j < a) ⊎ (a + k ≤ j)
 
+-- So it is not the i-th of them.
+pub off-apart : (a k j i : ℕ) → Off a k j → i < k → a + i ≡ j → ⊥
+off-apart a k j i (inl o) h e = omega arith
+off-apart a k j i (inr o) h e = omega arith
+
 -- A run of stores leaves every other place, and holds what was stored at its own.
 pub sets-at-ne : (vs l : List ℕ) (i j : ℕ) → Off i (length vs) j → getD (sets l i vs) j 0 ≡ getD l j 0
 sets-at-ne [] l i j h = refl
@@ -78,11 +83,7 @@ numbers-cong l m a k h u f =
 pub numbers-set : (l : List ℕ) (a k j v : ℕ) → a + k ≤ length l → Off a k j → numbers (set l j v) a k ≡ numbers l a k
 numbers-set l a k j v h o =
     numbers-cong (set l j v) l a k (omega (arith, length-set l j v)) h
-    (λ i u. getD-set-other l j (a + i) v 0 (apart o i u))
-  where
-    apart : Off a k j → (i : ℕ) → i < k → a + i ≡ j → ⊥
-    apart (inl q) i u e = omega arith
-    apart (inr q) i u e = omega arith
+    (λ i u. getD-set-other l j (a + i) v 0 (off-apart a k j i o u))
 
 -- So does a run of stores to other places.
 pub numbers-sets : (l : List ℕ) (a k i : ℕ) (vs : List ℕ) → a + k ≤ length l → (i + length vs ≤ a) ⊎ (a + k ≤ i)

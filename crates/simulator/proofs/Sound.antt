@@ -111,8 +111,9 @@ module _ (T : Tables) (z : netNumber T ≡ 0) where
 pub wire-in : (T : Tables) (k : ℕ) → k < T .counts .wires → In (wireAt T k) (wiresIn T)
 wire-in T k h = map-complete (wireAt T) k (from 0 (T .counts .wires)) (from0-complete (T .counts .wires) k h)
 
--- Ports that stand one component's behind the other's, of n components.
+-- Ports of n components, those of each behind those of the one before.
 module _ (first count : ℕ → ℕ) (n : ℕ) (apart : (i j : ℕ) → i < j → j < n → first i + count i ≤ first j) where
+  -- Those of two components stand apart.
   beside : (i j : ℕ) → i < n → j < n → (j ≡ i → ⊥) → Beside first count i j
   beside i j h l ne = by-order (decLt i j) (decLt j i)
     where
@@ -134,7 +135,6 @@ module _ (T : Tables) (g : Sound T) where
   abbrev n : ℕ
   n = T .counts .components
 
-  -- The outputs of two components stand apart.
   pub outputs-beside : (i j : ℕ) → i < n → j < n → (j ≡ i → ⊥) → Beside (firstOutput T) (outputCount T) i j
   outputs-beside = beside (firstOutput T) (outputCount T) n (g .outputs-apart)
 
