@@ -24,12 +24,11 @@ use Rattle.leads.proofs.Primitives.{primitivesBefore-complete}
 use Rattle.tables.specs.Tables.{Tables, fieldsAt, wiresIn, numbers, firstInput, firstOutput, standingList, named}
 use Rattle.load.specs.Load.{loadVerdict, loadTables, standingAtLoad}
 use Rattle.net.specs.Net.{isNet, netNumber}
-use Rattle.loaded.proofs.SameNet.{SameNet, sameNet-refl}
 use Rattle.loaded.proofs.Drawn.{IsDrawn, PrimitiveAt, leads-leave, leads-enter}
 use Rattle.loaded.proofs.Net.{load-checked}
 use Rattle.loaded.proofs.Theorems.{accepted-net, accepted-fullSize, accepted-current, accepted-standing, accepted-following, accepted-drawn, accepted-primitive, accepted-below, accepted-leads-wired}
 use Rattle.net.proofs.NetLaws.{netNumber-0}
-use Rattle.simulator.proofs.Left.{SameWiring}
+use Rattle.tables.proofs.SameLaws.{SameWiring, sameWiring-none}
 use Rattle.quiet.proofs.Since.{Fresh, Since, started, rounded, edited, since-net, since-wiring}
 use Rattle.quiet.proofs.Obeyed.{Follows as FollowsAt, ObeyedAt, SatisfiedAt, since-obeyed}
 use Rattle.demands.specs.Reached.{Reached, loaded}
@@ -56,17 +55,6 @@ or-second : (a b : Bool) → b ≡ true → (a || b) ≡ true
 or-second true b e = refl
 or-second false b e = e
 
-same-net : {T U : Tables} → SameWiring T U → SameNet T U
-same-net s =
-    record {
-      components = s .components;
-      wires = s .wires;
-      component-count = s .component-count;
-      input-count = s .input-count;
-      output-count = s .output-count;
-      wire-count = s .wire-count;
-    }
-
 -- A load leaves a net in which every call starts afresh: all components current, every Clock standing.
 module _ (file : List ℕ) (T : Tables) (bytes : IsBytes file) (a : loadVerdict file T ≡ Accepted) where
   abbrev L : Tables
@@ -74,7 +62,7 @@ module _ (file : List ℕ) (T : Tables) (bytes : IsBytes file) (a : loadVerdict 
 
   clock-stands : (i : ℕ) → i < L .counts .components → is Clock (fieldsAt L i) ≡ true → has i (standingList L) ≡ true
   clock-stands i h e =
-      let p = accepted-primitive file T a L (sameNet-refl L) i h in
+      let p = accepted-primitive file T a L (sameWiring-none L) i h in
       let x = p .number in
       let q : (is Const (fieldsOf (recordAt file x)) || is Clock (fieldsOf (recordAt file x))) ≡ true =
       or-second (is Const (fieldsOf (recordAt file x))) (is Clock (fieldsOf (recordAt file x)))
@@ -99,7 +87,7 @@ module _ (file : List ℕ) (T : Tables) (bytes : IsBytes file) (a : loadVerdict 
       }
 
 -- What holds of the tables' wires and components holds of the drawing that was loaded.
-module _ (file : List ℕ) (T₀ : Tables) (a : loadVerdict file T₀ ≡ Accepted) (T : Tables) (same : SameNet (loadTables file T₀) T) where
+module _ (file : List ℕ) (T₀ : Tables) (a : loadVerdict file T₀ ≡ Accepted) (T : Tables) (same : SameWiring (loadTables file T₀) T) where
   abbrev at : ℕ → Record
   at = recordAt file
 
@@ -156,6 +144,6 @@ demand3 file ran t T r =
     let f = reached-from file r in
     let fresh = load-fresh file (f .lent) (f .bytes) (f .accepted) in (
       since-net (loadTables file (f .lent)) fresh (f .since),
-      obeyed file (f .lent) (f .accepted) T (same-net (since-wiring (loadTables file (f .lent)) (f .since))) ran t
+      obeyed file (f .lent) (f .accepted) T (since-wiring (loadTables file (f .lent)) (f .since)) ran t
           (since-obeyed (loadTables file (f .lent)) fresh (f .since)),
     )

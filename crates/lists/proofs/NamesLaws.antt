@@ -115,16 +115,6 @@ pub names-strike : (n x : ℕ) (xs : List ℕ) → Names n xs → Names n (strik
 names-strike n x xs a =
     record { exist = λ y u. a .exist y (strike-sound x y xs u); once = strike-distinct x xs (a .once) }
 
--- A table with a list at its front.
-
-pub overlay-list : (xs t : List ℕ) → take (length xs) (overlay xs t) ≡ xs
-unfolding overlay
-overlay-list xs t = take-append-seam xs (drop (length xs) t)
-
-pub overlay-length : (xs t : List ℕ) → length xs ≤ length t → length (overlay xs t) ≡ length t
-unfolding overlay
-overlay-length xs t h = length-append xs (drop (length xs) t) ∙ omega (arith, length-drop (length xs) t)
-
 -- Where keys do not repeat, a key tells members apart.
 pub distinct-key : {A B : Type 0} (g : A → B) (xs : List A) (a c : A) → Distinct (map g xs) → In a xs → In c xs
     → g a ≡ g c → a ≡ c

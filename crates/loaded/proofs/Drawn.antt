@@ -2,7 +2,7 @@
 -- writes neither. docs/SPECIFICATION.md, "Flattening".
 --   IsDrawn at n U         the components and wires of U are those of the drawing
 --   PrimitiveAt at n U i   the one primitive of the drawing that is component i of U
--- First that a load leaves such tables and that `SameNet` keeps them; then what is known of any such tables.
+-- First that a load leaves such tables and that `SameWiring` keeps them; then what is known of any such tables.
 -- Assumes nothing.
 use mathlib.Core.Path.{_≡_, refl, sym, ap, _∙_}
 use mathlib.Core.Bool.{Bool, true, _&&_}
@@ -32,7 +32,7 @@ use Rattle.tables.specs.Tables.{inputsAt, outputsAt, indexes, wiresIn}
 use Rattle.load.specs.Load.{primitives, loaded}
 use Rattle.net.specs.Net.{isOutput, isInput}
 use Rattle.loaded.proofs.Entries.{loaded-wires, loaded-fields, loaded-id, loaded-firstInput, loaded-firstOutput}
-use Rattle.loaded.proofs.SameNet.{SameNet, sameNet-word, sameNet-fields, sameNet-wires}
+use Rattle.tables.proofs.SameLaws.{SameWiring, sameWiring-word, sameWiring-fields, sameWiring-wires}
 
 -- The components and wires of U are those of the drawing: each primitive stands at its flat index.
 pub record IsDrawn (at : ℕ → Record) (n : ℕ) (U : Tables) : Type 0 where
@@ -61,17 +61,17 @@ loaded-drawn at n d T =
     }
 
 -- Tables with the net of a drawing's tables are the drawing's too.
-pub drawn-kept : (at : ℕ → Record) (n : ℕ) (L U : Tables) → SameNet L U → IsDrawn at n L → IsDrawn at n U
+pub drawn-kept : (at : ℕ → Record) (n : ℕ) (L U : Tables) → SameWiring L U → IsDrawn at n L → IsDrawn at n U
 drawn-kept at n L U s d =
     record {
       component-count = s .component-count ∙ d .component-count;
       input-count = s .input-count ∙ d .input-count;
       output-count = s .output-count ∙ d .output-count;
-      fields = λ c e. sameNet-fields L U s (flat at n c) ∙ d .fields c e;
-      id = λ c e. sameNet-word L U s (flat at n c) 1 ∙ d .id c e;
-      first-input = λ c e. sameNet-word L U s (flat at n c) 6 ∙ d .first-input c e;
-      first-output = λ c e. sameNet-word L U s (flat at n c) 7 ∙ d .first-output c e;
-      wires = sameNet-wires L U s ∙ d .wires;
+      fields = λ c e. sameWiring-fields L U s (flat at n c) ∙ d .fields c e;
+      id = λ c e. sameWiring-word L U s (flat at n c) 1 ∙ d .id c e;
+      first-input = λ c e. sameWiring-word L U s (flat at n c) 6 ∙ d .first-input c e;
+      first-output = λ c e. sameWiring-word L U s (flat at n c) 7 ∙ d .first-output c e;
+      wires = sameWiring-wires L U s ∙ d .wires;
     }
 
 -- Ports of primitives, f being `inputsOf` or `outputsOf`: two that have one place among all are one.

@@ -2,7 +2,6 @@ pub mod Entries
 pub mod Starting
 pub mod Ports
 pub mod Sizes
-pub mod SameNet
 pub mod Drawn
 pub mod DrawnNet
 pub mod LoadedNet

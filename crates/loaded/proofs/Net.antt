@@ -13,7 +13,8 @@ use Rattle.tables.specs.Tables.{Tables, fullSize}
 use Rattle.load.specs.Load.{loaded, loadVerdict, loadTables}
 use Rattle.load.proofs.LoadLaws.{load-passed}
 use Rattle.net.specs.Net.{isNet}
-use Rattle.loaded.proofs.Sizes.{loaded-lengths, fullSize-kept}
+use Rattle.tables.proofs.SameLaws.{sameLengths-fullSize}
+use Rattle.loaded.proofs.Sizes.{loaded-lengths}
 use Rattle.loaded.proofs.Drawn.{loaded-drawn}
 use Rattle.loaded.proofs.DrawnNet.{drawn-kindsObeyed, drawn-idsDistinct, drawn-portsFollow, drawn-wiresFit}
 use Rattle.loaded.proofs.DrawnNet.{drawn-inputsOnce}
@@ -55,7 +56,7 @@ module _ (file : List ℕ) (T : Tables) (accepted : loadVerdict file T ≡ Accep
   pub load-fullSize : fullSize (loadTables file T) ≡ true
   load-fullSize =
       ap fullSize load-loaded
-      ∙ fullSize-kept T (loaded (recordAt file) (recordCount file) T)
+      ∙ sameLengths-fullSize T (loaded (recordAt file) (recordCount file) T)
       (loaded-lengths (recordAt file) (recordCount file) load-checked T (load-passed file T accepted .full))
       (load-passed file T accepted .full)
 

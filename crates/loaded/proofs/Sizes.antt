@@ -1,6 +1,5 @@
 -- The lists and the lengths of the tables after a load. docs/SPECIFICATION.md, "Rounds" (the lists at load) and
 -- "Numbers given back" (full size).
---   SameLengths T U  each table of U is as long as that of T
 -- Assumes nothing.
 use mathlib.Core.Path.{_≡_, refl, sym, ap, _∙_}
 use mathlib.Core.Bool.{true}
@@ -17,27 +16,12 @@ use Rattle.leads.proofs.Accepted.{Passed}
 use Rattle.leads.proofs.Primitives.{primitives-bound, inputs-bound, outputs-bound}
 use Rattle.leads.proofs.FlatWires.{flatWires-bound}
 use Rattle.tables.proofs.SizesLaws.{fullSize-sound}
+use Rattle.tables.proofs.SameLaws.{SameLengths}
 use Rattle.tables.specs.Tables.{Tables, fullSize, currentList, followingList, standingList}
 use Rattle.load.specs.Load.{wireWords, primitives, componentWords, standingAtLoad, loaded}
 use Rattle.load.specs.Laying.{startingOf}
 use Rattle.load.proofs.NamesLaws.{standing-bound}
 use Rattle.load.proofs.PortsLaws.{starting-before}
-
--- Each table of U is as long as that of T.
-pub record SameLengths (T U : Tables) : Type 0 where
-  pub components : length (U .components) ≡ length (T .components)
-  pub inputs : length (U .inputs) ≡ length (T .inputs)
-  pub outputs : length (U .outputs) ≡ length (T .outputs)
-  pub wires : length (U .wires) ≡ length (T .wires)
-  pub current : length (U .current) ≡ length (T .current)
-  pub following : length (U .following) ≡ length (T .following)
-  pub standing : length (U .standing) ≡ length (T .standing)
-
--- Tables as long as some of full size are of full size.
-pub fullSize-kept : (T U : Tables) → SameLengths T U → fullSize T ≡ true → fullSize U ≡ true
-unfolding fullSize
-fullSize-kept T U s e =
-    rw (s .components, s .inputs, s .outputs, s .wires, s .current, s .following, s .standing) e
 
 -- The three lists.
 module _ (at : ℕ → Record) (n : ℕ) (T : Tables) where

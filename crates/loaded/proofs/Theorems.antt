@@ -25,9 +25,9 @@ use Rattle.load.specs.Load.{standingAtLoad, loaded, loadVerdict, loadTables}
 use Rattle.load.proofs.LoadLaws.{load-passed}
 use Rattle.net.specs.Net.{isNet}
 use Rattle.loaded.proofs.Ports.{loaded-input, loaded-outputs}
-use Rattle.loaded.proofs.Sizes.{SameLengths, loaded-current, loaded-following, loaded-standing, loaded-lengths}
+use Rattle.tables.proofs.SameLaws.{SameWiring, SameLengths}
+use Rattle.loaded.proofs.Sizes.{loaded-current, loaded-following, loaded-standing, loaded-lengths}
 use Rattle.loaded.proofs.Net.{load-checked, load-loaded, load-fullSize, load-net}
-use Rattle.loaded.proofs.SameNet.{SameNet}
 use Rattle.loaded.proofs.Drawn.{IsDrawn, loaded-drawn, drawn-kept, PrimitiveAt, drawn-primitive, drawn-below}
 use Rattle.loaded.proofs.Drawn.{leads-wired, wired-leads, wire-drawn}
 
@@ -92,7 +92,7 @@ module _ (file : List ℕ) where
           after (λ (U : Tables). followingList U ≡ standingList U)
           (loaded-following at n T ∙ sym (loaded-standing at n T))
 
-      module _ (U : Tables) (same : SameNet L U) where
+      module _ (U : Tables) (same : SameWiring L U) where
         -- The components and wires of U are those of the drawing: at the flat index of each primitive stand its
         -- fields, its id and where its ports start; the wires are those of the drawing, in order.
         pub accepted-drawn : IsDrawn at n U

@@ -5,7 +5,7 @@ use mathlib.Core.Bool.{Bool, true, false, _&&_, true≢false}
 use mathlib.Core.List.{List, [], _∷_, map}
 use Prim.Native.Nat.{ℕ, _+_, _-_, _*_, _≤_, _<_}
 use native.Mathlib.Omega.{arith}
-use borrow.Author.Tests.{leb-true, eqb-true}
+use borrow.Author.Tests.{leb-true, le-leb, eqb-true}
 use lib.ListN.{length, getD}
 use lib.Dec.{leb, ltb, eqb}
 use Rattle.lists.specs.Lists.{from, every, distinct}
@@ -47,6 +47,19 @@ countsWithin-sound m e =
       following = leb-true _ _ (p .1 .1 .1 .1 .1 .0);
       standing = leb-true _ _ (p .1 .1 .1 .1 .1 .1 .0);
     }
+
+pub countsWithin-complete : (m : Counts) → Within m → countsWithin m ≡ true
+unfolding countsWithin
+countsWithin-complete m z =
+    rw (
+      le-leb (m .components) 256 (z .components),
+      le-leb (m .inputs) 1024 (z .inputs),
+      le-leb (m .outputs) 1024 (z .outputs),
+      le-leb (m .wires) 1024 (z .wires),
+      le-leb (m .current) 256 (z .current),
+      le-leb (m .following) 256 (z .following),
+      le-leb (m .standing) 256 (z .standing),
+    )
 
 -- "components are of kinds 1 to 13, obey the table of kinds"
 module _ (T : Tables) (e : kindsObeyed T ≡ true) (i : ℕ) (h : i < T .counts .components) where

@@ -15,7 +15,8 @@ use Rattle.simulator.proofs.Sound.{isNet-wiring}
 use Rattle.simulator.proofs.Held.{Held}
 use Rattle.simulator.proofs.Kept.{by-number}
 use Rattle.quiet.proofs.Edited.{editNumber-editable, edited-held}
-use Rattle.simulator.proofs.Left.{SameWiring, SameLengths, sameWiring-none, sameLengths-none, leave-wiring, isNet-held, leave-lengths, fullSize-kept, isNet-kept}
+use Rattle.tables.proofs.SameLaws.{SameWiring, SameLengths, sameWiring-none, sameLengths-none}
+use Rattle.simulator.proofs.Left.{leave-wiring, isNet-held, leave-lengths, fullSize-kept, isNet-kept}
 
 -- An edit that is not refused: the tables are a net, and it leaves a net of full size.
 module _ (T : Tables) (i v : ℕ) (e : editNumber T i v ≡ 0) where

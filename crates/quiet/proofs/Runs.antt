@@ -7,7 +7,7 @@ use Rattle.tables.specs.Tables.{Tables}
 use Rattle.net.specs.Net.{netNumber}
 use Rattle.simulator.specs.Round.{calm}
 use Rattle.simulator.specs.Calls.{roundTables, run, runTables}
-use Rattle.simulator.proofs.Left.{SameWiring, SameLengths, sameWiring-none, sameWiring-more, sameLengths-none, sameLengths-more}
+use Rattle.tables.proofs.SameLaws.{SameWiring, SameLengths, sameWiring-none, sameWiring-more, sameLengths-none, sameLengths-more}
 use Rattle.simulator.proofs.Kept.{by-number, roundTables-wiring, roundTables-lengths, roundTables-net}
 use Rattle.quiet.proofs.Since.{Since, rounded}
 

@@ -20,7 +20,8 @@ use Rattle.simulator.specs.Calls.{roundTables, editNumber, editTables}
 use Rattle.simulator.proofs.Sound.{net-sound}
 use Rattle.simulator.proofs.Held.{Order, stored-order}
 use Rattle.quiet.proofs.Edited.{editNumber-editable}
-use Rattle.simulator.proofs.Left.{SameWiring, SameLengths, sameWiring-none, sameWiring-more, sameLengths-none, sameLengths-more, stateOf-leave, net-held}
+use Rattle.tables.proofs.SameLaws.{SameWiring, SameLengths, sameWiring-none, sameWiring-more, sameLengths-none, sameLengths-more}
+use Rattle.simulator.proofs.Left.{stateOf-leave, net-held}
 use Rattle.simulator.proofs.EditsLaws.{edit-is-net, edit-there}
 use Rattle.simulator.proofs.Kept.{by-number, roundTables-wiring, roundTables-lengths, roundTables-net}
 use Rattle.quiet.proofs.Kept.{editTables-wiring, editTables-lengths, editTables-net}

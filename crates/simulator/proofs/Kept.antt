@@ -15,7 +15,8 @@ use Rattle.simulator.specs.Round.{stateOf, leave, round, roundOf}
 use Rattle.simulator.specs.Calls.{after, roundTables}
 use Rattle.simulator.proofs.Sound.{Sound, isNet-wiring}
 use Rattle.simulator.proofs.Held.{Held, Order, stored-order, round-held}
-use Rattle.simulator.proofs.Left.{SameWiring, SameLengths, sameWiring-none, sameLengths-none, leave-wiring, isNet-held, leave-lengths, fullSize-kept, isNet-kept}
+use Rattle.tables.proofs.SameLaws.{SameWiring, SameLengths, sameWiring-none, sameLengths-none}
+use Rattle.simulator.proofs.Left.{leave-wiring, isNet-held, leave-lengths, fullSize-kept, isNet-kept}
 
 -- On a net of full size.
 module _ (T : Tables) (full : fullSize T ≡ true) (net : isNet T ≡ true) where

@@ -11,20 +11,21 @@ use lib.ListN.{length, getD}
 use lib.Dec.{eqb}
 use Rattle.lists.specs.Lists.{from, every}
 use Rattle.lists.proofs.MembersLaws.{every-complete, from0-sound}
-use Rattle.lists.proofs.NamesLaws.{Names, names-sound, names-complete, names-length, overlay-list, overlay-length}
+use Rattle.lists.proofs.NamesLaws.{Names, names-sound, names-complete, names-length}
+use Rattle.lists.proofs.OverlayLaws.{overlay-length, overlay-front}
 use Rattle.value.specs.Value.{below}
 use Rattle.primitive.specs.declared.kinds.Kind.the-variants.{Const}
 use Rattle.primitive.specs.Kinds.{is, inputWidth, outputWidth}
 use Rattle.flatten.specs.declared.Wire.{Wire}
 use Rattle.flatten.specs.Descent.{pin}
 use Rattle.tables.specs.Tables.{Tables, fullSize, fieldsAt, firstInput, firstOutput, inputsAt, outputsAt, indexes, wiresIn, currentList, followingList, standingList}
-use Rattle.tables.proofs.SizesLaws.{Full, fullSize-sound}
+use Rattle.tables.proofs.SizesLaws.{Full, fullSize-sound, fullSize-complete}
+use Rattle.tables.proofs.SameLaws.{SameWiring, SameLengths}
 use Rattle.net.specs.Net.{countsWithin, kindsObeyed, idsDistinct, portsFollow, valuesFit, constsHeld, wiresFit, inputsOnce, names, isNet, netNumber}
-use Rattle.net.proofs.ClausesLaws.{Within, countsWithin-sound}
+use Rattle.net.proofs.ClausesLaws.{Within, countsWithin-sound, countsWithin-complete}
 use Rattle.net.proofs.NetLaws.{Net, isNet-sound, isNet-complete, netNumber-full, netNumber-isNet, valuesFit-inputs, valuesFit-outputs, constsHeld-at}
 use Rattle.simulator.specs.Round.{State, stateOf, leave}
 use Rattle.simulator.proofs.Ports.{numbers-fit-at, numbers-fit}
-use Rattle.simulator.proofs.Clauses.{fullSize-complete, countsWithin-complete}
 use Rattle.simulator.proofs.Sound.{Sound, isNet-wiring}
 use Rattle.simulator.proofs.Held.{Held}
 
@@ -35,99 +36,10 @@ stateOf-leave T s =
     λ i. record {
       inputs = s .inputs;
       outputs = s .outputs;
-      current = overlay-list (s .current) (T .current) i;
-      following = overlay-list (s .following) (T .following) i;
-      standing = overlay-list (s .standing) (T .standing) i;
+      current = overlay-front (s .current) (T .current) i;
+      following = overlay-front (s .following) (T .following) i;
+      standing = overlay-front (s .standing) (T .standing) i;
     }
-
--- Components, wires and their counts are the same in two tables.
-pub record SameWiring (T U : Tables) : Type 0 where
-  pub components : U .components ≡ T .components
-  pub wires : U .wires ≡ T .wires
-  pub component-count : U .counts .components ≡ T .counts .components
-  pub input-count : U .counts .inputs ≡ T .counts .inputs
-  pub output-count : U .counts .outputs ≡ T .counts .outputs
-  pub wire-count : U .counts .wires ≡ T .counts .wires
-
--- Each table is as long in one as in the other.
-pub record SameLengths (T U : Tables) : Type 0 where
-  pub components : length (U .components) ≡ length (T .components)
-  pub inputs : length (U .inputs) ≡ length (T .inputs)
-  pub outputs : length (U .outputs) ≡ length (T .outputs)
-  pub wires : length (U .wires) ≡ length (T .wires)
-  pub current : length (U .current) ≡ length (T .current)
-  pub following : length (U .following) ≡ length (T .following)
-  pub standing : length (U .standing) ≡ length (T .standing)
-
-pub sameWiring-none : (T : Tables) → SameWiring T T
-sameWiring-none T =
-    record {
-      components = refl;
-      wires = refl;
-      component-count = refl;
-      input-count = refl;
-      output-count = refl;
-      wire-count = refl;
-    }
-
-pub sameLengths-none : (T : Tables) → SameLengths T T
-sameLengths-none T =
-    record {
-      components = refl;
-      inputs = refl;
-      outputs = refl;
-      wires = refl;
-      current = refl;
-      following = refl;
-      standing = refl;
-    }
-
-pub sameWiring-more : (T U W : Tables) → SameWiring T U → SameWiring U W → SameWiring T W
-sameWiring-more T U W a b =
-    record {
-      components = b .components ∙ a .components;
-      wires = b .wires ∙ a .wires;
-      component-count = b .component-count ∙ a .component-count;
-      input-count = b .input-count ∙ a .input-count;
-      output-count = b .output-count ∙ a .output-count;
-      wire-count = b .wire-count ∙ a .wire-count;
-    }
-
-pub sameLengths-more : (T U W : Tables) → SameLengths T U → SameLengths U W → SameLengths T W
-sameLengths-more T U W a b =
-    record {
-      components = b .components ∙ a .components;
-      inputs = b .inputs ∙ a .inputs;
-      outputs = b .outputs ∙ a .outputs;
-      wires = b .wires ∙ a .wires;
-      current = b .current ∙ a .current;
-      following = b .following ∙ a .following;
-      standing = b .standing ∙ a .standing;
-    }
-
--- k wires from their words.
-abbrev wiresOf : List ℕ → ℕ → List Wire
-wiresOf ws k =
-    let at : ℕ → Wire = λ q.
-    record {
-      src = pin (getD ws (4 * q) 0) (getD ws (4 * q + 1) 0);
-      dst = pin (getD ws (4 * q + 2) 0) (getD ws (4 * q + 3) 0);
-    } in
-    map at (from 0 k)
-
--- What is read off the components and the wires is then the same too.
-module _ (T U : Tables) (a : SameWiring T U) where
-  pub fieldsAt-kept : (i : ℕ) → fieldsAt U i ≡ fieldsAt T i
-  fieldsAt-kept i = rw (a .components)
-
-  pub firstInput-kept : (i : ℕ) → firstInput U i ≡ firstInput T i
-  firstInput-kept i = rw (a .components)
-
-  pub firstOutput-kept : (i : ℕ) → firstOutput U i ≡ firstOutput T i
-  firstOutput-kept i = rw (a .components)
-
-  pub wiresIn-kept : wiresIn U ≡ wiresIn T
-  wiresIn-kept = λ j. wiresOf (a .wires j) (a .wire-count j)
 
 -- What a state that is left never touches, and the clauses that speak of nothing else.
 module _ (T : Tables) (s : State) where

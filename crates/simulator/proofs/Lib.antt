@@ -3,7 +3,6 @@ pub mod QuestionsLaws
 pub mod EditsLaws
 pub mod Ports
 pub mod Evaluation
-pub mod Clauses
 pub mod Sound
 pub mod Held
 pub mod Left

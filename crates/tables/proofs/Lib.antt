@@ -2,3 +2,4 @@ pub mod PartsLaws
 pub mod NamedLaws
 pub mod RowsLaws
 pub mod SizesLaws
+pub mod SameLaws

@@ -11,8 +11,9 @@ use native.Mathlib.Numerals.{add-one}
 use native.Mathlib.Omega.{arith}
 use borrow.Author.Tests.{eq-eqb, ne-eqb}
 use lib.ListN.{length, getD, take, drop, set, length-append, length-take, take-append-drop}
-use lib.Seq.{take-suc, take-suc-set, set-split, append-snoc, getD-take, getD-set-other, length-take-le, take-append-seam, drop-cons, set-at}
+use lib.Seq.{take-suc, take-suc-set, set-split, append-snoc, getD-take, getD-set-other, length-take-le, drop-cons, set-at}
 use lib.Dec.{eqb}
+use Rattle.lists.proofs.OverlayLaws.{overlay-front}
 use Rattle.lists.specs.Lists.{has, appendNew, strike, overlay}
 use Rattle.lists.proofs.MembersLaws.{in-getD, keep-append, has-complete}
 
@@ -100,8 +101,7 @@ module _ (t u : List ℕ) (i o x : ℕ) (b : i < length t) (small : o ≤ i) (lo
 
 -- A list laid over a table is at its front, and no longer than it.
 pub overlay-list : (xs t : List ℕ) (r : ℕ) → r ≡ length xs → take r (overlay xs t) ≡ xs
-unfolding overlay
-overlay-list xs t r e = rw e (take-append-seam xs (drop (length xs) t))
+overlay-list xs t r e = rw e (overlay-front xs t)
 
 pub overlay-count : (xs t : List ℕ) (r : ℕ) → r ≡ length xs → r ≤ length (overlay xs t)
 unfolding overlay

@@ -1,10 +1,10 @@
--- What tables of full size have.
+-- What tables of full size have, taken apart and put together.
 -- Assumes nothing.
 use mathlib.Core.Path.{_≡_}
 use mathlib.Core.Bool.{true}
 use mathlib.Core.List.{[], _∷_}
-use Prim.Native.Nat.{_≤_}
-use borrow.Author.Tests.{leb-true}
+use Prim.Native.Nat.{_*_, _≤_}
+use borrow.Author.Tests.{leb-true, le-leb}
 use lib.ListN.{length}
 use lib.Dec.{leb}
 use Rattle.tables.specs.Tables.{Tables, fullSize}
@@ -36,3 +36,16 @@ fullSize-sound T e =
       following = leb-true _ _ (p .1 .1 .1 .1 .1 .0);
       standing = leb-true _ _ (p .1 .1 .1 .1 .1 .1 .0);
     }
+
+pub fullSize-complete : (T : Tables) → Full T → fullSize T ≡ true
+unfolding fullSize
+fullSize-complete T z =
+    rw (
+      le-leb (8 * 256) (length (T .components)) (z .components),
+      le-leb 1024 (length (T .inputs)) (z .inputs),
+      le-leb 1024 (length (T .outputs)) (z .outputs),
+      le-leb (4 * 1024) (length (T .wires)) (z .wires),
+      le-leb 256 (length (T .current)) (z .current),
+      le-leb 256 (length (T .following)) (z .following),
+      le-leb 256 (length (T .standing)) (z .standing),
+    )
