@@ -42,10 +42,6 @@ module _ (r : Record) where
   formOf-no-input-map h =
       not-among r 0 1 3 4 3 h (λ z. omega arith) (λ z. omega arith) (λ z. omega arith) (λ z. omega arith)
 
-  pub formOf-no-output-map : OneOf (0 ∷ 1 ∷ 2 ∷ 4 ∷ []) (tagOf the-type r) → formOf r ≡ 4 → ⊥
-  formOf-no-output-map h =
-      not-among r 0 1 2 4 4 h (λ z. omega arith) (λ z. omega arith) (λ z. omega arith) (λ z. omega arith)
-
 -- A record that is no component has no kind and no ports.
 pub fields-cases : (r : Record) → (formOf r ≡ 1) ⊎ (fieldsOf r ≡ noFields)
 fields-cases (Component o d f) = inl refl

@@ -2,9 +2,8 @@
 -- (crate loaded) and by the wires being what the drawing leads to (crate leads). Assumes nothing.
 use mathlib.Core.Path.{_≡_, refl, sym, ap, _∙_, subst}
 use mathlib.Core.Bool.{Bool, true, false, _||_}
-use mathlib.Core.List.{List, [], _∷_, map}
+use mathlib.Core.List.{List}
 use Prim.Native.Nat.{ℕ, _<_}
-use lib.Dec.{eqb}
 use Rattle.lists.specs.Lists.{has, keep}
 use Rattle.lists.proofs.MembersLaws.{In, has-complete, map-complete, keep-complete}
 use Rattle.primitive.specs.declared.kinds.Kind.the-variants.{Switch, Clock, Const}
@@ -16,16 +15,13 @@ use Rattle.component.specs.declared.Verdict.the-variants.{Accepted}
 use Rattle.component.specs.Record.{IsBytes, recordAt, recordCount, fieldsOf, isPrimitive}
 use Rattle.component.specs.Drawing.{primitivesBefore}
 use Rattle.flatten.specs.declared.Pin.{Pin}
-use Rattle.flatten.specs.declared.Wire.{Wire}
 use Rattle.flatten.specs.Descent.{flat, flatPin}
 use Rattle.flatten.specs.Leads.{Leads}
 use Rattle.leads.proofs.Wires.{wire}
 use Rattle.leads.proofs.Primitives.{primitivesBefore-complete}
 use Rattle.tables.specs.Tables.{Tables, fieldsAt, wiresIn, numbers, firstInput, firstOutput, standingList, named}
 use Rattle.load.specs.Load.{loadVerdict, loadTables, standingAtLoad}
-use Rattle.net.specs.Net.{isNet, netNumber}
-use Rattle.loaded.proofs.Drawn.{IsDrawn, PrimitiveAt, leads-leave, leads-enter}
-use Rattle.loaded.proofs.Net.{load-checked}
+use Rattle.loaded.proofs.Drawn.{IsDrawn}
 use Rattle.loaded.proofs.Theorems.{accepted-net, accepted-fullSize, accepted-current, accepted-standing, accepted-following, accepted-drawn, accepted-primitive, accepted-below, accepted-leads-wired}
 use Rattle.net.proofs.NetLaws.{netNumber-0}
 use Rattle.tables.proofs.SameLaws.{SameWiring, sameWiring-none}
@@ -33,7 +29,7 @@ use Rattle.quiet.proofs.Since.{Fresh, Since, started, rounded, edited, since-ne
 use Rattle.quiet.proofs.Obeyed.{Follows as FollowsAt, ObeyedAt, SatisfiedAt, since-obeyed}
 use Rattle.demands.specs.Reached.{Reached, loaded}
 use Rattle.demands.specs.Reached as reached
-use Rattle.demands.specs.Demand.{Equal, Follows, Satisfied, Obeyed, Demand3}
+use Rattle.demands.specs.Demand.{Follows, Satisfied, Obeyed, Demand3}
 
 -- The load that reached tables started from, and the calls since.
 record From (file : List ℕ) (ran : Bool) (t : ℕ) (T : Tables) : Type 0 where

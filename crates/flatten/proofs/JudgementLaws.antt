@@ -15,7 +15,6 @@ use lib.Seq.{drop-cons}
 use Rattle.lists.specs.Lists.{from, every, first}
 use Rattle.lists.proofs.ListsLaws.{and-left, and-right, first-here, first-next, first-none}
 use Rattle.primitive.specs.declared.answers.Refusal.{Refusal}
-use Rattle.component.specs.declared.Record.{Record}
 use Rattle.component.specs.declared.Verdict.{Verdict}
 use Rattle.component.specs.declared.Verdict.the-variants.{Accepted, Refused}
 use Rattle.component.specs.Record.{recordAt}

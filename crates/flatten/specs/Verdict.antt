@@ -1,19 +1,17 @@
 -- The judgement of a file's bytes. docs/SPECIFICATION.md, "Numbers given back" and the host's call.
 use Prim.Native.Nat.{ℕ, _+_, _*_, _%_}
-use mathlib.Core.Bool.{Bool, true, false, cond, not, _&&_}
+use mathlib.Core.Bool.{Bool, cond, not, _&&_}
 use mathlib.Core.List.{List, [], _∷_}
 use mathlib.Core.Option.{Option, none, some}
-use lib.ListN.{length, getD}
+use lib.ListN.{length}
 use lib.Dec.{eqb, leb}
 use Rattle.lists.specs.Lists.{from, first}
-use Rattle.primitive.specs.Kinds.{obeys}
 use Rattle.component.specs.declared.Record.{Record}
-use Rattle.primitive.specs.declared.answers.Refusal.{Refusal}
 use Rattle.component.specs.declared.Verdict.{Verdict}
 use Rattle.component.specs.declared.Verdict.the-variants.{Accepted, Refused}
 use Rattle.component.specs.Record.{recordAt, recordCount}
-use Rattle.component.specs.Drawing.{deepest, fails3, fails4, fails5, fails6, fails7, fails8, fails9, fails10, fails11, fails12, fails13, fails14}
-use Rattle.flatten.specs.Descent.{sourceOf, targetsOf, fails15}
+use Rattle.component.specs.Drawing.{fails3, fails4, fails5, fails6, fails7, fails8, fails9, fails10, fails11, fails12, fails13, fails14}
+use Rattle.flatten.specs.Descent.{fails15}
 
 -- A check: its number, and the positions that fail it.
 pub record Check : Type 0 where

@@ -5,7 +5,7 @@
 use mathlib.Core.Path.{_≡_, refl, sym, ap, subst, subst₂}
 use mathlib.Core.Bool.{true}
 use mathlib.Core.List.{List, [], _∷_, map}
-use Prim.Native.Nat.{ℕ, _≤_, _<_}
+use Prim.Native.Nat.{ℕ, _≤_}
 use native.Mathlib.Omega.{arith}
 use lib.ListN.{length, length-map}
 use Rattle.lists.proofs.MembersLaws.{In, Distinct, map-sound, map-complete, distinct-map}
@@ -13,12 +13,12 @@ use Rattle.component.specs.declared.Record.{Record}
 use Rattle.component.specs.Record.{isPrimitive}
 use Rattle.flatten.specs.declared.Pin.{Pin}
 use Rattle.flatten.specs.declared.Wire.{Wire}
-use Rattle.flatten.specs.Descent.{pin, wires, flat, flatPin, flatWires}
+use Rattle.flatten.specs.Descent.{pin, wires, flatPin, flatWires}
 use Rattle.flatten.specs.Leads.{Leads}
 use Rattle.leads.proofs.Accepted.{Passed}
 use Rattle.leads.proofs.Wires.{wire, wires-lead, leads-wires}
 use Rattle.leads.proofs.Ends.{wires-leave, wires-enter}
-use Rattle.leads.proofs.Primitives.{flat-inj, flat-below}
+use Rattle.leads.proofs.Primitives.{flat-inj}
 use Rattle.leads.proofs.Bound.{entered, wires-distinct, wires-bound}
 
 module _ (at : ℕ → Record) (n : ℕ) where
@@ -82,12 +82,3 @@ module _ (at : ℕ → Record) (n : ℕ) (d : Passed at n) where
   -- There are at most 1,024 flat wires,
   pub flatWires-bound : length (flatWires at n) ≤ 1024
   flatWires-bound = omega (arith, flatWires-length at n, wires-bound at n d)
-
-  -- and their ends are flat indexes that there are.
-  pub flatWires-below : (v : Wire) → In v (flatWires at n) → (v .src .comp < flat at n n) × (v .dst .comp < flat at n n)
-  flatWires-below v h =
-      let r = flatWires-sound at n v h in
-      let w = r .0 in (
-        rw (r .2) (flat-below at n d (w .src .comp) (wires-leave at n d w (r .1) .of-primitive)),
-        rw (r .2) (flat-below at n d (w .dst .comp) (wires-enter at n d w (r .1) .of-primitive)),
-      )

@@ -8,8 +8,8 @@ use mathlib.Core.List.{List, [], _∷_, _++_, map, append-nil}
 use Prim.Native.Nat.{ℕ, zero, suc, _+_, _-_, _≤_, _<_}
 use native.Mathlib.Omega.{arith}
 use borrow.Author.Tests.{eqb-false, ltb-false, not-false}
-use lib.ListN.{length, getD, take, length-append}
-use lib.Seq.{getD-append-seam, take-append-seam}
+use lib.ListN.{length, getD, length-append}
+use lib.Seq.{getD-append-seam}
 use lib.Dec.{eqb, ltb}
 use Rattle.lists.specs.Lists.{from, keep, any, total}
 use Rattle.lists.proofs.MembersLaws.{In, Distinct, or-left-false, or-right-false, any-none, keep-sound, keep-complete}
@@ -47,13 +47,6 @@ module _ (at : ℕ → Record) (n : ℕ) where
       ap (keep (λ q. isPrimitive (at q))) (from-append 0 c k)
       ∙ keep-append (λ q. isPrimitive (at q)) (from 0 c) (from (0 + c) k)
       ∙ ap (λ (x : ℕ). primitivesBefore at n c ++ keep (λ q. isPrimitive (at q)) (from x k)) b
-
-  pub primitivesBefore-prefix : (c m : ℕ) → c ≤ m
-      → primitivesBefore at n c ≡ take (flat at n c) (primitivesBefore at n m)
-  primitivesBefore-prefix c m h =
-      let a : m ≡ c + (m - c) = omega arith in
-      sym (ap (λ (x : ℕ). take (flat at n c) (primitivesBefore at n x)) a
-      ∙ ap (take (flat at n c)) (primitivesBefore-append c (m - c)) ∙ take-append-seam (primitivesBefore at n c) _)
 
   -- A primitive stands among all primitives behind those before it.
   pub primitivesBefore-split : (c m : ℕ) → isPrimitive (at c) ≡ true → c < m

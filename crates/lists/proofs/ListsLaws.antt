@@ -163,18 +163,6 @@ module _ {B : Type 0} (f : ℕ → List B) where
   pub joined-step : (q n : ℕ) → q < n → joined f (from q (n - q)) ≡ f q ++ joined f (from (q + 1) (n - (q + 1)))
   joined-step q n h = rw (from-step q n h)
 
-  pub joined-skip : (a b n : ℕ) → a ≤ b → b ≤ n → ((q : ℕ) → a ≤ q → q < b → f q ≡ [])
-      → joined f (from a (n - a)) ≡ joined f (from b (n - b))
-  joined-skip a b n h g e = by-count (b - a) a (omega arith) (λ q l k. e q l k)
-    where
-      by-count : (k a : ℕ) → a + k ≡ b → ((q : ℕ) → a ≤ q → q < b → f q ≡ [])
-          → joined f (from a (n - a)) ≡ joined f (from b (n - b))
-      by-count zero a z e = let y : a ≡ b = omega arith in ap (λ (m : ℕ). joined f (from m (n - m))) y
-      by-count (suc k) a z e =
-          joined-step a n (omega arith)
-          ∙ ap (λ (l : List B). l ++ joined f (from (a + 1) (n - (a + 1)))) (e a (omega arith) (omega arith))
-          ∙ by-count k (a + 1) (omega arith) (λ q l m. e q (omega arith) m)
-
 -- A loop that builds as it goes, against what the positions passed so far say: one position more.
 pub from-snoc : (a q : ℕ) → a ≤ q → from a (q + 1 - a) ≡ from a (q - a) ++ (q ∷ [])
 from-snoc a q h =

@@ -21,10 +21,6 @@ use Rattle.lists.proofs.ListsLaws.{and-left, and-right}
 
 -- Tests of two parts.
 
-pub and-left-false : (a b : Bool) → (a && b) ≡ false → b ≡ true → a ≡ false
-and-left-false true b e h = sym h ∙ e
-and-left-false false b e h = refl
-
 pub and-right-false : (a b : Bool) → (a && b) ≡ false → a ≡ true → b ≡ false
 and-right-false true b e h = e
 and-right-false false b e h = absurd (false≢true h)

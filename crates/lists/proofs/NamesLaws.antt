@@ -11,10 +11,9 @@ use Prim.Native.Nat.{ℕ, zero, suc, _+_, _≤_, _<_}
 use native.Mathlib.Decide.{decLt}
 use native.Mathlib.Omega.{arith}
 use borrow.Author.Tests.{ltb-true, lt-ltb, ne-eqb}
-use lib.ListN.{length, take, drop, length-append, length-drop}
-use lib.Seq.{take-append-seam}
+use lib.ListN.{length}
 use lib.Dec.{eqb, ltb}
-use Rattle.lists.specs.Lists.{from, every, total, has, distinct, appendNew, strike, overlay}
+use Rattle.lists.specs.Lists.{from, every, total, has, distinct, appendNew, strike}
 use Rattle.lists.proofs.ListsLaws.{and-left, and-right}
 use Rattle.lists.proofs.MembersLaws.{In, in-left, in-right, in-cases, has-sound, has-complete, keep-sound, keep-complete, every-sound, every-complete, Distinct, distinct-append, distinct-keep, distinct-bound, distinct-sound, distinct-complete, map-complete, total-append, from0-complete, from-length, from-last}
 

@@ -23,7 +23,7 @@ use Rattle.lists.proofs.OverlayLaws.{joined-append, joined-width}
 use Rattle.component.specs.declared.ChildNo.{ChildNo}
 use Rattle.component.specs.declared.Record.{Record}
 use Rattle.component.specs.declared.Record.the-variants.{Connection}
-use Rattle.component.specs.Record.{recordAt, recordCount, formOf, ownerOf, fromOf, outputOf, toOf, inputOf, isPrimitive}
+use Rattle.component.specs.Record.{recordAt, recordCount, formOf, ownerOf, fromOf, outputOf, isPrimitive}
 use Rattle.component.specs.declared.Verdict.the-variants.{Accepted}
 use Rattle.component.specs.Drawing.{deepest, child}
 use Rattle.component.proofs.Record.{the-type}

@@ -1,7 +1,7 @@
 -- A load: its answer and the tables it leaves. docs/SPECIFICATION.md, "Numbers given back", "Flattening" and "Rounds" (the state at load).
 use mathlib.Core.Path.{_≡_}
 use Prim.Native.Nat.{ℕ}
-use mathlib.Core.Bool.{Bool, true, false, cond, _||_}
+use mathlib.Core.Bool.{cond, _||_}
 use mathlib.Core.List.{List, [], _∷_, map}
 use lib.ListN.{length, replicate}
 use Rattle.lists.specs.Lists.{from, keep, joined, overlay}
@@ -17,7 +17,7 @@ use Rattle.flatten.specs.declared.Wire.{Wire}
 use Rattle.tables.specs.declared.Counts.{Counts}
 use Rattle.tables.specs.declared.Answer.{Answer}
 use Rattle.tables.specs.declared.Answer.the-variants.{Done, Refused as Declined}
-use Rattle.flatten.specs.Descent.{sourceOf, targetsOf, flat, flatWires}
+use Rattle.flatten.specs.Descent.{flat, flatWires}
 use Rattle.flatten.specs.Verdict.{sized, refused, verdict}
 use Rattle.tables.specs.Tables.{Tables, fullSize}
 

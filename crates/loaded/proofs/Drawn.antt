@@ -6,7 +6,6 @@
 -- Assumes nothing.
 use mathlib.Core.Path.{_≡_, refl, sym, ap, _∙_}
 use mathlib.Core.Bool.{Bool, true, _&&_}
-use mathlib.Core.List.{List}
 use Prim.Native.Nat.{ℕ, _+_, _<_}
 use native.Mathlib.Omega.{arith}
 use borrow.Author.Tests.{lt-ltb}
@@ -14,7 +13,6 @@ use lib.ListN.{getD}
 use lib.Dec.{ltb}
 use Rattle.lists.specs.Lists.{every, total}
 use Rattle.lists.proofs.MembersLaws.{In, every-complete, from0-sound}
-use Rattle.primitive.specs.declared.table.Fields.{Fields}
 use Rattle.component.specs.declared.Record.{Record}
 use Rattle.component.specs.Record.{fieldsOf, idOf, inputsOf, outputsOf, isPrimitive}
 use Rattle.component.specs.Drawing.{primitivesBefore, inputsBefore, outputsBefore}
@@ -23,12 +21,12 @@ use Rattle.flatten.specs.declared.Wire.{Wire}
 use Rattle.flatten.specs.Descent.{pin, flat, flatPin, flatWires}
 use Rattle.flatten.specs.Leads.{Leads}
 use Rattle.leads.proofs.Accepted.{Passed}
-use Rattle.leads.proofs.Wires.{wire, wires-lead, leads-wires}
-use Rattle.leads.proofs.Ends.{IsOutput, IsInput, wires-leave, wires-enter}
-use Rattle.leads.proofs.Primitives.{primitive-below, flat-below, flat-inj, flat-onto, portsBefore-within}
+use Rattle.leads.proofs.Wires.{wire, wires-lead}
+use Rattle.leads.proofs.Ends.{IsOutput, IsInput}
+use Rattle.leads.proofs.Primitives.{flat-below, flat-inj, flat-onto, portsBefore-within}
 use Rattle.leads.proofs.FlatWires.{flatWires-sound, leads-flatWires, flatWires-lead}
-use Rattle.tables.specs.Tables.{Tables, fieldsAt, idAt, firstInput, firstOutput, inputPlace, outputPlace, numbers}
-use Rattle.tables.specs.Tables.{inputsAt, outputsAt, indexes, wiresIn}
+use Rattle.tables.specs.Tables.{Tables, fieldsAt, idAt, firstInput, firstOutput, inputPlace}
+use Rattle.tables.specs.Tables.{indexes, wiresIn}
 use Rattle.load.specs.Load.{primitives, loaded}
 use Rattle.net.specs.Net.{isOutput, isInput}
 use Rattle.loaded.proofs.Entries.{loaded-wires, loaded-fields, loaded-id, loaded-firstInput, loaded-firstOutput}
@@ -99,14 +97,6 @@ pub record PrimitiveAt (at : ℕ → Record) (n : ℕ) (U : Tables) (i : ℕ) : 
   pub id-is : idAt U i ≡ idOf (at number)
   pub only : (c : ℕ) → isPrimitive (at c) ≡ true → flat at n c ≡ i → c ≡ number
 
--- What the drawing leads along starts at an output of a primitive and ends at an input of one.
-module _ (at : ℕ → Record) (n : ℕ) (p : Passed at n) where
-  pub leads-leave : (s t : Pin) → Leads at n s t → IsOutput at s
-  leads-leave s t r = wires-leave at n p (wire s t) (leads-wires at n p s t r)
-
-  pub leads-enter : (s t : Pin) → Leads at n s t → IsInput at t
-  leads-enter s t r = wires-enter at n p (wire s t) (leads-wires at n p s t r)
-
 module _ (at : ℕ → Record) (n : ℕ) (U : Tables) (d : IsDrawn at n U) where
   -- Each component of the tables is one primitive of the drawing, with its fields.
   pub drawn-primitive : (i : ℕ) → i < U .counts .components → PrimitiveAt at n U i
@@ -136,33 +126,12 @@ module _ (at : ℕ → Record) (n : ℕ) (U : Tables) (d : IsDrawn at n U) where
       → inputPlace U (flatPin at n t) ≡ inputsBefore at n (t .comp) + t .port
   drawn-inputPlace t e = ap (λ (q : ℕ). q + t .port) (d .first-input (t .comp) e)
 
-  pub drawn-outputPlace : (s : Pin) → isPrimitive (at (s .comp)) ≡ true
-      → outputPlace U (flatPin at n s) ≡ outputsBefore at n (s .comp) + s .port
-  drawn-outputPlace s e = ap (λ (q : ℕ). q + s .port) (d .first-output (s .comp) e)
-
   -- so no two inputs share a place, and no two outputs.
   pub drawn-inputPlace-inj : (s t : Pin) → IsInput at s → IsInput at t
       → inputPlace U (flatPin at n s) ≡ inputPlace U (flatPin at n t) → s ≡ t
   drawn-inputPlace-inj s t i j e =
       place-inj at n inputsOf s t (i .of-primitive) (j .of-primitive) (i .there) (j .there)
       (sym (drawn-inputPlace s (i .of-primitive)) ∙ e ∙ drawn-inputPlace t (j .of-primitive))
-
-  pub drawn-outputPlace-inj : (s t : Pin) → IsOutput at s → IsOutput at t
-      → outputPlace U (flatPin at n s) ≡ outputPlace U (flatPin at n t) → s ≡ t
-  drawn-outputPlace-inj s t i j e =
-      place-inj at n outputsOf s t (i .of-primitive) (j .of-primitive) (i .there) (j .there)
-      (sym (drawn-outputPlace s (i .of-primitive)) ∙ e ∙ drawn-outputPlace t (j .of-primitive))
-
-  -- The ports of component `flat c`, in any table of ports, are as many as the record of c has.
-  pub drawn-inputsAt : (ports : List ℕ) (c : ℕ) → isPrimitive (at c) ≡ true
-      → inputsAt U ports (flat at n c) ≡ numbers ports (firstInput U (flat at n c)) (inputsOf (at c))
-  drawn-inputsAt ports c e =
-      ap (λ (f : Fields). numbers ports (firstInput U (flat at n c)) (f .inputs)) (d .fields c e)
-
-  pub drawn-outputsAt : (ports : List ℕ) (c : ℕ) → isPrimitive (at c) ≡ true
-      → outputsAt U ports (flat at n c) ≡ numbers ports (firstOutput U (flat at n c)) (outputsOf (at c))
-  drawn-outputsAt ports c e =
-      ap (λ (f : Fields). numbers ports (firstOutput U (flat at n c)) (f .outputs)) (d .fields c e)
 
 module _ (at : ℕ → Record) (n : ℕ) (p : Passed at n) (U : Tables) (d : IsDrawn at n U) where
   -- Each primitive of the drawing is a component of the tables.
@@ -197,16 +166,3 @@ module _ (at : ℕ → Record) (n : ℕ) (p : Passed at n) (U : Tables) (d : IsD
       let own = d .fields (t .comp) (i .of-primitive) in
       let there = lt-ltb (flat at n (t .comp)) (U .counts .components) (drawn-below (t .comp) (i .of-primitive)) in
       (λ j. there j && ltb (t .port) (own j .inputs)) ∙ lt-ltb (t .port) (inputsOf (at (t .comp))) (i .there)
-
-  -- and stand within the counts.
-  pub drawn-outputPlace-below : (s : Pin) → IsOutput at s → outputPlace U (flatPin at n s) < U .counts .outputs
-  drawn-outputPlace-below s o =
-      let room = portsBefore-within at n outputsOf (s .comp) n (o .of-primitive)
-      (primitive-below at n p (s .comp) (o .of-primitive)) in
-      omega (arith, drawn-outputPlace at n U d s (o .of-primitive), o .there, d .output-count)
-
-  pub drawn-inputPlace-below : (t : Pin) → IsInput at t → inputPlace U (flatPin at n t) < U .counts .inputs
-  drawn-inputPlace-below t i =
-      let room = portsBefore-within at n inputsOf (t .comp) n (i .of-primitive)
-      (primitive-below at n p (t .comp) (i .of-primitive)) in
-      omega (arith, drawn-inputPlace at n U d t (i .of-primitive), i .there, d .input-count)

@@ -3,15 +3,13 @@
 --   Net T      the tables T pass every clause
 -- Not here: laws of countsWithin, kindsObeyed and portsFollow (ClausesLaws).
 -- Assumes nothing.
-use mathlib.Core.Path.{_≡_, refl, ap, _∙_}
+use mathlib.Core.Path.{_≡_, refl, _∙_}
 use mathlib.Core.Bool.{Bool, true, false, not, _&&_, _||_}
 use mathlib.Core.List.{List, [], _∷_, map}
 use Prim.Native.Nat.{ℕ, _+_, _*_, _≤_, _<_}
-use native.Mathlib.Decide.{decLt}
 use native.Mathlib.Omega.{arith}
 use borrow.Author.Tests.{ltb-true, eqb-true, not-false}
 use lib.ListN.{length, getD}
-use lib.Seq.{length-slice}
 use lib.Dec.{eqb, ltb}
 use Rattle.lists.specs.Lists.{from, every, distinct}
 use Rattle.lists.proofs.ListsLaws.{and-left, and-right, every-from, refusal-first, refusal-rest}
@@ -19,17 +17,16 @@ use Rattle.lists.proofs.MembersLaws.{In, Distinct, every-sound, map-complete, d
 use Rattle.value.specs.Value.{below}
 use Rattle.primitive.specs.declared.kinds.Kind.the-variants.{Const}
 use Rattle.primitive.specs.Kinds.{is, inputWidth, outputWidth}
-use Rattle.primitive.specs.Evaluate.{Own}
 use Rattle.flatten.specs.declared.Pin.{Pin}
 use Rattle.flatten.specs.declared.Wire.{Wire}
 use Rattle.tables.specs.declared.Counts.{Counts}
-use Rattle.tables.specs.Tables.{Tables, fullSize, wordIn, fieldsAt, idAt, firstInput, firstOutput, inputPlace, outputPlace, inputsAt, outputsAt, indexes, wireAt, wiresIn, currentList, followingList, standingList}
+use Rattle.tables.specs.Tables.{Tables, fullSize, wordIn, fieldsAt, firstOutput, inputPlace, inputsAt, outputsAt, wireAt, wiresIn, currentList, followingList, standingList}
 use Rattle.tables.proofs.PartsLaws.{AllTrue, parts-sound, parts-complete}
 use Rattle.tables.proofs.SizesLaws.{Full, fullSize-sound}
 use Rattle.net.specs.Net.{countsWithin, lent, kindsObeyed, idsDistinct, portsFollow, valuesFit, constsHeld, isOutput, isInput, wiresFit, inputsOnce, names, isCircuit, isNet, netNumber}
 use Rattle.net.specs.Net.{fitAt, heldAt}
 use Rattle.net.specs.Parts.{targetIn, PlacesInside}
-use Rattle.net.proofs.ClausesLaws.{Within, countsWithin-sound, portsFollow-inputsApart, portsFollow-outputsApart, portsFollow-inputs, portsFollow-outputs, kindsObeyed-at}
+use Rattle.net.proofs.ClausesLaws.{Within, countsWithin-sound, portsFollow-inputs}
 
 -- The clauses.
 pub record Net (T : Tables) : Type 0 where
@@ -105,18 +102,6 @@ module _ (T : Tables) where
         ),
       )
 
--- "distinct ids"
-module _ (T : Tables) (e : idsDistinct T ≡ true) where
-  ids-parts : AllTrue (every (λ i. below (idAt T i) 32) (indexes T) ∷ distinct (map (idAt T) (indexes T)) ∷ [])
-  unfolding idsDistinct
-  ids-parts = parts-sound (every (λ i. below (idAt T i) 32) (indexes T)) (distinct (map (idAt T) (indexes T)) ∷ []) e
-
-  pub idsDistinct-below : (i : ℕ) → i < T .counts .components → below (idAt T i) 32 ≡ true
-  idsDistinct-below i h = every-from (λ j. below (idAt T j) 32) (T .counts .components) (ids-parts .0) i h
-
-  pub idsDistinct-apart : Distinct (map (idAt T) (indexes T))
-  idsDistinct-apart = distinct-sound (map (idAt T) (indexes T)) (ids-parts .1 .0)
-
 -- "values fit", component by component.
 module _ (T : Tables) (e : valuesFit T ≡ true) (i : ℕ) (h : i < T .counts .components) where
   fit-at : fitAt (T .components) (T .inputs) (T .outputs) i ≡ true
@@ -133,19 +118,6 @@ module _ (T : Tables) (e : valuesFit T ≡ true) (i : ℕ) (h : i < T .counts .c
       and-right (every (λ x. below x (inputWidth (fieldsAt T i))) (inputsAt T (T .inputs) i))
       (every (λ x. below x (outputWidth (fieldsAt T i))) (outputsAt T (T .outputs) i)) fit-at
 
--- In tables of ports of full size, a component of a net has its own inputs and outputs and no others.
-pub net-own : (T : Tables) → Net T → (xs ys : List ℕ) → 1024 ≤ length xs → 1024 ≤ length ys → (i : ℕ)
-    → i < T .counts .components → Own (fieldsAt T i) (inputsAt T xs i) (outputsAt T ys i)
-net-own T w xs ys a b i h =
-    let few = countsWithin-sound (T .counts) (w .counts) in
-    let p : firstInput T i + fieldsAt T i .inputs ≤ length xs = omega (arith, portsFollow-inputs T (w .ports) i h) in
-    let q : firstOutput T i + fieldsAt T i .outputs ≤ length ys = omega (arith, portsFollow-outputs T (w .ports) i h) in
-    record {
-      obeyed = kindsObeyed-at T (w .kinds) i h;
-      all-inputs = length-slice (firstInput T i) (firstInput T i + fieldsAt T i .inputs) xs p ∙ omega arith;
-      all-outputs = length-slice (firstOutput T i) (firstOutput T i + fieldsAt T i .outputs) ys q ∙ omega arith;
-    }
-
 -- "each Const's output is its value"
 pub constsHeld-at : (T : Tables) → constsHeld T ≡ true → (i : ℕ) → i < T .counts .components → is Const (fieldsAt T i)
     ≡ true
@@ -157,7 +129,7 @@ constsHeld-at T e i h k =
     every-from (heldAt (T .components) (T .outputs)) (T .counts .components) e i h in
     eqb-true (getD (T .outputs) (firstOutput T i) 0) (fieldsAt T i .parameter) (rw k at p)
 
--- Ports that exist: two places are equal only where component and port are.
+-- Ports that exist, taken apart.
 module _ (T : Tables) where
   pub isOutput-comp : (s : Pin) → isOutput T s ≡ true → s .comp < T .counts .components
   isOutput-comp s e =
@@ -174,38 +146,6 @@ module _ (T : Tables) where
   pub isInput-port : (t : Pin) → isInput T t ≡ true → t .port < fieldsAt T (t .comp) .inputs
   isInput-port t e =
       ltb-true _ _ (and-right (ltb (t .comp) (T .counts .components)) (ltb (t .port) (fieldsAt T (t .comp) .inputs)) e)
-
-  -- Of ports a and b of components i and j, where ports start at f and component i has g i of them.
-  place-inj : (f g : ℕ → ℕ) (n : ℕ) → ((i j : ℕ) → i < j → j < n → f i + g i ≤ f j) → (i j a b : ℕ) → i < n → j < n
-      → a < g i
-      → b < g j → f i + a ≡ f j + b → i ≡ j
-  place-inj f g n apart i j a b hi hj ha hb e = by-order (decLt i j) (decLt j i)
-    where
-      by-order : Dec (i < j) → Dec (j < i) → i ≡ j
-      by-order (yes l) q = absurd (omega (arith, apart i j l hj))
-      by-order (no l) (yes r) = absurd (omega (arith, apart j i r hi))
-      by-order (no l) (no r) = omega arith
-
-  module _ (e : portsFollow T ≡ true) (s t : Pin) where
-    pub inputPlace-comp : isInput T s ≡ true → isInput T t ≡ true → inputPlace T s ≡ inputPlace T t → s .comp ≡ t .comp
-    inputPlace-comp a b q =
-        place-inj (firstInput T) (λ i. fieldsAt T i .inputs) (T .counts .components) (portsFollow-inputsApart T e)
-        (s .comp) (t .comp)
-        (s .port) (t .port) (isInput-comp s a) (isInput-comp t b) (isInput-port s a) (isInput-port t b) q
-
-    pub inputPlace-port : isInput T s ≡ true → isInput T t ≡ true → inputPlace T s ≡ inputPlace T t → s .port ≡ t .port
-    inputPlace-port a b q = omega (arith, q, ap (firstInput T) (inputPlace-comp a b q))
-
-    pub outputPlace-comp : isOutput T s ≡ true → isOutput T t ≡ true → outputPlace T s ≡ outputPlace T t → s .comp
-        ≡ t .comp
-    outputPlace-comp a b q =
-        place-inj (firstOutput T) (λ i. fieldsAt T i .outputs) (T .counts .components) (portsFollow-outputsApart T e)
-        (s .comp) (t .comp)
-        (s .port) (t .port) (isOutput-comp s a) (isOutput-comp t b) (isOutput-port s a) (isOutput-port t b) q
-
-    pub outputPlace-port : isOutput T s ≡ true → isOutput T t ≡ true → outputPlace T s ≡ outputPlace T t → s .port
-        ≡ t .port
-    outputPlace-port a b q = omega (arith, q, ap (firstOutput T) (outputPlace-comp a b q))
 
 -- "wires have ends that exist and equal widths"
 module _ (T : Tables) (e : wiresFit T ≡ true) (w : Wire) (h : In w (wiresIn T)) where

@@ -1,7 +1,7 @@
 -- Laws of evaluating a single component: the loop over its values, and the answer after each check.
 -- Assumes nothing.
-use mathlib.Core.Path.{_≡_, refl, sym, ap, _∙_}
-use mathlib.Core.Bool.{Bool, true, false, cond, not, _&&_, _||_}
+use mathlib.Core.Path.{_≡_, sym, ap, _∙_}
+use mathlib.Core.Bool.{Bool, true, false, not, _&&_, _||_}
 use mathlib.Core.List.{List, [], _∷_, _++_}
 use Prim.Native.Nat.{ℕ, _+_, _-_, _<_, _≤_}
 use native.Mathlib.Nat.{sub-zero, zero-add}
@@ -11,7 +11,7 @@ use lib.ListN.{length, getD, take, drop}
 use lib.Seq.{sets, sets-eq, length-take-le}
 use lib.Dec.{eqb, ltb}
 use Rattle.lists.specs.Lists.{from, every, refusal, _if_}
-use Rattle.lists.proofs.ListsLaws.{and-left, and-right, or-left, or-right, refusal-first, refusal-rest, every-fails, every-next, every-end}
+use Rattle.lists.proofs.ListsLaws.{or-left, or-right, refusal-first, refusal-rest, every-fails, every-next, every-end}
 use Rattle.value.specs.Value.{below}
 use Rattle.primitive.specs.declared.table.Fields.{Fields}
 use Rattle.primitive.specs.declared.answers.Evaluated.the-variants.{Done, Refused}
@@ -123,10 +123,6 @@ module _ (f : Fields) (xs vs ys ws : List ℕ) where
 
     pub passed-there : lacking ≡ false
     passed-there = refusal-first 2 lacking ((19 if not allFit) ∷ []) (λ q. omega arith) past-9
-
-    pub passed-fit : allFit ≡ true
-    passed-fit =
-        not-false _ (refusal-first 19 (not allFit) [] (λ q. omega arith) (refusal-rest 2 lacking ((19 if not allFit) ∷ []) (λ q. omega arith) past-9))
 
     pub passed-own : Own f (take (f .inputs) xs) (take (f .outputs) ys)
     passed-own =

@@ -1,24 +1,22 @@
 -- An evaluation leaves as many outputs as the component has, and each fits its width.
 -- Assumes nothing.
 use mathlib.Core.Path.{_≡_, refl, sym, ap, subst, _∙_}
-use mathlib.Core.Bool.{Bool, true, false, cond, not, _&&_, _||_, false≢true}
+use mathlib.Core.Bool.{Bool, true, false, not, false≢true}
 use mathlib.Core.List.{List, [], _∷_, map}
 use Prim.Native.Nat.{ℕ, zero, suc, _<_, _^_}
 use native.Mathlib.Omega.{arith}
 use borrow.Author.Tests.{lt-ltb}
 use lib.ListN.{length, getD}
-use lib.Dec.{eqb}
-use Rattle.lists.specs.Lists.{from, every, within}
-use Rattle.lists.proofs.ListsLaws.{and-left, and-right, within-most}
-use Rattle.value.specs.Value.{widest, level, below, bitOf, complement}
+use Rattle.lists.specs.Lists.{from, every}
+use Rattle.lists.proofs.ListsLaws.{and-left, within-most}
+use Rattle.value.specs.Value.{below, bitOf, complement}
 use Rattle.value.proofs.ValueLaws.{bitOf-fits, complement-fits}
 use Rattle.primitive.specs.declared.kinds.Kind.{Kind}
 use Rattle.primitive.specs.declared.kinds.Kind.the-variants.{Composite, And, Or, Not, Nand, Nor, Xor, Switch, Input, Output, Splitter, Joiner, Clock, Const}
 use Rattle.primitive.specs.declared.table.Fields.{Fields}
-use Rattle.primitive.specs.declared.table.Span.{Span}
 use Rattle.primitive.specs.Kinds.{numberOf, kindOf, primitive, obeys, row, only, inputWidth, outputWidth}
 use Rattle.primitive.specs.Evaluate.{one, allHigh, anyHigh, oddHigh, clockHigh, join, rule, outputsAfter, Own}
-use Rattle.primitive.proofs.KindsLaws.{numberOf-kindOf, kindOf-numberOf}
+use Rattle.primitive.proofs.KindsLaws.{numberOf-kindOf}
 use Rattle.primitive.proofs.RulesLaws.{join-lt}
 use Rattle.primitive.proofs.UpdateLaws.{Inside, InRow, obeyed-row, obeyed-primitive, leaves, outputsAfter-rule, outputsAfter-left}
 

@@ -3,16 +3,16 @@
 -- Assumes nothing.
 use mathlib.Core.Path.{_≡_, _∙_, refl, sym, ap, subst}
 use mathlib.Core.Bool.{Bool, true, false}
-use Prim.Native.Nat.{ℕ, zero, suc, _+_, _-_, _*_, _/_, _%_, _^_, _≤_, _<_}
-use native.Mathlib.Nat.{one-mul, mod-eq-of-lt, div-eq-of-lt, div-lt-iff-lt-mul, lt-of-lt-of-le, add-mul, mod-lt, pow-suc, sub-add-cancel}
+use Prim.Native.Nat.{ℕ, suc, _+_, _-_, _*_, _/_, _%_, _^_, _≤_, _<_}
+use native.Mathlib.Nat.{one-mul, div-eq-of-lt, div-lt-iff-lt-mul, lt-of-lt-of-le, add-mul, mod-lt, pow-suc}
 use native.Mathlib.Decide.{decLt}
 use native.Mathlib.Omega.{arith}
 use borrow.Author.Tests.{lt-ltb, le-ltb, eq-eqb, ne-eqb, ltb-true}
-use lib.Dec.{ltb, eqb}
-use lib.Pow.{pow-pos, pow-mono, pow-lt, shl-exact, shr-lt, ones-split, split}
+use lib.Dec.{eqb}
+use lib.Pow.{pow-pos, pow-mono, shl-exact, shr-lt, ones-split, split}
 use lib.Arith.{digits-div}
 use Rattle.lists.specs.Lists.{within}
-use Rattle.lists.proofs.ListsLaws.{and-left, and-right, within-least, within-most}
+use Rattle.lists.proofs.ListsLaws.{and-left, and-right, within-most}
 use Rattle.value.specs.declared.Value.{Value}
 use Rattle.value.specs.Value.{widest, level, ones, below, fits, bitOf, flipped, complement}
 
@@ -49,9 +49,6 @@ below-lt n w e = ltb-true n (2 ^ w) e
 pub level-le : (b : Bool) → level b ≤ 1
 level-le true = omega arith
 level-le false = omega arith
-
-pub level-fits : (b : Bool) → level b < 2 ^ 1
-level-fits b = omega (arith, level-le b)
 
 pub bitOf-fits : (n i : ℕ) → bitOf n i < 2 ^ 1
 bitOf-fits n i = mod-lt (n / 2 ^ i) (omega arith)

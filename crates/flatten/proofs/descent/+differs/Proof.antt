@@ -3,7 +3,7 @@
 -- Assumes nothing.
 use mathlib.Core.Path.{_≡_}
 use mathlib.Core.Logic.{⊎-elim}
-use Prim.Native.Nat.{_+_, _-_}
+use Prim.Native.Nat.{_-_, _<_}
 use native.Mathlib.Omega.{arith}
 use Rattle.lists.specs.Lists.{from, any, joined}
 use Rattle.component.specs.Record.{recordAt}
@@ -12,7 +12,7 @@ use Rattle.flatten.specs.Steps.{unlike}
 use Rattle.flatten.proofs.DescentLaws.{given, differs-bottom, differs-here, differs-start}
 use Rattle.flatten.proofs.DescentLaws.{differs-found, differs-next, differs-nothing, differs-end}
 use borrow.Author.Needs.{needs}
-use Prim.Native.Nat.{ℕ, _<_}
+use Prim.Native.Nat.{ℕ}
 use borrow.Fn.Kinds.{In}
 use borrow.Fn.PlainCycle.{Measures, is, falls, and}
 use Rattle.flatten.proofs.descent.differs.Reads as differs

@@ -1,9 +1,6 @@
 use Rattle.primitive.proofs.KindsLaws.{seenAs-unknown}
-use borrow.Author.Needs.{needs}
 use Rattle.primitive.proofs.kinds.kind_of.Statement.{statement}
 use Rattle.primitive.proofs.kinds.kind_of.Tie as tie
-use Rattle.primitive.proofs.kinds.kind_of.Reads as reads
-use Rattle.primitive.proofs.kinds.kind_of.Lts as lts
 
 returns : tie.Need-returns
 returns c = rw (c .match .keys1)

@@ -9,8 +9,6 @@ use Rattle.primitive.proofs.RulesLaws.{highs-high, highs-low, highs-end
 use borrow.Author.Needs.{needs}
 use Rattle.primitive.proofs.rules.count_high.Statement.{statement}
 use Rattle.primitive.proofs.rules.count_high.Tie as tie
-use Rattle.primitive.proofs.rules.count_high.Reads as reads
-use Rattle.primitive.proofs.rules.count_high.Lts as lts
 
 abbrev Inv-loop : tie.InvT-loop
 Inv-loop ports count₀ i₀ count i = (i ≤ length ports) × (count ≤ i) × (count + highs (drop i ports) ≡ highs ports)

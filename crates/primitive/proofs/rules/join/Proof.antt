@@ -1,5 +1,5 @@
 use mathlib.Core.Path.{_≡_, sym, ap, _∙_}
-use Prim.Native.Nat.{ℕ, _+_, _-_, _≤_}
+use Prim.Native.Nat.{ℕ, _-_, _≤_}
 use native.Mathlib.Omega.{arith}
 use lib.ListN.{length, getD, drop}
 use lib.Seq.{drop-length}
@@ -9,9 +9,6 @@ use Rattle.primitive.proofs.RulesLaws.{join-step, join-room}
 use borrow.Author.Needs.{needs}
 use Rattle.primitive.proofs.rules.join.Statement.{statement}
 use Rattle.primitive.proofs.rules.join.Tie as tie
-use Rattle.primitive.proofs.rules.join.Reads as reads
-use Rattle.primitive.proofs.rules.join.Lts as lts
-use Rattle.primitive.proofs.rules.level_of.Reads as level-of-reads
 
 abbrev Inv-loop : tie.InvT-loop
 Inv-loop ports number₀ i₀ number i = (i ≤ length ports) × (number ≡ join (drop i ports))

@@ -3,9 +3,6 @@ use mathlib.Core.Path.{ap}
 use Rattle.value.specs.declared.Value.{Value}
 use Rattle.primitive.proofs.rules.not_gate.Statement.{statement}
 use Rattle.primitive.proofs.rules.not_gate.Tie as tie
-use Rattle.primitive.proofs.rules.not_gate.Reads as reads
-use Rattle.primitive.proofs.rules.not_gate.Lts as lts
-use Rattle.value.proofs.Value.complement.Reads as complement-reads
 
 complement-requires : tie.Need-complement-requires
 complement-requires c κs = search needs

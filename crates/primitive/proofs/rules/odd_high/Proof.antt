@@ -1,9 +1,6 @@
 use borrow.Author.Needs.{needs}
 use Rattle.primitive.proofs.rules.odd_high.Statement.{statement}
 use Rattle.primitive.proofs.rules.odd_high.Tie as tie
-use Rattle.primitive.proofs.rules.odd_high.Reads as reads
-use Rattle.primitive.proofs.rules.odd_high.Lts as lts
-use Rattle.primitive.proofs.rules.count_high.Reads as count-high-reads
 
 count-high-requires : tie.Need-count-high-requires
 count-high-requires c κs = search needs

@@ -2,8 +2,6 @@ use borrow.Author.Needs.{needs}
 use Rattle.primitive.proofs.RulesLaws.{set-only}
 use Rattle.primitive.proofs.rules.put.Statement.{statement}
 use Rattle.primitive.proofs.rules.put.Tie as tie
-use Rattle.primitive.proofs.rules.put.Reads as reads
-use Rattle.primitive.proofs.rules.put.Lts as lts
 
 slice-write-outputs : tie.Need-slice-write-outputs
 slice-write-outputs c = search needs

@@ -4,10 +4,6 @@ use mathlib.Core.List.{[], _∷_}
 use Prim.Native.Nat.{ℕ}
 use Rattle.primitive.proofs.rules.put_level.Statement.{statement}
 use Rattle.primitive.proofs.rules.put_level.Tie as tie
-use Rattle.primitive.proofs.rules.put_level.Reads as reads
-use Rattle.primitive.proofs.rules.put_level.Lts as lts
-use Rattle.primitive.proofs.rules.level_of.Reads as level-of-reads
-use Rattle.primitive.proofs.rules.put.Reads as put-reads
 
 level-of-requires : tie.Need-level-of-requires
 level-of-requires c κs = search needs

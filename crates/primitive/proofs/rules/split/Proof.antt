@@ -8,9 +8,6 @@ use Rattle.primitive.proofs.RulesLaws.{split-step, split-end}
 use borrow.Author.Needs.{needs}
 use Rattle.primitive.proofs.rules.split.Statement.{statement}
 use Rattle.primitive.proofs.rules.split.Tie as tie
-use Rattle.primitive.proofs.rules.split.Reads as reads
-use Rattle.primitive.proofs.rules.split.Lts as lts
-use Rattle.value.proofs.Value.bit.Reads as bit-reads
 
 abbrev Inv-loop : tie.InvT-loop
 Inv-loop input outputs₀ value i₀ outputs i = (i ≤ length outputs) × (length outputs ≡ length outputs₀) × (take i outputs ≡ split input i)

@@ -9,7 +9,6 @@ use native.Mathlib.Omega.{arith}
 use lib.ListN.{length, getD}
 use Rattle.primitive.specs.declared.kinds.Kind.{Kind}
 use Rattle.primitive.specs.declared.kinds.Kind.the-variants.{Composite, And, Or, Not, Nand, Nor, Xor, Switch, Input, Output, Splitter, Joiner, Clock, Const}
-use Rattle.primitive.specs.declared.table.Span.{Span}
 use Rattle.primitive.specs.Kinds.{numberOf, row, only}
 use Rattle.primitive.specs.Evaluate.{one, split, rule, outputsAfter}
 use Rattle.primitive.proofs.UpdateLaws.{Inside, InRow, obeyed-row, obeyed-primitive, leaves, outputsAfter-rule, outputsAfter-left}

@@ -2,7 +2,6 @@
 -- Assumes nothing.
 use borrow.Author.Needs.{needs}
 use mathlib.Core.Path.{_≡_, sym, _∙_}
-use Prim.Native.Nat.{ℕ}
 use Rattle.primitive.specs.Evaluate.{evaluateNumber}
 use Rattle.primitive.proofs.EvaluateLaws.{there-outputs, passed-there, passed-own, refused-answer, refused-outputs, done-answer, done-outputs}
 use Rattle.primitive.proofs.single.evaluate.Statement.{statement}

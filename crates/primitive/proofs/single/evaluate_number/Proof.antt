@@ -3,7 +3,7 @@
 use borrow.Author.Needs.{needs}
 use borrow.Author.Tests.{eq-eqb, ne-eqb, le-leb, lt-leb, not-true, not-false}
 use mathlib.Core.Path.{_≡_, sym, _∙_}
-use mathlib.Core.Bool.{Bool, true, false, not, _&&_}
+use mathlib.Core.Bool.{true, false, _&&_}
 use Rattle.primitive.specs.Kinds.{kept, unknown, primitive, obeys}
 use Rattle.primitive.proofs.EvaluateLaws.{allFit, number-7, number-8, number-9, number-2, number-19, number-0, there-inputs, there-entering, there-outputs, there-leaving}
 use Rattle.primitive.proofs.single.evaluate_number.Statement.{statement}

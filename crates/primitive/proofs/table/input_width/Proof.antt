@@ -1,9 +1,6 @@
 use borrow.Author.Needs.{needs}
 use Rattle.primitive.proofs.table.input_width.Statement.{statement}
 use Rattle.primitive.proofs.table.input_width.Tie as tie
-use Rattle.primitive.proofs.table.input_width.Reads as reads
-use Rattle.primitive.proofs.table.input_width.Lts as lts
-use Rattle.primitive.proofs.table.row_of.Reads as row-of-reads
 
 row-of-requires : tie.Need-row-of-requires
 row-of-requires c κs = search needs

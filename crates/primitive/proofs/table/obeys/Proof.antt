@@ -2,10 +2,6 @@ use Rattle.primitive.specs.Kinds.{obeys}
 use borrow.Author.Needs.{needs}
 use Rattle.primitive.proofs.table.obeys.Statement.{statement}
 use Rattle.primitive.proofs.table.obeys.Tie as tie
-use Rattle.primitive.proofs.table.obeys.Reads as reads
-use Rattle.primitive.proofs.table.obeys.Lts as lts
-use Rattle.primitive.proofs.table.Span.spans.Reads as spans-reads
-use Rattle.primitive.proofs.table.row_of.Reads as row-of-reads
 
 row-of-requires : tie.Need-row-of-requires
 row-of-requires c κs = search needs

@@ -2,10 +2,6 @@ use Rattle.primitive.proofs.KindsLaws.{rowOf-known, rowOf-kept, rowOf-u
 use borrow.Author.Needs.{needs}
 use Rattle.primitive.proofs.table.row_of.Statement.{statement}
 use Rattle.primitive.proofs.table.row_of.Tie as tie
-use Rattle.primitive.proofs.table.row_of.Reads as reads
-use Rattle.primitive.proofs.table.row_of.Lts as lts
-use Rattle.primitive.proofs.kinds.kind_of.Reads as kind-of-reads
-use Rattle.primitive.proofs.table.table_row.Reads as table-row-reads
 
 kind-of-requires : tie.Need-kind-of-requires
 kind-of-requires c κs = search needs

@@ -1,11 +1,6 @@
 use borrow.Author.Needs.{needs}
 use Rattle.primitive.proofs.table.table_row.Statement.{statement}
 use Rattle.primitive.proofs.table.table_row.Tie as tie
-use Rattle.primitive.proofs.table.table_row.Reads as reads
-use Rattle.primitive.proofs.table.table_row.Lts as lts
-use Rattle.primitive.proofs.table.line.Reads as line-reads
-use Rattle.primitive.proofs.table.only.Reads as only-reads
-use Rattle.primitive.proofs.table.values.Reads as values-reads
 
 enum-told : tie.Need-enum-told
 enum-told c = search needs

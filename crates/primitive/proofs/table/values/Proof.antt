@@ -1,9 +1,6 @@
 use borrow.Author.Needs.{needs}
 use Rattle.primitive.proofs.table.values.Statement.{statement}
 use Rattle.primitive.proofs.table.values.Tie as tie
-use Rattle.primitive.proofs.table.values.Reads as reads
-use Rattle.primitive.proofs.table.values.Lts as lts
-use Rattle.value.proofs.largest.Reads as largest-reads
 
 largest-requires : tie.Need-largest-requires
 largest-requires c κs = search needs

@@ -1,7 +1,5 @@
 use Rattle.value.proofs.Value.set_from_level.Statement.{statement}
 use Rattle.value.proofs.Value.set_from_level.Tie as tie
-use Rattle.value.proofs.Value.set_from_level.Reads as reads
-use Rattle.value.proofs.Value.set_from_level.Lts as lts
 
 returns : tie.Need-returns
 returns c = rw (c .if1 .taken)
