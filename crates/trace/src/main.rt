@@ -158,8 +158,9 @@ fn commands(
     out: &mut [u8],
 ) {
     let mut left = COMMANDS;
-    while 0 < left
-        && command(
+    let mut going = true;
+    while going & (0 < left) {
+        going = command(
             components,
             inputs,
             outputs,
@@ -171,8 +172,7 @@ fn commands(
             lent,
             file,
             out,
-        )
-    {
+        );
         left -= 1;
     }
 }
