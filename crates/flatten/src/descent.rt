@@ -45,8 +45,8 @@ fn output_width_of(r: Record) -> u64
     primitive::output_width(fields_of(r))
 }
 
-// Output i of component c, down through output maps to a primitive's output, with the depth left. Crate load calls it too; both have
-// filled the index.
+// Output i of component c, down through output maps to a primitive's output, with the depth left. Crates flatten and load call
+// it, with the index filled.
 pub fn source_of(
     file: &[u8],
     n: usize,
@@ -71,7 +71,7 @@ pub fn source_of(
     source_of(file, n, children, outs, depth - 1, from, output_of(map))
 }
 
-// Where the record at q leads, if it maps input i of composite c. Crate load calls it too, with the index filled.
+// Where the record at q leads, if it maps input i of composite c. Crates flatten and load call it, with the index filled.
 pub fn enter(file: &[u8], n: usize, children: &[u16], c: usize, i: u16, q: usize) -> Entered
     requires { ⌜ IsTable 256 (child (recordAt (now file)) n) (now children) ⌝ }
     ensures { λ r. ⌜ r ≡ entered (recordAt (now (file .entry))) n c i q ⌝ }
@@ -94,8 +94,8 @@ pub fn enter(file: &[u8], n: usize, children: &[u16], c: usize, i: u16, q: usize
     Entered::To(child_of(file, n, children, c, to), input)
 }
 
-// The positions at which the input maps of composite c stand: those of the index, and all where the index has no word of c. Crate load
-// calls it too, with the index filled.
+// The positions at which the input maps of composite c stand: those of the index, and all where the index has no word of c. Crates
+// flatten and load call it, with the index filled.
 pub fn stretch_of(file: &[u8], n: usize, lo: &[u16], hi: &[u16], c: usize) -> Stretch
     requires { ⌜ IsRange (now file) n (now lo) (now hi) ⌝ }
     ensures { λ r. ⌜ IsStretch (recordAt (now (file .entry))) n c (r .first) (r .end) ⌝ }

@@ -1,6 +1,4 @@
 // Lists of components by index, each a lent table and a count of entries in use. Rule: docs/SPECIFICATION.md, "Rounds".
-// Crate simulator calls these for the three lists of a net, whose counts are within the tables, and crate load `copy` for the standing
-// list that it has laid.
 ghost use mathlib.Core.Path.{_≡_};
 ghost use Prim.Native.Nat.{_≤_};
 ghost use lib.ListN.{length, take};
@@ -21,7 +19,8 @@ fn contains(list: &[u16], count: usize, x: u16) -> bool
     false
 }
 
-// Appends x unless it is there. The answer is the new count.
+// Appends x unless it is there. The answer is the new count. Crate simulator calls it for a list of a net, which has room for every
+// component.
 pub fn append_new(list: &mut [u16], count: usize, x: u16) -> usize
     requires { ⌜ (count ≤ length (now list)) × (length (appendNew x (take count (now list))) ≤ length (now list)) ⌝ }
     ensures { λ r. ⌜ (r ≡ length (appendNew x (take count (now (list .entry))))) × (now (list .exit) ≡ overlay (appendNew x (take count (now (list .entry)))) (now (list .entry))) ⌝ }
@@ -33,7 +32,8 @@ pub fn append_new(list: &mut [u16], count: usize, x: u16) -> usize
     count + 1
 }
 
-// Strikes x, moving up what stands behind it. The answer is the new count; entries past it may have changed.
+// Strikes x, moving up what stands behind it. The answer is the new count; entries past it may have changed. Crate simulator calls it
+// for the standing list of a net.
 pub fn strike(list: &mut [u16], count: usize, x: u16) -> usize
     requires { ⌜ count ≤ length (now list) ⌝ }
     ensures { λ r. ⌜ (r ≡ length (strike x (take count (now (list .entry))))) × (take r (now (list .exit)) ≡ strike x (take count (now (list .entry)))) ⌝ }
@@ -51,7 +51,8 @@ pub fn strike(list: &mut [u16], count: usize, x: u16) -> usize
     left
 }
 
-// Copies a list of count entries to the front of another table, which keeps what it held past them.
+// Copies a list of count entries to the front of another table, which keeps what it held past them. Crate simulator calls it for the
+// lists of a net, and crate load for the standing list that it has laid.
 pub fn copy(list: &[u16], count: usize, into: &mut [u16])
     requires { ⌜ (count ≤ length (now list)) × (count ≤ length (now into)) ⌝ }
     ensures { λ _. ⌜ now (into .exit) ≡ overlay (take count (now (list .entry))) (now (into .entry)) ⌝ }
