@@ -4,24 +4,15 @@
  */
 #include "berxundar.h"
 
-/* Of the C library, declared here and not by its own headers: host/build also compiles this where those are another machine's. */
-typedef struct host_file host_file;
-host_file *fopen(const char *path, const char *mode);
-size_t fread(void *to, size_t size, size_t count, host_file *file);
-int ferror(host_file *file);
-int fclose(host_file *file);
-int printf(const char *format, ...);
-void perror(const char *what);
+#include <stdio.h>
 
 /* One byte more than the longest file that can be accepted: of a longer one this much is read, and is refused for its length. */
-#define LONGEST (24 * 1024)
-
-static uint8_t bytes[LONGEST + 1];
+static uint8_t bytes[BERXUNDAR_FILE + 1];
 
 /* Judges one file and prints its line: the exit status that it asks for. */
 static int judge(const char *path)
 {
-    host_file *file = fopen(path, "rb");
+    FILE *file = fopen(path, "rb");
     if (!file) {
         perror(path);
         return 2;

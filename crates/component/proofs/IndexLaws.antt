@@ -3,13 +3,13 @@
 --   Filling    the invariant of the pass: the table and the counts say what the records before q say
 -- Assumes nothing.
 use mathlib.Core.Path.{_≡_, refl, sym, ap, _∙_}
-use mathlib.Core.Bool.{Bool, true, false, cond, _&&_, false≢true}
+use mathlib.Core.Bool.{Bool, true, false, cond, not, _&&_, false≢true}
 use mathlib.Core.List.{List, [], _∷_, _++_}
 use Prim.Native.Nat.{ℕ, _+_, _-_, _*_, _≤_, _<_}
 use native.Mathlib.Nat.{sub-zero, mul-suc, mul-comm, mul-le-mul-left}
 use native.Mathlib.Decide.{decLt}
 use native.Mathlib.Omega.{arith}
-use borrow.Author.Tests.{eq-eqb, ne-eqb, lt-ltb, le-ltb, eqb-true, eqb-false, ltb-true, ltb-false}
+use borrow.Author.Tests.{eq-eqb, ne-eqb, lt-ltb, le-ltb, eqb-true, eqb-false, not-true, not-false, ltb-true, ltb-false}
 use lib.Dec.{eqb, ltb}
 use lib.ListN.{length, getD, set, length-set, length-append, List·getD-eq-default}
 use lib.Seq.{getD-set-same, getD-set-other}
@@ -17,7 +17,17 @@ use Rattle.lists.specs.Lists.{from, keep}
 use Rattle.lists.proofs.ListsLaws.{and-left, and-right, keep-snoc-here, keep-snoc-next, length-keep-le, getD-snoc-end}
 use Rattle.lists.proofs.ListsLaws.{getD-snoc-else}
 use Rattle.component.specs.declared.Record.{Record}
+use types.Run.{OneOf}
+use denote.Enum.Declared.{tagOf}
+use Rattle.component.specs.declared.ChildNo.{ChildNo}
+use Rattle.component.specs.declared.Says.{Says}
+use Rattle.component.specs.declared.Says.the-variants.{InputMap}
+use Rattle.component.specs.declared.Reading.{Reading}
+use Rattle.component.specs.declared.Reading.the-variants.{Taken, Refused}
 use Rattle.component.specs.Record.{recordAt, formOf, ownerOf}
+use Rattle.component.specs.Reading.{formBy, said}
+use Rattle.component.proofs.RecordLaws.{no-input-map, refused-is, taken-form, taken-owner}
+use Rattle.component.proofs.Says.{the-type}
 use Rattle.component.specs.Index.{nthOwned, putWord, putCount, widenLow, widenHigh, IsTable, IsRange}
 use Rattle.component.specs.Record.{ownedAs}
 use Rattle.component.specs.Drawing.{outMap}
@@ -52,6 +62,14 @@ module _ (w : ℕ) where
   pub cell-word : (o k l : ℕ) → w * o + k ≡ w * o + l → k ≡ l
   cell-word o k l e = omega arith
 
+-- A record of a kind and of an owner: refused; taken apart.
+module _ (t : Record) (form o : ℕ) (h : 1 ≤ form) (r : Reading) (e : said r ≡ t) where
+  pub owned-refused : {k : ℕ} → r ≡ Refused k → false ≡ ownedAs form o t
+  owned-refused k = let z : 0 ≡ form → ⊥ = λ y. omega arith in rw (refused-is t r e k, ne-eqb 0 form z)
+
+  pub owned-taken : (m : ℕ) (x : Says) (b : Bool) → r ≡ Taken m x → b ≡ eqb (formBy x) form → (b && eqb m o) ≡ ownedAs form o t
+  owned-taken m x b k d = rw (d, taken-form t r e m x k, taken-owner t r e m x k)
+
 -- The step, by the tests made: of another kind; an owner past the table; no place left for it; put into its place.
 module _ (w form : ℕ) (r : Record) (q : ℕ) (counts t : List ℕ) (o f : ℕ) (eo : o ≡ ownerOf r) (ef : f ≡ formOf r) where
   pub put-other : (f ≡ form → ⊥) → (t ≡ putWord w form r q counts t) × (counts ≡ putCount form r counts)
@@ -74,6 +92,40 @@ module _ (w form : ℕ) (r : Record) (q : ℕ) (counts t : List ℕ) (o f : ℕ)
     rw (← ef, eq-eqb f form h, ← eo, lt-ltb o 256 g, lt-ltb (getD counts o 0) w k),
     rw (← ef, eq-eqb f form h, ← eo, lt-ltb o 256 g),
   )
+
+-- The same of a record that is read: refused; then taken apart, b saying whether it is of the kind.
+module _ (w form : ℕ) (r : Reading) (q : ℕ) (counts t : List ℕ) where
+  pub put-refused : {k : ℕ} → 1 ≤ form → r ≡ Refused k
+      → (t ≡ putWord w form (said r) q counts t) × (counts ≡ putCount form (said r) counts)
+  put-refused h k =
+      put-other w form (said r) q counts t (ownerOf (said r)) (formOf (said r)) refl refl
+      (λ z. omega (arith, ap formOf (refused-is (said r) r refl k)))
+
+  module _ (o : ℕ) (x : Says) (h : r ≡ Taken o x) (b : Bool) (d : b ≡ eqb (formBy x) form) where
+    eo : o ≡ ownerOf (said r)
+    eo = sym (taken-owner (said r) r refl o x h)
+
+    ef : formBy x ≡ formOf (said r)
+    ef = sym (taken-form (said r) r refl o x h)
+
+    of-kind : not b ≡ false → formBy x ≡ form
+    of-kind k = eqb-true (formBy x) form (sym d ∙ not-false b k)
+
+    pub taken-other : not b ≡ true → (t ≡ putWord w form (said r) q counts t) × (counts ≡ putCount form (said r) counts)
+    taken-other k = put-other w form (said r) q counts t o (formBy x) eo ef (eqb-false (formBy x) form (sym d ∙ not-true b k))
+
+    module _ (k : not b ≡ false) where
+      pub taken-far : 256 ≤ o → (t ≡ putWord w form (said r) q counts t) × (counts ≡ putCount form (said r) counts)
+      taken-far g = put-far w form (said r) q counts t o (formBy x) eo ef (of-kind k) g
+
+      pub taken-full : o < 256 → w ≤ getD counts o 0
+          → (t ≡ putWord w form (said r) q counts t) × (set counts o (getD counts o 0 + 1) ≡ putCount form (said r) counts)
+      taken-full g l = put-full w form (said r) q counts t o (formBy x) eo ef (of-kind k) g l
+
+      pub taken-placed : o < 256 → getD counts o 0 < w
+          → (set t (w * o + getD counts o 0) q ≡ putWord w form (said r) q counts t)
+          × (set counts o (getD counts o 0 + 1) ≡ putCount form (said r) counts)
+      taken-placed g l = put-placed w form (said r) q counts t o (formBy x) eo ef (of-kind k) g l
 
 both-true : (a b : Bool) → a ≡ true → b ≡ true → (a && b) ≡ true
 both-true a b e d = rw (e, d)
@@ -302,6 +354,33 @@ module _ (r : Record) (q : ℕ) (lo hi : List ℕ) (c f : ℕ) (ec : c ≡ owner
     rw (← ef, eq-eqb f 3 h, ← ec, lt-ltb c 256 g, lt-ltb q (getD lo c 0) k),
     rw (← ef, eq-eqb f 3 h, ← ec, lt-ltb c 256 g),
   )
+
+-- The same of a record that is read: refused; no input map; then an input map.
+module _ (r : Reading) (q : ℕ) (lo hi : List ℕ) where
+  pub widen-refused : {k : ℕ} → r ≡ Refused k → (lo ≡ widenLow (said r) q lo) × (hi ≡ widenHigh (said r) q hi)
+  widen-refused k =
+      widen-other (said r) q lo hi (ownerOf (said r)) (formOf (said r)) refl refl
+      (λ z. omega (arith, ap formOf (refused-is (said r) r refl k)))
+
+  module _ (o : ℕ) (x : Says) (h : r ≡ Taken o x) where
+    io : o ≡ ownerOf (said r)
+    io = sym (taken-owner (said r) r refl o x h)
+
+    kf : formBy x ≡ formOf (said r)
+    kf = sym (taken-form (said r) r refl o x h)
+
+    pub map-other : OneOf (0 ∷ 1 ∷ 3 ∷ []) (tagOf the-type x) → (lo ≡ widenLow (said r) q lo) × (hi ≡ widenHigh (said r) q hi)
+    map-other k = widen-other (said r) q lo hi o (formBy x) io kf (no-input-map x k)
+
+    module _ {a d : ℕ} {t : ChildNo} (k : x ≡ InputMap a t d) where
+      pub map-far : 256 ≤ o → (lo ≡ widenLow (said r) q lo) × (hi ≡ widenHigh (said r) q hi)
+      map-far g = widen-far (said r) q lo hi o (formBy x) io kf (ap formBy k) g
+
+      pub map-later : o < 256 → getD lo o 0 ≤ q → (lo ≡ widenLow (said r) q lo) × (set hi o (q + 1) ≡ widenHigh (said r) q hi)
+      map-later g l = widen-later (said r) q lo hi o (formBy x) io kf (ap formBy k) g l
+
+      pub map-first : o < 256 → q < getD lo o 0 → (set lo o q ≡ widenLow (said r) q lo) × (set hi o (q + 1) ≡ widenHigh (said r) q hi)
+      map-first g l = widen-first (said r) q lo hi o (formBy x) io kf (ap formBy k) g l
 
 -- What a step does to the range of composite c: its low end never rises, its high end never falls, and they take in a
 -- map of c's own.

@@ -1,4 +1,3 @@
-pub mod ReaderLaws
 pub mod RecordLaws
 pub mod ScanLaws
 pub mod ChecksLaws

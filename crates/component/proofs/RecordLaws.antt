@@ -1,54 +1,246 @@
--- Laws of a record's kind: what the else of a `let .. else` knows, by the variant that its pattern names.
+-- Laws of a record taken apart: what the else of a `let .. else` knows, by the variant that its pattern names, and what a pattern that fits knows.
 -- Assumes nothing.
 use mathlib.Core.Path.{_≡_, refl, sym, ap, _∙_}
+use mathlib.Core.Bool.{Bool, true, false, cond, not, _&&_, _||_}
 use mathlib.Core.Logic.{_⊎_, inl, inr, ⊎-elim}
-use mathlib.Core.List.{[], _∷_}
-use Prim.Native.Nat.{ℕ, _+_, _%_}
+use mathlib.Core.List.{List, [], _∷_}
+use Prim.Native.Nat.{ℕ, _+_, _-_, _*_, _/_, _≤_, _<_}
 use native.Mathlib.Omega.{arith}
+use borrow.Author.Tests.{eqb-true, eqb-false, eq-eqb, ne-eqb, lt-ltb, le-ltb, lt-leb, le-leb, not-true, not-false}
+use lib.Dec.{eqb, leb, ltb}
+use lib.ListN.{length, getD, take, drop}
 use types.Run.{OneOf}
 use denote.Enum.Declared.{tagOf}
-use Rattle.component.specs.Record.{formOf, fieldsOf, noFields}
+use Rattle.lists.proofs.ListsLaws.{and-left, and-right}
+use Rattle.primitive.specs.declared.table.Fields.{Fields}
+use Rattle.component.specs.Record.{le16, le32, le64, numbersIn, bare, wellFormed, noRecord, recordIn, recordAt, formOf, ownerOf, fieldsOf, noFields}
+use Rattle.component.specs.Record.{isPrimitive}
+use Rattle.component.specs.Reading.{apart, formBy, said, number, number3, SeenAs}
+use Rattle.primitive.specs.Kinds.{primitive}
 use Rattle.component.specs.declared.Record.{Record}
-use Rattle.component.specs.declared.Record.the-variants.{Component, Connection, InputMap, OutputMap, Refused}
-use Rattle.component.proofs.Record.{the-type}
+use Rattle.component.specs.declared.ChildNo.{ChildNo}
+use Rattle.component.specs.declared.Id.{Id}
+use Rattle.component.specs.declared.Says.{Says}
+use Rattle.component.specs.declared.Says.the-variants.{Component, Connection, InputMap, OutputMap}
+use Rattle.component.specs.declared.Reading.{Reading}
+use Rattle.component.specs.declared.Reading.the-variants.{Taken, Refused}
+use Rattle.component.specs.declared.Seen.{Seen}
+use Rattle.component.specs.declared.Seen.the-variants.{Component as SeenComponent, Nothing}
+use Rattle.component.proofs.Says.{the-type}
 
--- The record kind is the variant's tag plus 1, the last variant's being 0.
-pub formOf-tag : (r : Record) → formOf r ≡ (tagOf the-type r + 1) % 5
-formOf-tag (Component o d f) = refl
-formOf-tag (Connection o a b c d) = refl
-formOf-tag (InputMap o a c d) = refl
-formOf-tag (OutputMap o a b) = refl
-formOf-tag Refused = refl
+-- The record kind and the owner of a record taken apart.
+pub form-apart : (o : ℕ) (x : Says) → formOf (apart o x) ≡ formBy x
+form-apart o (Component i f) = refl
+form-apart o (Connection a b c d) = refl
+form-apart o (InputMap a c d) = refl
+form-apart o (OutputMap a b) = refl
 
--- A tag that is one of four belongs to none but the kinds of those four.
-not-among : (r : Record) (a b c d k : ℕ) → OneOf (a ∷ b ∷ c ∷ d ∷ []) (tagOf the-type r)
-    → (k ≡ (a + 1) % 5 → ⊥) → (k ≡ (b + 1) % 5 → ⊥) → (k ≡ (c + 1) % 5 → ⊥) → (k ≡ (d + 1) % 5 → ⊥) → formOf r ≡ k → ⊥
-not-among r a b c d k h ha hb hc hd e =
-    ⊎-elim (λ z. ha (kind z)) (⊎-elim (λ z. hb (kind z)) (⊎-elim (λ z. hc (kind z)) (λ z. hd (kind z)))) h
+pub owner-apart : (o : ℕ) (x : Says) → ownerOf (apart o x) ≡ o
+owner-apart o (Component i f) = refl
+owner-apart o (Connection a b c d) = refl
+owner-apart o (InputMap a c d) = refl
+owner-apart o (OutputMap a b) = refl
+
+-- The record kind is the variant's tag plus 1.
+pub formBy-tag : (x : Says) → formBy x ≡ tagOf the-type x + 1
+formBy-tag (Component i f) = refl
+formBy-tag (Connection a b c d) = refl
+formBy-tag (InputMap a c d) = refl
+formBy-tag (OutputMap a b) = refl
+
+-- A tag that is one of three belongs to none but the kinds of those three.
+not-among : (x : Says) (a b c k : ℕ) → OneOf (a ∷ b ∷ c ∷ []) (tagOf the-type x)
+    → (k ≡ a + 1 → ⊥) → (k ≡ b + 1 → ⊥) → (k ≡ c + 1 → ⊥) → formBy x ≡ k → ⊥
+not-among x a b c k h ha hb hc e = ⊎-elim (λ z. ha (kind z)) (⊎-elim (λ z. hb (kind z)) (λ z. hc (kind z))) h
   where
-    kind : {t : ℕ} → tagOf the-type r ≡ t → k ≡ (t + 1) % 5
-    kind z = sym e ∙ formOf-tag r ∙ ap (λ (t : ℕ). (t + 1) % 5) z
+    kind : {t : ℕ} → tagOf the-type x ≡ t → k ≡ t + 1
+    kind z = sym e ∙ formBy-tag x ∙ ap (λ (t : ℕ). t + 1) z
 
-module _ (r : Record) where
-  pub formOf-no-component : OneOf (1 ∷ 2 ∷ 3 ∷ 4 ∷ []) (tagOf the-type r) → formOf r ≡ 1 → ⊥
-  formOf-no-component h =
-      not-among r 1 2 3 4 1 h (λ z. omega arith) (λ z. omega arith) (λ z. omega arith) (λ z. omega arith)
+module _ (x : Says) where
+  pub no-component : OneOf (1 ∷ 2 ∷ 3 ∷ []) (tagOf the-type x) → formBy x ≡ 1 → ⊥
+  no-component h = not-among x 1 2 3 1 h (λ z. omega arith) (λ z. omega arith) (λ z. omega arith)
 
-  pub formOf-no-connection : OneOf (0 ∷ 2 ∷ 3 ∷ 4 ∷ []) (tagOf the-type r) → formOf r ≡ 2 → ⊥
-  formOf-no-connection h =
-      not-among r 0 2 3 4 2 h (λ z. omega arith) (λ z. omega arith) (λ z. omega arith) (λ z. omega arith)
+  pub no-connection : OneOf (0 ∷ 2 ∷ 3 ∷ []) (tagOf the-type x) → formBy x ≡ 2 → ⊥
+  no-connection h = not-among x 0 2 3 2 h (λ z. omega arith) (λ z. omega arith) (λ z. omega arith)
 
-  pub formOf-no-input-map : OneOf (0 ∷ 1 ∷ 3 ∷ 4 ∷ []) (tagOf the-type r) → formOf r ≡ 3 → ⊥
-  formOf-no-input-map h =
-      not-among r 0 1 3 4 3 h (λ z. omega arith) (λ z. omega arith) (λ z. omega arith) (λ z. omega arith)
+  pub no-input-map : OneOf (0 ∷ 1 ∷ 3 ∷ []) (tagOf the-type x) → formBy x ≡ 3 → ⊥
+  no-input-map h = not-among x 0 1 3 3 h (λ z. omega arith) (λ z. omega arith) (λ z. omega arith)
+
+  pub no-output-map : OneOf (0 ∷ 1 ∷ 2 ∷ []) (tagOf the-type x) → formBy x ≡ 4 → ⊥
+  no-output-map h = not-among x 0 1 2 4 h (λ z. omega arith) (λ z. omega arith) (λ z. omega arith)
+
+-- What reading answers: a refusal; a record taken apart.
+module _ (t : Record) (r : Reading) (e : said r ≡ t) where
+  pub refused-is : {k : ℕ} → r ≡ Refused k → t ≡ noRecord
+  refused-is h = sym e ∙ ap said h
+
+  module _ (o : ℕ) (x : Says) (h : r ≡ Taken o x) where
+    pub taken-is : t ≡ apart o x
+    taken-is = sym e ∙ ap said h
+
+    pub taken-form : formOf t ≡ formBy x
+    taken-form = ap formOf taken-is ∙ form-apart o x
+
+    pub taken-owner : ownerOf t ≡ o
+    taken-owner = ap ownerOf taken-is ∙ owner-apart o x
 
 -- A record that is no component has no kind and no ports.
 pub fields-cases : (r : Record) → (formOf r ≡ 1) ⊎ (fieldsOf r ≡ noFields)
-fields-cases (Component o d f) = inl refl
-fields-cases (Connection o a b c d) = inr refl
-fields-cases (InputMap o a c d) = inr refl
-fields-cases (OutputMap o a b) = inr refl
-fields-cases Refused = inr refl
+fields-cases r = by-test (eqb (formOf r) 1) refl
+  where
+    by-test : (b : Bool) → eqb (formOf r) 1 ≡ b → (formOf r ≡ 1) ⊎ (fieldsOf r ≡ noFields)
+    by-test true e = inl (eqb-true (formOf r) 1 e)
+    by-test false e = inr (rw e)
 
-pub fieldsOf-none : (r : Record) → OneOf (1 ∷ 2 ∷ 3 ∷ 4 ∷ []) (tagOf the-type r) → noFields ≡ fieldsOf r
-fieldsOf-none r h = ⊎-elim (λ e. absurd (formOf-no-component r h e)) (λ e. sym e) (fields-cases r)
+-- A component that is seen, and none.
+module _ (t : Record) (g : Seen) (e : SeenAs g t) where
+  pub unseen : g ≡ Nothing → formOf t ≡ 1 → ⊥
+  unseen h = rw h at e
+
+  pub unseen-test : g ≡ Nothing → eqb (formOf t) 1 ≡ false
+  unseen-test h = ne-eqb (formOf t) 1 (unseen h)
+
+  pub unseen-fields : g ≡ Nothing → fieldsOf t ≡ noFields
+  unseen-fields h = rw (unseen-test h)
+
+  module _ (o : ℕ) (i : Id) (f : Fields) (h : g ≡ SeenComponent o i f) where
+    pub seen-is : t ≡ apart o (Component i f)
+    seen-is = rw h at e
+
+  pub unseen-primitive : g ≡ Nothing → false ≡ isPrimitive t
+  unseen-primitive h = rw (unseen-test h)
+
+  pub seen-primitive : (o : ℕ) (i : Id) (f : Fields) (b : Bool) → g ≡ SeenComponent o i f → b ≡ primitive f → b ≡ isPrimitive t
+  seen-primitive o i f b h k = k ∙ rw (seen-is o i f h)
+
+-- Seeing one: the record is refused; it is none; it is one.
+module _ (t : Record) (r : Reading) (e : said r ≡ t) where
+  pub sees-refused : {k : ℕ} → r ≡ Refused k → SeenAs Nothing t
+  sees-refused h z = omega (arith, ap formOf (refused-is t r e h))
+
+  pub sees-line : (o : ℕ) (x : Says) → r ≡ Taken o x → OneOf (1 ∷ 2 ∷ 3 ∷ []) (tagOf the-type x) → SeenAs Nothing t
+  sees-line o x h k z = no-component x k (sym (taken-form t r e o x h) ∙ z)
+
+  pub sees-component : (o : ℕ) (x : Says) (i : Id) (f : Fields) → r ≡ Taken o x → x ≡ Component i f → SeenAs (SeenComponent o i f) t
+  sees-component o x i f h k = taken-is t r e o x h ∙ ap (apart o) k
+
+-- Taking a record apart that check 3 passes, by its record kind.
+or-false : (a b : Bool) → b ≡ false → (a || b) ≡ true → a ≡ true
+or-false true b h e = refl
+or-false false b h e = sym h ∙ e
+
+module _ (r : Record) (w : wellFormed r ≡ true) where
+  pub take-component : r .form ≡ 1
+      → apart (r .owner) (Component (record { 0 = r .id })
+      (record { kind = r .kind; inputs = r .a; outputs = r .b; width = r .c; parameter = r .parameter })) ≡ r
+  take-component e =
+      let v : ((eqb (r .d) 0 || false) || false || false) ≡ true = rw e at w in
+      let z = sym (eqb-true (r .d) 0 (or-false _ false refl (or-false _ false refl (or-false _ false refl v)))) in
+      let y = sym e in
+      λ j. record {
+        form = y j;
+        kind = r .kind;
+        owner = r .owner;
+        a = r .a;
+        b = r .b;
+        c = r .c;
+        d = z j;
+        id = r .id;
+        parameter = r .parameter;
+      }
+
+  -- Byte 1, id and parameter are 0.
+  line-is : (f b c d : ℕ) → r .form ≡ f → bare r ≡ true → r .b ≡ b → r .c ≡ c → r .d ≡ d
+      → _≡_ {A = Record} (record { form = f; kind = 0; owner = r .owner; a = r .a; b = b; c = c; d = d; id = 0; parameter = 0 }) r
+  line-is f b c d ef h eb ec ed =
+      let two = and-left (eqb (r .kind) 0 && eqb (r .id) 0) (eqb (r .parameter) 0) h in
+      let ek = sym (eqb-true (r .kind) 0 (and-left (eqb (r .kind) 0) (eqb (r .id) 0) two)) in
+      let ei = sym (eqb-true (r .id) 0 (and-right (eqb (r .kind) 0) (eqb (r .id) 0) two)) in
+      let ep = sym (eqb-true (r .parameter) 0 (and-right (eqb (r .kind) 0 && eqb (r .id) 0) (eqb (r .parameter) 0) h)) in
+      let ef' = sym ef in
+      let eb' = sym eb in
+      let ec' = sym ec in
+      let ed' = sym ed in
+      λ j. record {
+        form = ef' j;
+        kind = ek j;
+        owner = r .owner;
+        a = r .a;
+        b = eb' j;
+        c = ec' j;
+        d = ed' j;
+        id = ei j;
+        parameter = ep j;
+      }
+
+  pub take-connection : r .form ≡ 2
+      → apart (r .owner) (Connection (record { 0 = r .a }) (r .b) (record { 0 = r .c }) (r .d)) ≡ r
+  take-connection e =
+      let v : (bare r || false || false) ≡ true = rw e at w in
+      line-is 2 (r .b) (r .c) (r .d) e (or-false _ false refl (or-false _ false refl v)) refl refl refl
+
+  pub take-input-map : r .form ≡ 3 → apart (r .owner) (InputMap (r .a) (record { 0 = r .c }) (r .d)) ≡ r
+  take-input-map e =
+      let v : ((bare r && eqb (r .b) 0) || false) ≡ true = rw e at w in
+      let u = or-false _ false refl v in
+      line-is 3 0 (r .c) (r .d) e (and-left (bare r) (eqb (r .b) 0) u) (eqb-true (r .b) 0 (and-right (bare r) (eqb (r .b) 0) u)) refl refl
+
+  pub take-output-map : (r .form ≡ 1 → ⊥) → (r .form ≡ 2 → ⊥) → (r .form ≡ 3 → ⊥)
+      → apart (r .owner) (OutputMap (record { 0 = r .a }) (r .b)) ≡ r
+  take-output-map x y z =
+      let v : (eqb (r .form) 4 && bare r && eqb (r .c) 0 && eqb (r .d) 0) ≡ true =
+      rw (ne-eqb (r .form) 1 x, ne-eqb (r .form) 2 y, ne-eqb (r .form) 3 z) at w in
+      let u = and-left (eqb (r .form) 4 && bare r && eqb (r .c) 0) (eqb (r .d) 0) v in
+      let t = and-left (eqb (r .form) 4 && bare r) (eqb (r .c) 0) u in
+      line-is 4 (r .b) 0 0 (eqb-true (r .form) 4 (and-left (eqb (r .form) 4) (bare r) t)) (and-right (eqb (r .form) 4) (bare r) t) refl
+      (eqb-true (r .c) 0 (and-right (eqb (r .form) 4 && bare r) (eqb (r .c) 0) u))
+      (eqb-true (r .d) 0 (and-right (eqb (r .form) 4 && bare r && eqb (r .c) 0) (eqb (r .d) 0) v))
+
+-- Reading: refused; taken apart.
+module _ (r : Record) (b : Bool) (e : b ≡ wellFormed r) where
+  pub read-refused : not b ≡ true → (said (Refused 3) ≡ recordIn r) × (number (Refused 3) ≡ number3 (recordIn r))
+  read-refused h = (rw (← e, not-true b h), rw (← e, not-true b h))
+
+  pub read-well : not b ≡ false → wellFormed r ≡ true
+  read-well h = sym e ∙ not-false b h
+
+  pub read-taken : (x : Says) → not b ≡ false → apart (r .owner) x ≡ r
+      → (said (Taken (r .owner) x) ≡ recordIn r) × (number (Taken (r .owner) x) ≡ number3 (recordIn r))
+  read-taken x h k =
+      let w = read-well h in
+      let z : recordIn r ≡ r = rw w in
+      (k ∙ sym z, sym (ap number3 (z ∙ sym k) ∙ by-kind x))
+    where
+      by-kind : (x : Says) → number3 (apart (r .owner) x) ≡ 0
+      by-kind (Component i f) = refl
+      by-kind (Connection a b c d) = refl
+      by-kind (InputMap a c d) = refl
+      by-kind (OutputMap a b) = refl
+
+-- A position in the file, and one past its end.
+module _ (s : List ℕ) (p : ℕ) where
+  pub recordAt-read : (x : Reading) (r : Record) → p < length s / 24 → r ≡ numbersIn (take (24 * p + 24 - 24 * p) (drop (24 * p) s))
+      → said x ≡ recordIn r → number x ≡ number3 (recordIn r) → (said x ≡ recordAt s p) × (number x ≡ number3 (recordAt s p))
+  recordAt-read x r h e a b =
+      let n : 24 * p + 24 - 24 * p ≡ 24 = omega arith in
+      let z : recordIn r ≡ recordAt s p =
+      ap recordIn (e ∙ ap (λ (n : ℕ). numbersIn (take n (drop (24 * p) s))) n) ∙ rw (lt-ltb p (length s / 24) h) in
+      (a ∙ z, b ∙ ap number3 z)
+
+  pub recordAt-past : length s / 24 ≤ p → (said (Refused 3) ≡ recordAt s p) × (number (Refused 3) ≡ number3 (recordAt s p))
+  recordAt-past h = (rw (le-ltb p (length s / 24) h), rw (le-ltb p (length s / 24) h))
+
+-- The nine numbers, each read at its offset.
+pub numbers-read : (s : List ℕ) (o a b c d i p : ℕ) → o ≡ le16 s 2 → a ≡ le16 s 4 → b ≡ le16 s 6 → c ≡ le16 s 8 → d ≡ le16 s 10
+    → i ≡ le32 s 12 → p ≡ le64 s 16
+    → _≡_ {A = Record}
+    (record { form = getD s 0 0; kind = getD s 1 0; owner = o; a = a; b = b; c = c; d = d; id = i; parameter = p }) (numbersIn s)
+numbers-read s o a b c d i p eo ea eb ec ed ei ep = rw (eo, ea, eb, ec, ed, ei, ep)
+
+-- The number of check 3 is not 0 exactly where the record is none.
+pub number3-fails : (t : Record) (n : ℕ) → n ≡ number3 t → not (eqb n 0) ≡ eqb (formOf t) 0
+number3-fails t n e = ap (λ (k : ℕ). not (eqb k 0)) e ∙ by-test (eqb (formOf t) 0)
+  where
+    by-test : (b : Bool) → not (eqb (cond b 3 0) 0) ≡ b
+    by-test true = refl
+    by-test false = refl

@@ -1,5 +1,5 @@
 -- Laws of a loop over the records of a file that makes one test T of each: the laws of ListsLaws over positions, in the
--- form in which such a loop has its facts. Record q is r, and t says whether T holds of it.
+-- form in which such a loop has its facts: t says whether T holds of the record at q.
 -- Not here: the laws over positions (ListsLaws).
 -- Assumes nothing.
 use mathlib.Core.Path.{_≡_, sym, ap, _∙_}
@@ -19,49 +19,46 @@ abbrev pub tested : List ℕ → (Record → Bool) → ℕ → Bool
 tested s T q = T (recordAt s q)
 
 module _ (s : List ℕ) (T : Record → Bool) (q n : ℕ) where
-  tested-is : (r : Record) (t b : Bool) → r ≡ recordAt s q → t ≡ T r → t ≡ b → tested s T q ≡ b
-  tested-is r t b e h d = sym (h ∙ ap T e) ∙ d
-
   -- whether one passes: this one; not this one; none
-  pub scan-any-here : (r : Record) (t x : Bool) → any (tested s T) (from q (n - q)) ≡ x → q < n
-      → r ≡ recordAt s q → t ≡ T r → t ≡ true → true ≡ x
-  scan-any-here r t x i h e d k = any-here (tested s T) q n x i h (tested-is r t true e d k)
+  pub scan-any-here : (t x : Bool) → any (tested s T) (from q (n - q)) ≡ x → q < n
+      → t ≡ T (recordAt s q) → t ≡ true → true ≡ x
+  scan-any-here t x i h d k = any-here (tested s T) q n x i h (sym d ∙ k)
 
-  pub scan-any-next : (r : Record) (t x : Bool) → any (tested s T) (from q (n - q)) ≡ x → q < n
-      → r ≡ recordAt s q → t ≡ T r → t ≡ false → any (tested s T) (from (q + 1) (n - (q + 1))) ≡ x
-  scan-any-next r t x i h e d k = any-next (tested s T) q n x i h (tested-is r t false e d k)
+  pub scan-any-next : (t x : Bool) → any (tested s T) (from q (n - q)) ≡ x → q < n
+      → t ≡ T (recordAt s q) → t ≡ false → any (tested s T) (from (q + 1) (n - (q + 1))) ≡ x
+  scan-any-next t x i h d k = any-next (tested s T) q n x i h (sym d ∙ k)
 
   pub scan-any-none : (x : Bool) → any (tested s T) (from q (n - q)) ≡ x → n ≤ q → false ≡ x
   scan-any-none x i h = any-none (tested s T) q n x i h
 
   -- the kth that passes: this one; this one counts; it does not; there is none
-  pub scan-kth-here : (r : Record) (t : Bool) (k d x : ℕ) → getD (keep (tested s T) (from q (n - q))) k d ≡ x → q < n
-      → r ≡ recordAt s q → t ≡ T r → t ≡ true → k ≡ 0 → q ≡ x
-  scan-kth-here r t k d x i h e f g z = kth-here (tested s T) q n k d x i h (tested-is r t true e f g) z
+  pub scan-kth-here : (t : Bool) (k d x : ℕ) → getD (keep (tested s T) (from q (n - q))) k d ≡ x → q < n
+      → t ≡ T (recordAt s q) → t ≡ true → k ≡ 0 → q ≡ x
+  scan-kth-here t k d x i h f g z = kth-here (tested s T) q n k d x i h (sym f ∙ g) z
 
-  pub scan-kth-counts : (r : Record) (t : Bool) (k d x : ℕ) → getD (keep (tested s T) (from q (n - q))) k d ≡ x → q < n
-      → r ≡ recordAt s q → t ≡ T r → t ≡ true → (k ≡ 0 → ⊥)
+  pub scan-kth-counts : (t : Bool) (k d x : ℕ) → getD (keep (tested s T) (from q (n - q))) k d ≡ x → q < n
+      → t ≡ T (recordAt s q) → t ≡ true → (k ≡ 0 → ⊥)
       → getD (keep (tested s T) (from (q + 1) (n - (q + 1)))) (k - 1) d ≡ x
-  scan-kth-counts r t k d x i h e f g z = kth-counts (tested s T) q n k d x i h (tested-is r t true e f g) z
+  scan-kth-counts t k d x i h f g z = kth-counts (tested s T) q n k d x i h (sym f ∙ g) z
 
-  pub scan-kth-next : (r : Record) (t : Bool) (k d x : ℕ) → getD (keep (tested s T) (from q (n - q))) k d ≡ x → q < n
-      → r ≡ recordAt s q → t ≡ T r → t ≡ false → getD (keep (tested s T) (from (q + 1) (n - (q + 1)))) k d ≡ x
-  scan-kth-next r t k d x i h e f g = kth-next (tested s T) q n k d x i h (tested-is r t false e f g)
+  pub scan-kth-next : (t : Bool) (k d x : ℕ) → getD (keep (tested s T) (from q (n - q))) k d ≡ x → q < n
+      → t ≡ T (recordAt s q) → t ≡ false → getD (keep (tested s T) (from (q + 1) (n - (q + 1)))) k d ≡ x
+  scan-kth-next t k d x i h f g = kth-next (tested s T) q n k d x i h (sym f ∙ g)
 
   pub scan-kth-none : (k d x : ℕ) → getD (keep (tested s T) (from q (n - q))) k d ≡ x → n ≤ q → d ≡ x
   scan-kth-none k d x i h = kth-none (tested s T) q n k d x i h
 
   -- how many pass, m so far: one more; no more; all
-  pub scan-length-here : (r : Record) (t : Bool) (m x : ℕ) → m + length (keep (tested s T) (from q (n - q))) ≡ x → q < n
-      → r ≡ recordAt s q → t ≡ T r → t ≡ true → (m + 1) + length (keep (tested s T) (from (q + 1) (n - (q + 1)))) ≡ x
-  scan-length-here r t m x i h e f g =
-      let z = ap (λ (b : Bool). cond {A = ℕ} b 1 0) (tested-is r t true e f g) in
+  pub scan-length-here : (t : Bool) (m x : ℕ) → m + length (keep (tested s T) (from q (n - q))) ≡ x → q < n
+      → t ≡ T (recordAt s q) → t ≡ true → (m + 1) + length (keep (tested s T) (from (q + 1) (n - (q + 1)))) ≡ x
+  scan-length-here t m x i h f g =
+      let z = ap (λ (b : Bool). cond {A = ℕ} b 1 0) (sym f ∙ g) in
       omega (arith, length-keep-step (tested s T) q n h, z)
 
-  pub scan-length-next : (r : Record) (t : Bool) (m x : ℕ) → m + length (keep (tested s T) (from q (n - q))) ≡ x → q < n
-      → r ≡ recordAt s q → t ≡ T r → t ≡ false → m + length (keep (tested s T) (from (q + 1) (n - (q + 1)))) ≡ x
-  scan-length-next r t m x i h e f g =
-      let z = ap (λ (b : Bool). cond {A = ℕ} b 1 0) (tested-is r t false e f g) in
+  pub scan-length-next : (t : Bool) (m x : ℕ) → m + length (keep (tested s T) (from q (n - q))) ≡ x → q < n
+      → t ≡ T (recordAt s q) → t ≡ false → m + length (keep (tested s T) (from (q + 1) (n - (q + 1)))) ≡ x
+  scan-length-next t m x i h f g =
+      let z = ap (λ (b : Bool). cond {A = ℕ} b 1 0) (sym f ∙ g) in
       omega (arith, length-keep-step (tested s T) q n h, z)
 
   pub scan-length-all : (m x : ℕ) → m + length (keep (tested s T) (from q (n - q))) ≡ x → n ≤ q → m ≡ x
@@ -69,13 +66,11 @@ module _ (s : List ℕ) (T : Record → Bool) (q n : ℕ) where
 
   -- the sum of what F gives of those that pass, m so far and a added here: one step; all
   module _ (F : Record → ℕ) where
-    pub scan-total-next : (r : Record) (f a m x : ℕ)
+    pub scan-total-next : (a m x : ℕ)
         → m + total (λ p. F (recordAt s p)) (keep (tested s T) (from q (n - q))) ≡ x
-        → q < n → r ≡ recordAt s q → f ≡ F r → a ≡ cond (T r) f 0
+        → q < n → a ≡ cond (T (recordAt s q)) (F (recordAt s q)) 0
         → (m + a) + total (λ p. F (recordAt s p)) (keep (tested s T) (from (q + 1) (n - (q + 1)))) ≡ x
-    scan-total-next r f a m x i h e d k =
-        let y : a ≡ cond (T (recordAt s q)) (F (recordAt s q)) 0 = k ∙ rw (d, e) in
-        omega (arith, total-keep-step (tested s T) q n (λ p. F (recordAt s p)) h, y)
+    scan-total-next a m x i h k = omega (arith, total-keep-step (tested s T) q n (λ p. F (recordAt s p)) h, k)
 
     pub scan-total-all : (m x : ℕ) → m + total (λ p. F (recordAt s p)) (keep (tested s T) (from q (n - q))) ≡ x → n ≤ q
         → m ≡ x

@@ -1,59 +1,91 @@
 // The checks 3 to 14, each of one record. Rule: docs/SPECIFICATION.md, "Numbers given back".
 // Only crate flatten calls them: over all records of a file, in number order.
 ghost use mathlib.Core.Path.{_≡_};
-ghost use mathlib.Core.Bool.{cond};
+ghost use mathlib.Core.Bool.{cond, _&&_, _||_};
 ghost use Prim.Native.Nat.{_≤_, _<_};
 ghost use lib.ListN.{length};
+ghost use lib.Dec.{eqb, leb, ltb};
 ghost use Rattle.lists.specs.Lists.{from, any};
-ghost use Rattle.component.specs.Record.{recordAt, isPrimitive};
+ghost use Rattle.component.specs.Record.{recordAt};
+ghost use Rattle.component.specs.Reading.{number3, apart, formBy};
 ghost use Rattle.component.specs.Index.{IsTable};
-ghost use Rattle.component.specs.Record.{hasId, entering, enteringAs};
-ghost use Rattle.component.specs.Drawing.{fromThere, portThere, toThere};
+ghost use Rattle.component.specs.Record.{inputsOf, outputsOf, isPrimitive, composite, hasId, enters};
+ghost use Rattle.component.specs.Reading.{EntryAs};
 ghost use Rattle.component.specs.Drawing.{child, deepest, holds, deeper, outMaps, inputsBefore, outputsBefore};
-ghost use Rattle.component.specs.Drawing.{fails3, fails4, fails5, fails6, fails7, fails8, fails9};
+ghost use Rattle.component.specs.Drawing.{fails4, fails5, fails6, fails7, fails8, fails9};
 ghost use Rattle.component.specs.Drawing.{fails10, fails11, fails12, fails13, fails14};
+use crate::ChildNo;
 use crate::Id;
-use crate::Record;
-use crate::fields::form_of;
-use crate::fields::from_of;
-use crate::fields::id_of;
-use crate::fields::input_of;
-use crate::fields::inputs_of;
-use crate::fields::is_composite;
-use crate::fields::is_primitive;
-use crate::fields::output_of;
-use crate::fields::outputs_of;
-use crate::fields::owner_of;
-use crate::fields::port_of;
-use crate::fields::to_of;
+use crate::Reading;
+use crate::Says;
+use crate::Seen;
 use crate::index::child_of;
 use crate::index::is_owned;
+use crate::reader::component_at;
 use crate::reader::record_at;
 
-// 3: the record's bytes are no record.
-pub fn check3(file: &[u8], n: usize, p: usize) -> bool
-    ensures { λ r. ⌜ r ≡ fails3 (recordAt (now (file .entry))) n p ⌝ }
+// 3: the number that refuses the record, 0 where it is taken apart.
+pub fn check3(file: &[u8], p: usize) -> u32
+    ensures { λ r. ⌜ r ≡ number3 (recordAt (now (file .entry)) p) ⌝ }
 {
-    form_of(record_at(file, p)) == 0
+    let Reading::Refused(number) = record_at(file, p) else {
+        return 0;
+    };
+    number
+}
+
+// Whether the record kind falls, or the owner among equal kinds 2 to 4.
+fn falls(here: Says, owner: u16, before: Says, was: u16) -> bool
+    ensures { λ r. ⌜ r ≡ (ltb (formBy here) (formBy before) || (eqb (formBy here) (formBy before) && leb 2 (formBy before) && ltb owner was)) ⌝ }
+{
+    match here {
+        Says::Component { .. } => match before {
+            Says::Component { .. } => false,
+            _ => true,
+        },
+        Says::Connection { .. } => match before {
+            Says::Component { .. } => false,
+            Says::Connection { .. } => owner < was,
+            _ => true,
+        },
+        Says::InputMap { .. } => match before {
+            Says::InputMap { .. } => owner < was,
+            Says::OutputMap { .. } => true,
+            _ => false,
+        },
+        Says::OutputMap { .. } => match before {
+            Says::OutputMap { .. } => owner < was,
+            _ => false,
+        },
+    }
 }
 
 // 4: kinds do not fall, nor owners among equal kinds 2 to 4; the first record is of kind 1.
-pub fn check4(file: &[u8], n: usize, p: usize) -> bool
-    ensures { λ r. ⌜ r ≡ fails4 (recordAt (now (file .entry))) n p ⌝ }
+pub fn check4(file: &[u8], p: usize) -> bool
+    ensures { λ r. ⌜ r ≡ fails4 (recordAt (now (file .entry))) p ⌝ }
 {
-    let here = record_at(file, p);
-    let form = form_of(here);
     if p == 0 {
-        return form != 1;
+        let Seen::Component { .. } = component_at(file, 0) else {
+            return true;
+        };
+        return false;
     }
-    let before = record_at(file, p - 1);
-    let was = form_of(before);
-    (form < was) | ((form == was) & (2 <= was) & (owner_of(here) < owner_of(before)))
+    let Reading::Taken { owner, says } = record_at(file, p) else {
+        return false;
+    };
+    let Reading::Taken {
+        owner: was,
+        says: before,
+    } = record_at(file, p - 1)
+    else {
+        return false;
+    };
+    falls(says, owner, before, was)
 }
 
 // Whether composite o holds component q, at most f owners up.
-fn holds(file: &[u8], n: usize, f: usize, o: usize, q: usize) -> bool
-    ensures { λ r. ⌜ r ≡ holds (recordAt (now (file .entry))) n f o q ⌝ }
+fn holds(file: &[u8], f: usize, o: usize, q: usize) -> bool
+    ensures { λ r. ⌜ r ≡ holds (recordAt (now (file .entry))) f o q ⌝ }
 {
     let mut left = f;
     let mut inner = q;
@@ -61,7 +93,10 @@ fn holds(file: &[u8], n: usize, f: usize, o: usize, q: usize) -> bool
         if inner == 0 {
             return false;
         }
-        let outer = owner_of(record_at(file, inner));
+        let Seen::Component { owner, .. } = component_at(file, inner) else {
+            return false;
+        };
+        let outer = owner as usize;
         if outer == o {
             return true;
         }
@@ -71,25 +106,37 @@ fn holds(file: &[u8], n: usize, f: usize, o: usize, q: usize) -> bool
     false
 }
 
-// 5: the root's owner is 0; any other is a composite, a component's one that is the component before or holds it.
-pub fn check5(file: &[u8], n: usize, p: usize) -> bool
-    ensures { λ r. ⌜ r ≡ fails5 (recordAt (now (file .entry))) n p ⌝ }
+// Whether a composite stands at a position of the file.
+fn is_composite_at(file: &[u8], p: usize) -> bool
+    ensures { λ r. ⌜ r ≡ composite (recordAt (now (file .entry)) p) ⌝ }
 {
-    let here = record_at(file, p);
-    let owner = owner_of(here);
+    let Seen::Component { fields, .. } = component_at(file, p) else {
+        return false;
+    };
+    fields.kind == 0
+}
+
+// 5: the root's owner is 0; any other is a composite, a component's one that is the component before or holds it.
+pub fn check5(file: &[u8], p: usize) -> bool
+    ensures { λ r. ⌜ r ≡ fails5 (recordAt (now (file .entry))) p ⌝ }
+{
+    let Reading::Taken { owner, says } = record_at(file, p) else {
+        return false;
+    };
+    let o = owner as usize;
     if p == 0 {
-        return owner != 0;
+        return o != 0;
     }
-    if !is_composite(record_at(file, owner)) {
+    if !is_composite_at(file, o) {
         return true;
     }
-    if form_of(here) != 1 {
+    let Says::Component { .. } = says else {
+        return false;
+    };
+    if o == p - 1 {
         return false;
     }
-    if owner == p - 1 {
-        return false;
-    }
-    !holds(file, n, p - 1, owner, p - 1)
+    !holds(file, p - 1, o, p - 1)
 }
 
 // The greatest depth, the root's being 1.
@@ -100,8 +147,8 @@ pub fn deepest() -> u8
 }
 
 // Whether the depth of component p is over d.
-fn deeper(file: &[u8], n: usize, d: u8, p: usize) -> bool
-    ensures { λ r. ⌜ r ≡ deeper (recordAt (now (file .entry))) n d p ⌝ }
+fn deeper(file: &[u8], d: u8, p: usize) -> bool
+    ensures { λ r. ⌜ r ≡ deeper (recordAt (now (file .entry))) d p ⌝ }
 {
     let mut left = d;
     let mut inner = p;
@@ -109,69 +156,75 @@ fn deeper(file: &[u8], n: usize, d: u8, p: usize) -> bool
         if inner == 0 {
             return false;
         }
-        inner = owner_of(record_at(file, inner));
+        let Seen::Component { owner, .. } = component_at(file, inner) else {
+            return false;
+        };
+        inner = owner as usize;
         left -= 1;
     }
     true
 }
 
 // 6: component number 256 or more, or too deep.
-pub fn check6(file: &[u8], n: usize, p: usize) -> bool
-    ensures { λ r. ⌜ r ≡ fails6 (recordAt (now (file .entry))) n p ⌝ }
+pub fn check6(file: &[u8], p: usize) -> bool
+    ensures { λ r. ⌜ r ≡ fails6 (recordAt (now (file .entry))) p ⌝ }
 {
-    if form_of(record_at(file, p)) != 1 {
+    let Seen::Component { .. } = component_at(file, p) else {
         return false;
-    }
+    };
     if 256 <= p {
         return true;
     }
-    deeper(file, n, deepest(), p)
+    deeper(file, deepest(), p)
 }
 
 // 7: the kind is the one kept for Custom.
-pub fn check7(file: &[u8], n: usize, p: usize) -> bool
-    ensures { λ r. ⌜ r ≡ fails7 (recordAt (now (file .entry))) n p ⌝ }
+pub fn check7(file: &[u8], p: usize) -> bool
+    ensures { λ r. ⌜ r ≡ fails7 (recordAt (now (file .entry))) p ⌝ }
 {
-    let Record::Component { fields, .. } = record_at(file, p) else {
+    let Seen::Component { fields, .. } = component_at(file, p) else {
         return false;
     };
     fields.kind == 14
 }
 
 // 8: the kind is none.
-pub fn check8(file: &[u8], n: usize, p: usize) -> bool
-    ensures { λ r. ⌜ r ≡ fails8 (recordAt (now (file .entry))) n p ⌝ }
+pub fn check8(file: &[u8], p: usize) -> bool
+    ensures { λ r. ⌜ r ≡ fails8 (recordAt (now (file .entry))) p ⌝ }
 {
-    let Record::Component { fields, .. } = record_at(file, p) else {
+    let Seen::Component { fields, .. } = component_at(file, p) else {
         return false;
     };
     15 <= fields.kind
 }
 
 // 9: the component breaks the table of kinds.
-pub fn check9(file: &[u8], n: usize, p: usize) -> bool
-    ensures { λ r. ⌜ r ≡ fails9 (recordAt (now (file .entry))) n p ⌝ }
+pub fn check9(file: &[u8], p: usize) -> bool
+    ensures { λ r. ⌜ r ≡ fails9 (recordAt (now (file .entry))) p ⌝ }
 {
-    let Record::Component { fields, .. } = record_at(file, p) else {
+    let Seen::Component { fields, .. } = component_at(file, p) else {
         return false;
     };
     !primitive::obeys(fields)
 }
 
-// Whether a record has the id.
-fn has_id(r: Record, id: Id) -> bool
-    ensures { λ x. ⌜ x ≡ hasId (id .0) r ⌝ }
+// Whether a component at a position of the file has the id.
+fn has_id(file: &[u8], q: usize, id: Id) -> bool
+    ensures { λ x. ⌜ x ≡ hasId (id .0) (recordAt (now (file .entry)) q) ⌝ }
 {
-    id_of(r).0 == id.0
+    let Seen::Component { id: other, .. } = component_at(file, q) else {
+        return false;
+    };
+    other.0 == id.0
 }
 
-// Whether a record before p has the id.
+// Whether a component before p has the id.
 fn id_before(file: &[u8], p: usize, id: Id) -> bool
     ensures { λ r. ⌜ r ≡ any (λ q. hasId (id .0) (recordAt (now (file .entry)) q)) (from 0 p) ⌝ }
 {
     let mut q: usize = 0;
     while q < p {
-        if has_id(record_at(file, q), id) {
+        if has_id(file, q, id) {
             return true;
         }
         q += 1;
@@ -180,24 +233,13 @@ fn id_before(file: &[u8], p: usize, id: Id) -> bool
 }
 
 // 10: an earlier component's id.
-pub fn check10(file: &[u8], n: usize, p: usize) -> bool
-    ensures { λ r. ⌜ r ≡ fails10 (recordAt (now (file .entry))) n p ⌝ }
+pub fn check10(file: &[u8], p: usize) -> bool
+    ensures { λ r. ⌜ r ≡ fails10 (recordAt (now (file .entry))) p ⌝ }
 {
-    let here = record_at(file, p);
-    if form_of(here) != 1 {
+    let Seen::Component { id, .. } = component_at(file, p) else {
         return false;
-    }
-    id_before(file, p, id_of(here))
-}
-
-// A number of ports, if the record is a primitive.
-fn counted(r: Record, ports: u16) -> usize
-    ensures { λ x. ⌜ (x ≡ cond (isPrimitive r) ports 0) × (x ≤ 65535) ⌝ }
-{
-    if is_primitive(r) {
-        return ports as usize;
-    }
-    0
+    };
+    id_before(file, p, id)
 }
 
 // The inputs and the outputs of some primitives.
@@ -206,18 +248,40 @@ struct Ports {
     outputs: usize,
 }
 
+// Those of the primitive at a position; none where no primitive stands there.
+fn ports_at(file: &[u8], q: usize) -> Ports
+    ensures { λ r. ⌜ (r .inputs ≡ cond (isPrimitive (recordAt (now (file .entry)) q)) (inputsOf (recordAt (now (file .entry)) q)) 0) × (r .inputs ≤ 65535) × (r .outputs ≡ cond (isPrimitive (recordAt (now (file .entry)) q)) (outputsOf (recordAt (now (file .entry)) q)) 0) × (r .outputs ≤ 65535) ⌝ }
+{
+    let Seen::Component { fields, .. } = component_at(file, q) else {
+        return Ports {
+            inputs: 0,
+            outputs: 0,
+        };
+    };
+    if !primitive::is_primitive(fields) {
+        return Ports {
+            inputs: 0,
+            outputs: 0,
+        };
+    }
+    Ports {
+        inputs: fields.inputs as usize,
+        outputs: fields.outputs as usize,
+    }
+}
+
 // Those of the primitives before position p.
-fn ports_before(file: &[u8], n: usize, p: usize) -> Ports
+fn ports_before(file: &[u8], p: usize) -> Ports
     requires { ⌜ p ≤ 1024 ⌝ }
-    ensures { λ r. ⌜ (r .inputs ≡ inputsBefore (recordAt (now (file .entry))) n p) × (r .outputs ≡ outputsBefore (recordAt (now (file .entry))) n p) ⌝ }
+    ensures { λ r. ⌜ (r .inputs ≡ inputsBefore (recordAt (now (file .entry))) p) × (r .outputs ≡ outputsBefore (recordAt (now (file .entry))) p) ⌝ }
 {
     let mut inputs: usize = 0;
     let mut outputs: usize = 0;
     let mut q: usize = 0;
     while q < p {
-        let r = record_at(file, q);
-        inputs += counted(r, inputs_of(r));
-        outputs += counted(r, outputs_of(r));
+        let ports = ports_at(file, q);
+        inputs += ports.inputs;
+        outputs += ports.outputs;
         q += 1;
     }
     Ports { inputs, outputs }
@@ -225,40 +289,35 @@ fn ports_before(file: &[u8], n: usize, p: usize) -> Ports
 
 // 11: the primitives so far, this one counted, have too many inputs or outputs. Crate flatten calls it for each of at most 1,024
 // records.
-pub fn check11(file: &[u8], n: usize, p: usize) -> bool
+pub fn check11(file: &[u8], p: usize) -> bool
     requires { ⌜ p < 1024 ⌝ }
-    ensures { λ r. ⌜ r ≡ fails11 (recordAt (now (file .entry))) n p ⌝ }
+    ensures { λ r. ⌜ r ≡ fails11 (recordAt (now (file .entry))) p ⌝ }
 {
-    if form_of(record_at(file, p)) != 1 {
+    let Seen::Component { .. } = component_at(file, p) else {
         return false;
-    }
-    let ports = ports_before(file, n, p + 1);
+    };
+    let ports = ports_before(file, p + 1);
     (1024 < ports.inputs) | (1024 < ports.outputs)
 }
 
-// Whether the child's output that a record starts at exists.
-fn has_from(file: &[u8], n: usize, children: &[u16], r: Record) -> bool
-    requires { ⌜ IsTable 256 (child (recordAt (now file)) n) (now children) ⌝ }
-    ensures { λ x. ⌜ x ≡ fromThere (recordAt (now (file .entry))) n r ⌝ }
+// Whether component c has an input i.
+fn has_input(file: &[u8], c: usize, i: u16) -> bool
+    ensures { λ x. ⌜ x ≡ ltb i (inputsOf (recordAt (now (file .entry)) c)) ⌝ }
 {
-    let from = child_of(file, n, children, owner_of(r), from_of(r));
-    output_of(r) < outputs_of(record_at(file, from))
+    let Seen::Component { fields, .. } = component_at(file, c) else {
+        return false;
+    };
+    i < fields.inputs
 }
 
-// Whether the owner's input that a record starts at exists.
-fn has_port(file: &[u8], r: Record) -> bool
-    ensures { λ x. ⌜ x ≡ portThere (recordAt (now (file .entry))) r ⌝ }
+// Whether component c has an output i.
+fn has_output(file: &[u8], c: usize, i: u16) -> bool
+    ensures { λ x. ⌜ x ≡ ltb i (outputsOf (recordAt (now (file .entry)) c)) ⌝ }
 {
-    port_of(r) < inputs_of(record_at(file, owner_of(r)))
-}
-
-// Whether the child's input that a record enters exists.
-fn has_to(file: &[u8], n: usize, children: &[u16], r: Record) -> bool
-    requires { ⌜ IsTable 256 (child (recordAt (now file)) n) (now children) ⌝ }
-    ensures { λ x. ⌜ x ≡ toThere (recordAt (now (file .entry))) n r ⌝ }
-{
-    let to = child_of(file, n, children, owner_of(r), to_of(r));
-    input_of(r) < inputs_of(record_at(file, to))
+    let Seen::Component { fields, .. } = component_at(file, c) else {
+        return false;
+    };
+    i < fields.outputs
 }
 
 // 12: a child or port in kinds 2 to 4 does not exist. Crate flatten calls it with the table that `index_children` has filled.
@@ -266,49 +325,76 @@ pub fn check12(file: &[u8], n: usize, children: &[u16], p: usize) -> bool
     requires { ⌜ IsTable 256 (child (recordAt (now file)) n) (now children) ⌝ }
     ensures { λ r. ⌜ r ≡ fails12 (recordAt (now (file .entry))) n p ⌝ }
 {
-    let r = record_at(file, p);
-    let form = form_of(r);
-    if form == 2 {
-        return !(has_from(file, n, children, r) & has_to(file, n, children, r));
+    let Reading::Taken { owner, says } = record_at(file, p) else {
+        return false;
+    };
+    let o = owner as usize;
+    match says {
+        Says::Component { .. } => false,
+        Says::Connection {
+            from,
+            output,
+            to,
+            input,
+        } => {
+            !(has_output(file, child_of(file, n, children, o, from), output)
+                & has_input(file, child_of(file, n, children, o, to), input))
+        }
+        Says::InputMap { port, to, input } => {
+            !(has_input(file, o, port) & has_input(file, child_of(file, n, children, o, to), input))
+        }
+        Says::OutputMap { from, output } => {
+            !has_output(file, child_of(file, n, children, o, from), output)
+        }
     }
-    if form == 3 {
-        return !(has_port(file, r) & has_to(file, n, children, r));
-    }
-    if form == 4 {
-        return !has_from(file, n, children, r);
-    }
-    false
 }
 
-// Whether a record enters a child's input.
-fn enters(r: Record) -> bool
-    ensures { λ x. ⌜ x ≡ entering r ⌝ }
-{
-    let form = form_of(r);
-    (form == 2) | (form == 3)
+// A child's input that a record enters, or none.
+enum Entry {
+    Of { owner: u16, to: ChildNo, input: u16 },
+    Nothing,
 }
 
-// Whether a record enters the child's input that another enters.
-fn same_entry(r: Record, other: Record) -> bool
-    ensures { λ x. ⌜ x ≡ enteringAs other r ⌝ }
+// The child's input that the record at a position enters.
+fn entry_at(file: &[u8], p: usize) -> Entry
+    ensures { λ r. ⌜ EntryAs r (recordAt (now (file .entry)) p) ⌝ }
 {
-    enters(r)
-        & (owner_of(r) == owner_of(other))
-        & (to_of(r).0 == to_of(other).0)
-        & (input_of(r) == input_of(other))
+    let Reading::Taken { owner, says } = record_at(file, p) else {
+        return Entry::Nothing;
+    };
+    match says {
+        Says::Component { .. } => Entry::Nothing,
+        Says::Connection { to, input, .. } => Entry::Of { owner, to, input },
+        Says::InputMap { to, input, .. } => Entry::Of { owner, to, input },
+        Says::OutputMap { .. } => Entry::Nothing,
+    }
+}
+
+// Whether the record at q enters the input of child `to` of an owner.
+fn same_entry(file: &[u8], q: usize, owner: u16, to: ChildNo, input: u16) -> bool
+    ensures { λ x. ⌜ x ≡ enters owner (to .0) input (recordAt (now (file .entry)) q) ⌝ }
+{
+    let Entry::Of {
+        owner: other,
+        to: child,
+        input: port,
+    } = entry_at(file, q)
+    else {
+        return false;
+    };
+    (other == owner) & (child.0 == to.0) & (port == input)
 }
 
 // 13: an earlier record of kind 2 or 3 entered the same input.
-pub fn check13(file: &[u8], n: usize, p: usize) -> bool
-    ensures { λ r. ⌜ r ≡ fails13 (recordAt (now (file .entry))) n p ⌝ }
+pub fn check13(file: &[u8], p: usize) -> bool
+    ensures { λ r. ⌜ r ≡ fails13 (recordAt (now (file .entry))) p ⌝ }
 {
-    let here = record_at(file, p);
-    if !enters(here) {
+    let Entry::Of { owner, to, input } = entry_at(file, p) else {
         return false;
-    }
+    };
     let mut q: usize = 0;
     while q < p {
-        if same_entry(record_at(file, q), here) {
+        if same_entry(file, q, owner, to, input) {
             return true;
         }
         q += 1;
@@ -323,7 +409,7 @@ fn out_map_count(file: &[u8], n: usize, c: usize) -> usize
     let mut count: usize = 0;
     let mut q: usize = 0;
     while q < n {
-        if is_owned(record_at(file, q), 4, c) {
+        if is_owned(file, q, 4, c) {
             count += 1;
         }
         q += 1;
@@ -335,9 +421,11 @@ fn out_map_count(file: &[u8], n: usize, c: usize) -> usize
 pub fn check14(file: &[u8], n: usize, p: usize) -> bool
     ensures { λ r. ⌜ r ≡ fails14 (recordAt (now (file .entry))) n p ⌝ }
 {
-    let here = record_at(file, p);
-    if !is_composite(here) {
+    let Seen::Component { fields, .. } = component_at(file, p) else {
+        return false;
+    };
+    if fields.kind != 0 {
         return false;
     }
-    outputs_of(here) as usize != out_map_count(file, n, p)
+    fields.outputs as usize != out_map_count(file, n, p)
 }

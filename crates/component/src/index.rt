@@ -5,32 +5,50 @@
 ghost use mathlib.Core.Path.{_≡_};
 ghost use Prim.Native.Nat.{ℕ, _*_, _≤_, _<_};
 ghost use lib.ListN.{length, getD};
+ghost use lib.Dec.{eqb};
 ghost use Rattle.component.specs.Record.{recordAt};
+ghost use Rattle.component.specs.Reading.{said, formBy};
 ghost use Rattle.component.specs.Index.{nthOwned, putWord, putCount, widenLow, widenHigh};
 ghost use Rattle.component.specs.Record.{ownedAs};
 ghost use Rattle.component.specs.Index.{IsClear, IsTable, IsRange};
 ghost use Rattle.component.specs.Drawing.{child, outMap};
 use crate::ChildNo;
-use crate::Record;
-use crate::fields::form_of;
-use crate::fields::owner_of;
+use crate::Reading;
+use crate::Says;
 use crate::reader::record_at;
 
-// Whether a record is of a kind and of an owner.
-pub(crate) fn is_owned(r: Record, form: u8, o: usize) -> bool
-    ensures { λ x. ⌜ x ≡ ownedAs form o r ⌝ }
+// Whether a record is of a record kind.
+fn is_of(says: Says, form: u8) -> bool
+    ensures { λ x. ⌜ x ≡ eqb (formBy says) form ⌝ }
 {
-    (form_of(r) == form) & (owner_of(r) == o)
+    match says {
+        Says::Component { .. } => 1 == form,
+        Says::Connection { .. } => 2 == form,
+        Says::InputMap { .. } => 3 == form,
+        Says::OutputMap { .. } => 4 == form,
+    }
+}
+
+// Whether the record at q is of a kind and of an owner.
+pub(crate) fn is_owned(file: &[u8], q: usize, form: u8, o: usize) -> bool
+    requires { ⌜ 1 ≤ form ⌝ }
+    ensures { λ x. ⌜ x ≡ ownedAs form o (recordAt (now (file .entry)) q) ⌝ }
+{
+    let Reading::Taken { owner, says } = record_at(file, q) else {
+        return false;
+    };
+    is_of(says, form) & (owner as usize == o)
 }
 
 // The kth record of a kind and an owner, from position `first` on; n where there is none.
 fn nth_owned(file: &[u8], n: usize, form: u8, first: usize, o: usize, k: usize) -> usize
+    requires { ⌜ 1 ≤ form ⌝ }
     ensures { λ r. ⌜ r ≡ nthOwned (now (file .entry)) n form first o k ⌝ }
 {
     let mut left = k;
     let mut q = first;
     while q < n {
-        if is_owned(record_at(file, q), form, o) {
+        if is_owned(file, q, form, o) {
             if left == 0 {
                 return q;
             }
@@ -53,15 +71,18 @@ fn clear(table: &mut [u16], x: u16)
 }
 
 // Puts a record of the kind into the table as the next of its owner, where the table has a place for it, and counts it.
-fn put(table: &mut [u16], counts: &mut [u16; 256], w: usize, form: u8, r: Record, q: u16)
-    requires { ⌜ (length (now table) ≡ 256 * w) × (w ≤ 256) × ((o : ℕ) → getD (now counts) o 0 ≤ 1024) ⌝ }
-    ensures { λ _. ⌜ now (table .exit) ≡ putWord w form r q (now (counts .entry)) (now (table .entry)) ⌝ }
-    ensures { λ _. ⌜ now (counts .exit) ≡ putCount form r (now (counts .entry)) ⌝ }
+fn put(table: &mut [u16], counts: &mut [u16; 256], w: usize, form: u8, r: Reading, q: u16)
+    requires { ⌜ (length (now table) ≡ 256 * w) × (w ≤ 256) × (1 ≤ form) × ((o : ℕ) → getD (now counts) o 0 ≤ 1024) ⌝ }
+    ensures { λ _. ⌜ now (table .exit) ≡ putWord w form (said r) q (now (counts .entry)) (now (table .entry)) ⌝ }
+    ensures { λ _. ⌜ now (counts .exit) ≡ putCount form (said r) (now (counts .entry)) ⌝ }
 {
-    let o = owner_of(r);
-    if form_of(r) != form {
+    let Reading::Taken { owner, says } = r else {
+        return;
+    };
+    if !is_of(says, form) {
         return;
     }
+    let o = owner as usize;
     if 256 <= o {
         return;
     }
@@ -75,7 +96,7 @@ fn put(table: &mut [u16], counts: &mut [u16; 256], w: usize, form: u8, r: Record
 
 // Fills a table with the records of a kind from position `first` on, w words for each owner.
 fn fill(file: &[u8], n: usize, form: u8, first: usize, w: usize, table: &mut [u16])
-    requires { ⌜ (n ≤ 1024) × (w ≤ 256) × (length (now table) ≡ 256 * w) ⌝ }
+    requires { ⌜ (n ≤ 1024) × (w ≤ 256) × (1 ≤ form) × (length (now table) ≡ 256 * w) ⌝ }
     ensures { λ _. ⌜ IsTable w (nthOwned (now (file .entry)) n form first) (now (table .exit)) ⌝ }
 {
     clear(table, n as u16);
@@ -135,15 +156,18 @@ pub fn out_map_of(file: &[u8], n: usize, outs: &[u16], c: usize, i: u16) -> usiz
 }
 
 // Widens the range of an input map's owner to its position.
-fn widen(lo: &mut [u16], hi: &mut [u16], r: Record, q: u16)
+fn widen(lo: &mut [u16], hi: &mut [u16], r: Reading, q: u16)
     requires { ⌜ (length (now lo) ≡ 256) × (length (now hi) ≡ 256) × (q < 1024) ⌝ }
-    ensures { λ _. ⌜ now (lo .exit) ≡ widenLow r q (now (lo .entry)) ⌝ }
-    ensures { λ _. ⌜ now (hi .exit) ≡ widenHigh r q (now (hi .entry)) ⌝ }
+    ensures { λ _. ⌜ now (lo .exit) ≡ widenLow (said r) q (now (lo .entry)) ⌝ }
+    ensures { λ _. ⌜ now (hi .exit) ≡ widenHigh (said r) q (now (hi .entry)) ⌝ }
 {
-    let c = owner_of(r);
-    if form_of(r) != 3 {
+    let Reading::Taken { owner, says } = r else {
         return;
-    }
+    };
+    let Says::InputMap { .. } = says else {
+        return;
+    };
+    let c = owner as usize;
     if 256 <= c {
         return;
     }

@@ -1,7 +1,6 @@
 // The records of a drawing file. Rules: docs/SPECIFICATION.md, "The drawing file" and "Numbers given back". Source:
 // component.rs.
 mod checks;
-mod fields;
 mod index;
 mod reader;
 
@@ -18,10 +17,6 @@ pub use checks::check12;
 pub use checks::check13;
 pub use checks::check14;
 pub use checks::deepest;
-pub use fields::fields_of;
-pub use fields::from_of;
-pub use fields::is_primitive;
-pub use fields::output_of;
 pub use index::child_of;
 pub use index::index_children;
 pub use index::index_outs;
@@ -29,6 +24,8 @@ pub use index::index_ranges;
 pub use index::out_map_of;
 use primitive::Fields;
 use primitive::Refusal;
+pub use reader::component_at;
+pub use reader::is_primitive_at;
 pub use reader::record_at;
 
 // An id as drawn.
@@ -40,32 +37,52 @@ pub struct ChildNo(pub u16);
 // A primitive's place in the flat tables.
 pub struct FlatIdx(pub usize);
 
-// What a record says; Refused where check 3 refuses it.
-pub enum Record {
+// A record as the file has it: its nine numbers.
+pub struct Record {
+    pub form: u8,
+    pub kind: u8,
+    pub owner: u16,
+    pub a: u16,
+    pub b: u16,
+    pub c: u16,
+    pub d: u16,
+    pub id: u32,
+    pub parameter: u64,
+}
+
+// What a record says of its owner.
+pub enum Says {
     Component {
-        owner: u16,
         id: Id,
         fields: Fields,
     },
     Connection {
-        owner: u16,
         from: ChildNo,
         output: u16,
         to: ChildNo,
         input: u16,
     },
     InputMap {
-        owner: u16,
         port: u16,
         to: ChildNo,
         input: u16,
     },
     OutputMap {
-        owner: u16,
         from: ChildNo,
         output: u16,
     },
-    Refused,
+}
+
+// What reading a record answers: the record taken apart, or the number that refuses it.
+pub enum Reading {
+    Taken { owner: u16, says: Says },
+    Refused(u32),
+}
+
+// The component at a position, if there is one.
+pub enum Seen {
+    Component { owner: u16, id: Id, fields: Fields },
+    Nothing,
 }
 
 // What a file's bytes are judged to be.

@@ -1,12 +1,17 @@
-// Reading a record. Rule: docs/SPECIFICATION.md, "The drawing file". Check 3 is the answer Refused.
+// Reading a record: it is taken apart, or refused with the number 3. Rule: docs/SPECIFICATION.md, "The drawing file".
 ghost use mathlib.Core.Path.{_≡_};
 ghost use Prim.Native.Nat.{_+_, _*_, _≤_, _<_};
 ghost use lib.ListN.{length};
-ghost use Rattle.component.specs.Record.{le16, le32, le64, readRecord, recordAt};
-ghost use Rattle.component.specs.Record.{lineIn, componentIn, connectionIn, inputMapIn, outputMapIn};
+ghost use mathlib.Core.Bool.{true};
+ghost use Rattle.component.specs.Record.{le16, le32, le64, numbersIn, wellFormed, recordIn, recordAt};
+ghost use Rattle.component.specs.Record.{isPrimitive};
+ghost use Rattle.component.specs.Reading.{apart, said, number, number3, SeenAs};
 use crate::ChildNo;
 use crate::Id;
+use crate::Reading;
 use crate::Record;
+use crate::Says;
+use crate::Seen;
 use primitive::Fields;
 
 fn wide16(x: u8) -> u16
@@ -51,120 +56,114 @@ fn long(s: &[u8], i: usize) -> u64
     wide64(word(s, i)) + 4294967296 * wide64(word(s, i + 4))
 }
 
-// Kind 1.
-fn component(part: &[u8]) -> Record
+// The nine numbers of the part of the file that starts at 24 times a position, read from offset 0.
+fn numbers(part: &[u8]) -> Record
     requires { ⌜ length (now part) ≡ 24 ⌝ }
-    ensures { λ r. ⌜ r ≡ componentIn (now (part .entry)) ⌝ }
+    ensures { λ r. ⌜ r ≡ numbersIn (now (part .entry)) ⌝ }
 {
-    if half(part, 10) != 0 {
-        return Record::Refused;
-    }
-    Record::Component {
+    Record {
+        form: part[0],
+        kind: part[1],
         owner: half(part, 2),
-        id: Id(word(part, 12)),
-        fields: Fields {
-            kind: part[1],
-            inputs: half(part, 4),
-            outputs: half(part, 6),
-            width: half(part, 8),
-            parameter: long(part, 16),
+        a: half(part, 4),
+        b: half(part, 6),
+        c: half(part, 8),
+        d: half(part, 10),
+        id: word(part, 12),
+        parameter: long(part, 16),
+    }
+}
+
+// Not 3: D is 0 in kind 1; in kinds 2 to 4 byte 1, id and parameter are 0, B in kind 3, C and D in kind 4.
+fn is_well_formed(r: Record) -> bool
+    ensures { λ x. ⌜ x ≡ wellFormed r ⌝ }
+{
+    let bare = (r.kind == 0) & (r.id == 0) & (r.parameter == 0);
+    ((r.form == 1) & (r.d == 0))
+        | ((r.form == 2) & bare)
+        | ((r.form == 3) & bare & (r.b == 0))
+        | ((r.form == 4) & bare & (r.c == 0) & (r.d == 0))
+}
+
+// What a record says that check 3 passes.
+fn take(r: Record) -> Says
+    requires { ⌜ wellFormed r ≡ true ⌝ }
+    ensures { λ x. ⌜ apart (r .owner) x ≡ r ⌝ }
+{
+    let form = r.form;
+    match form {
+        1 => Says::Component {
+            id: Id(r.id),
+            fields: Fields {
+                kind: r.kind,
+                inputs: r.a,
+                outputs: r.b,
+                width: r.c,
+                parameter: r.parameter,
+            },
+        },
+        2 => Says::Connection {
+            from: ChildNo(r.a),
+            output: r.b,
+            to: ChildNo(r.c),
+            input: r.d,
+        },
+        3 => Says::InputMap {
+            port: r.a,
+            to: ChildNo(r.c),
+            input: r.d,
+        },
+        _ => Says::OutputMap {
+            from: ChildNo(r.a),
+            output: r.b,
         },
     }
 }
 
-// Kind 2.
-fn connection(part: &[u8]) -> Record
-    requires { ⌜ length (now part) ≡ 24 ⌝ }
-    ensures { λ r. ⌜ r ≡ connectionIn (now (part .entry)) ⌝ }
+// A record taken apart, or refused at once.
+fn read(r: Record) -> Reading
+    ensures { λ x. ⌜ (said x ≡ recordIn r) × (number x ≡ number3 (recordIn r)) ⌝ }
 {
-    Record::Connection {
-        owner: half(part, 2),
-        from: ChildNo(half(part, 4)),
-        output: half(part, 6),
-        to: ChildNo(half(part, 8)),
-        input: half(part, 10),
+    if !is_well_formed(r) {
+        return Reading::Refused(3);
+    }
+    Reading::Taken {
+        owner: r.owner,
+        says: take(r),
     }
 }
 
-// Kind 3.
-fn input_map(part: &[u8]) -> Record
-    requires { ⌜ length (now part) ≡ 24 ⌝ }
-    ensures { λ r. ⌜ r ≡ inputMapIn (now (part .entry)) ⌝ }
-{
-    if half(part, 6) != 0 {
-        return Record::Refused;
-    }
-    Record::InputMap {
-        owner: half(part, 2),
-        port: half(part, 4),
-        to: ChildNo(half(part, 8)),
-        input: half(part, 10),
-    }
-}
-
-// Kind 4.
-fn output_map(part: &[u8]) -> Record
-    requires { ⌜ length (now part) ≡ 24 ⌝ }
-    ensures { λ r. ⌜ r ≡ outputMapIn (now (part .entry)) ⌝ }
-{
-    if half(part, 8) != 0 {
-        return Record::Refused;
-    }
-    if half(part, 10) != 0 {
-        return Record::Refused;
-    }
-    Record::OutputMap {
-        owner: half(part, 2),
-        from: ChildNo(half(part, 4)),
-        output: half(part, 6),
-    }
-}
-
-// Kinds 2 to 4: byte 1, id and parameter are 0.
-fn line(part: &[u8]) -> Record
-    requires { ⌜ length (now part) ≡ 24 ⌝ }
-    ensures { λ r. ⌜ r ≡ lineIn (now (part .entry)) ⌝ }
-{
-    if part[1] != 0 {
-        return Record::Refused;
-    }
-    if word(part, 12) != 0 {
-        return Record::Refused;
-    }
-    if long(part, 16) != 0 {
-        return Record::Refused;
-    }
-    if part[0] == 2 {
-        return connection(part);
-    }
-    if part[0] == 3 {
-        return input_map(part);
-    }
-    if part[0] == 4 {
-        return output_map(part);
-    }
-    Record::Refused
-}
-
-// What the part of the file says that starts at 24 times a position: its fields are read from offset 0.
-fn read(part: &[u8]) -> Record
-    requires { ⌜ length (now part) ≡ 24 ⌝ }
-    ensures { λ r. ⌜ r ≡ readRecord (now (part .entry)) ⌝ }
-{
-    if part[0] == 1 {
-        return component(part);
-    }
-    line(part)
-}
-
-// The record at a position of the file; Refused past its end.
-pub fn record_at(file: &[u8], p: usize) -> Record
-    ensures { λ r. ⌜ r ≡ recordAt (now (file .entry)) p ⌝ }
+// The record at a position of the file; refused past its end.
+pub fn record_at(file: &[u8], p: usize) -> Reading
+    ensures { λ r. ⌜ (said r ≡ recordAt (now (file .entry)) p) × (number r ≡ number3 (recordAt (now (file .entry)) p)) ⌝ }
 {
     if p < file.len() / 24 {
         let a = 24 * p;
         let e = a + 24;
-        return read(&file[a..e]);
+        return read(numbers(&file[a..e]));
     }
-    Record::Refused
+    Reading::Refused(3)
+}
+
+// The component at a position of the file, if there is one.
+pub fn component_at(file: &[u8], p: usize) -> Seen
+    ensures { λ r. ⌜ SeenAs r (recordAt (now (file .entry)) p) ⌝ }
+{
+    let Reading::Taken { owner, says } = record_at(file, p) else {
+        return Seen::Nothing;
+    };
+    let Says::Component { id, fields } = says else {
+        return Seen::Nothing;
+    };
+    Seen::Component { owner, id, fields }
+}
+
+// Whether a component of kinds 1 to 13 stands at a position of the file.
+pub fn is_primitive_at(file: &[u8], p: usize) -> bool
+    ensures { λ r. ⌜ r ≡ isPrimitive (recordAt (now (file .entry)) p) ⌝ }
+{
+    let Seen::Component { fields, .. } = component_at(file, p) else {
+        return false;
+    };
+    primitive::is_primitive(fields)
 }

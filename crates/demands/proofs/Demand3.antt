@@ -1,9 +1,10 @@
 -- Demand 3 is met: the invariant that rounds and edits keep on the tables (crate quiet), carried to the drawing by what a load leaves
 -- (crate loaded) and by the wires being what the drawing leads to (crate leads). Assumes nothing.
-use mathlib.Core.Path.{_≡_, refl, sym, ap, _∙_, subst}
+use mathlib.Core.Path.{_≡_, refl, sym, ap, _∙_, subst, transport}
 use mathlib.Core.Bool.{Bool, true, false, _||_}
 use mathlib.Core.List.{List}
-use Prim.Native.Nat.{ℕ, _<_}
+use Prim.Native.Nat.{ℕ, _+_, _<_}
+use lib.ListN.{getD}
 use Rattle.lists.specs.Lists.{has, keep}
 use Rattle.lists.proofs.MembersLaws.{In, has-complete, map-complete, keep-complete}
 use Rattle.primitive.specs.declared.kinds.Kind.the-variants.{Switch, Clock, Const}
@@ -16,7 +17,7 @@ use Rattle.component.specs.Record.{IsBytes, recordAt, recordCount, fieldsOf, is
 use Rattle.component.specs.Drawing.{primitivesBefore}
 use Rattle.flatten.specs.declared.Pin.{Pin}
 use Rattle.flatten.specs.Descent.{flat, flatPin}
-use Rattle.flatten.specs.Leads.{Leads}
+use Rattle.flatten.specs.Leads.{From, starts, through, Into, ends, maps, Leads}
 use Rattle.leads.proofs.Wires.{wire}
 use Rattle.leads.proofs.Primitives.{primitivesBefore-complete}
 use Rattle.tables.specs.Tables.{Tables, fieldsAt, wiresIn, numbers, firstInput, firstOutput, standingList, named}
@@ -25,31 +26,24 @@ use Rattle.loaded.proofs.Drawn.{IsDrawn}
 use Rattle.loaded.proofs.Theorems.{accepted-net, accepted-fullSize, accepted-current, accepted-standing, accepted-following, accepted-drawn, accepted-primitive, accepted-below, accepted-leads-wired}
 use Rattle.net.proofs.NetLaws.{netNumber-0}
 use Rattle.tables.proofs.SameLaws.{SameWiring, sameWiring-none}
-use Rattle.quiet.proofs.Since.{Fresh, Since, started, rounded, edited, since-net, since-wiring}
-use Rattle.quiet.proofs.Obeyed.{Follows as FollowsAt, ObeyedAt, SatisfiedAt, since-obeyed}
-use Rattle.demands.specs.Reached.{Reached, loaded}
-use Rattle.demands.specs.Reached as reached
-use Rattle.demands.specs.Demand.{Follows, Satisfied, Obeyed, Demand3}
-
--- The load that reached tables started from, and the calls since.
-record From (file : List ℕ) (ran : Bool) (t : ℕ) (T : Tables) : Type 0 where
-  lent : Tables
-  bytes : IsBytes file
-  accepted : loadVerdict file lent ≡ Accepted
-  since : Since (loadTables file lent) ran t T
-
-reached-from : (file : List ℕ) {ran : Bool} {t : ℕ} {T : Tables} → Reached file ran t T → From file ran t T
-reached-from file (loaded T b a) = record { lent = T; bytes = b; accepted = a; since = started }
-reached-from file (reached.rounded u r) =
-    let f = reached-from file r in
-    record { lent = f .lent; bytes = f .bytes; accepted = f .accepted; since = rounded u (f .since) }
-reached-from file (reached.edited i v r) =
-    let f = reached-from file r in
-    record { lent = f .lent; bytes = f .bytes; accepted = f .accepted; since = edited i v (f .since) }
+use Rattle.quiet.proofs.Since.{Fresh}
+use Rattle.quiet.proofs.Obeyed.{Equal as EqualAt, Follows as FollowsAt, ObeyedAt, SatisfiedAt, unbroken-obeyed}
+use Rattle.demands.proofs.Called.{reached-kept}
+use Rattle.demands.specs.Demand.{Equal, Follows, Satisfied, Obeyed, Demand3}
 
 or-second : (a b : Bool) → b ≡ true → (a || b) ≡ true
 or-second true b e = refl
 or-second false b e = e
+
+-- What the drawing leads from and to are ports of primitives.
+module _ (at : ℕ → Record) (n : ℕ) where
+  from-primitive : {c i : ℕ} {s : Pin} → From at n c i s → isPrimitive (at (s .comp)) ≡ true
+  from-primitive (starts e u) = rw u e
+  from-primitive (through l e r) = from-primitive r
+
+  into-primitive : {c i : ℕ} {d : Pin} → Into at n c i d → isPrimitive (at (d .comp)) ≡ true
+  into-primitive (ends e u) = rw u e
+  into-primitive (maps q l e m r) = into-primitive r
 
 -- A load leaves a net in which every call starts afresh: all components current, every Clock standing.
 module _ (file : List ℕ) (T : Tables) (bytes : IsBytes file) (a : loadVerdict file T ≡ Accepted) where
@@ -68,9 +62,9 @@ module _ (file : List ℕ) (T : Tables) (bytes : IsBytes file) (a : loadVerdict 
       (subst (λ (j : ℕ). In j (standingAtLoad (recordAt file) (recordCount file))) (p .flat-is)
       (map-complete (flat (recordAt file) (recordCount file)) x
       (keep (λ c. is Const (fieldsOf (recordAt file c)) || is Clock (fieldsOf (recordAt file c)))
-      (primitivesBefore (recordAt file) (recordCount file) (recordCount file)))
+      (primitivesBefore (recordAt file) (recordCount file)))
       (keep-complete (λ c. is Const (fieldsOf (recordAt file c)) || is Clock (fieldsOf (recordAt file c))) x
-      (primitivesBefore (recordAt file) (recordCount file) (recordCount file)) q
+      (primitivesBefore (recordAt file) (recordCount file)) q
       (primitivesBefore-complete (recordAt file) (recordCount file) x (recordCount file) (p .of-primitive) (p .in-file)))))
 
   load-fresh : Fresh L
@@ -96,11 +90,19 @@ module _ (file : List ℕ) (T₀ : Tables) (a : loadVerdict file T₀ ≡ Accept
   fields : (x : ℕ) → isPrimitive (at x) ≡ true → fieldsAt T (flat at n x) ≡ fieldsOf (at x)
   fields x e = drawn .fields x e
 
-  -- A component of the tables that follows its function is one of the drawing that does.
+  -- A component of the tables that follows its function is one of the drawing that does: its ports stand where the records say.
   follows-drawn : (t x : ℕ) → isPrimitive (at x) ≡ true → FollowsAt T t (flat at n x) → Follows at n T t x
-  follows-drawn t x e =
-      subst (λ (f : Fields). numbers (T .outputs) (firstOutput T (flat at n x)) (f .outputs)
-      ≡ functionOf f (numbers (T .inputs) (firstInput T (flat at n x)) (f .inputs)) t) (fields x e)
+  follows-drawn t x e h =
+      rw (drawn .first-input x e, drawn .first-output x e) at
+      (subst (λ (f : Fields). numbers (T .outputs) (firstOutput T (flat at n x)) (f .outputs)
+      ≡ functionOf f (numbers (T .inputs) (firstInput T (flat at n x)) (f .inputs)) t) (fields x e) h)
+
+  -- Two ends that are equal in the tables are equal in the drawing, and the other way.
+  places : (s d : Pin) → Leads at n s d → EqualAt T (wire (flatPin at n s) (flatPin at n d)) ≡ Equal at n T s d
+  places s d l =
+      let o = drawn .first-output (s .comp) (from-primitive at n (l .source-is)) in
+      let i = drawn .first-input (d .comp) (into-primitive at n (l .target-is)) in
+      λ k. getD (T .outputs) (o k + s .port) 0 ≡ getD (T .inputs) (i k + d .port) 0
 
   leads-in : (s d : Pin) → Leads at n s d → In (wire (flatPin at n s) (flatPin at n d)) (wiresIn T)
   leads-in = accepted-leads-wired file T₀ a T same
@@ -109,7 +111,7 @@ module _ (file : List ℕ) (T₀ : Tables) (a : loadVerdict file T₀ ≡ Accept
     satisfied : SatisfiedAt T t → Satisfied at n T t
     satisfied s =
         record {
-          equal = λ p d l. s .equal (wire (flatPin at n p) (flatPin at n d)) (leads-in p d l);
+          equal = λ p d l. transport (places p d l) (s .equal (wire (flatPin at n p) (flatPin at n d)) (leads-in p d l));
           follow = λ x h e k.
               follows-drawn t x e
               (s .follow (flat at n x) (accepted-below file T₀ a T same x e) (ap (is Switch) (fields x e) ∙ k));
@@ -118,7 +120,8 @@ module _ (file : List ℕ) (T₀ : Tables) (a : loadVerdict file T₀ ≡ Accept
     obeyed : Obeyed at n T ran t
     obeyed =
         record {
-          differing = λ p d l. o .differing (wire (flatPin at n p) (flatPin at n d)) (leads-in p d l);
+          differing = λ p d l u.
+              o .differing (wire (flatPin at n p) (flatPin at n d)) (leads-in p d l) (λ e. u (transport (places p d l) e));
           unfollowed = λ x h e k u.
               o .unfollowed (flat at n x) (accepted-below file T₀ a T same x e)
               (ap (λ (f : Fields). is Switch f || is Clock f) (fields x e) ∙ k) (λ f. u (follows-drawn t x e f));
@@ -131,15 +134,14 @@ module _ (file : List ℕ) (T₀ : Tables) (a : loadVerdict file T₀ ≡ Accept
               ∙ only (p .number) (p .in-file) (p .of-primitive) (subst (λ (j : ℕ). named T j ≡ true) (sym (p .flat-is)) m)));
         }
 
--- Demand 3. For every file that a load accepts, and any rounds at any times and any edits after it, refused calls included: no call
+-- Demand 3. For every file that a load accepts, and any rounds at any times, edits and runs until calm after it, refused calls included: no call
 -- finds the tables to be no net; wherever the drawing leads from an output to an input of another value, the output's component is in
 -- one of the three lists, and so is each component, Switches and Clocks aside, whose outputs are not its function of its inputs; and
 -- once a round has run and the lists name only Clocks, the whole drawing is satisfied, Clocks taken at the last round's time.
 pub demand3 : Demand3
 demand3 file ran t T r =
-    let f = reached-from file r in
-    let fresh = load-fresh file (f .lent) (f .bytes) (f .accepted) in (
-      since-net (loadTables file (f .lent)) fresh (f .since),
-      obeyed file (f .lent) (f .accepted) T (since-wiring (loadTables file (f .lent)) (f .since)) ran t
-          (since-obeyed (loadTables file (f .lent)) fresh (f .since)),
+    let p = reached-kept file (load-fresh file) r in
+    let o = p .0 in (
+      p .1 .net,
+      obeyed file (o .lent) (o .accepted) T (o .wiring) ran t (unbroken-obeyed T ran t (p .1 .net) (p .1 .unbroken)),
     )

@@ -1,31 +1,53 @@
--- Determinacy: any two outcomes that one contract allows are equal, answer and all that was lent to be written. Each contract is a pair of
--- equations with definitions, so two outcomes equal the same thing. Assumes nothing.
-use mathlib.Core.Path.{_≡_, sym, _∙_}
+-- Determinacy: any two outcomes that one contract allows are equal, answer and all that was lent to be written. What was written is an equation; the
+-- answer gives what is written and the number say; and answers that give the same are the same. Assumes nothing.
+use mathlib.Core.Path.{_≡_, sym, ap, _∙_}
+use mathlib.Core.List.{[], _∷_}
+use lib.ListN.{length}
+use Rattle.primitive.specs.Given.{Given, giving}
+use Rattle.primitive.specs.Evaluate.{evaluateNumber, evaluatedGives}
+use Rattle.primitive.proofs.GivenLaws.{evaluatedGives-is}
+use Rattle.flatten.specs.Verdict.{verdictGives}
+use Rattle.flatten.proofs.JudgementLaws.{judges-verdict}
+use Rattle.tables.specs.Tables.{answerGives, sources, targetsIn}
+use Rattle.tables.proofs.AnswerLaws.{answerGives-is, changes-determined}
+use Rattle.load.specs.Load.{loadVerdict}
+use Rattle.net.specs.Net.{netNumber}
+use Rattle.simulator.specs.Calls.{editNumber, run, ranGives}
+use Rattle.simulator.specs.Questions.{calmGives, indexGives, valueGives, listNumber, listGives}
+use Rattle.simulator.proofs.AnswersLaws.{ranGives-is, calmGives-is, indexGives-is, valueGives-is, listGives-is}
 use Rattle.demands.specs.Determined.{Determinacy, Determined, DeterminedAnswer}
 
-equations : {A B : Type 0} (x : A) (y : B) → Determined (λ (a : A) (b : B). (a ≡ x) × (b ≡ y))
-equations x y a a′ b b′ p q = (p .0 ∙ sym (q .0), p .1 ∙ sym (q .1))
+-- What was written is `new`, and the answer gives what `said` says of it.
+module _ {A : Type 0} (gives : A → Given) (is : (a b : A) → gives a ≡ gives b → a ≡ b) where
+  outcome : {B : Type 0} (said : B → Given) (new : B) → Determined (λ (a : A) (b : B). (gives a ≡ said b) × (b ≡ new))
+  outcome said new a a′ b b′ p q =
+      let e = p .1 ∙ sym (q .1) in
+      (is a a′ (p .0 ∙ ap said e ∙ sym (q .0)), e)
 
-equation : {A : Type 0} (x : A) → DeterminedAnswer x
+  answer : (g : Given) → DeterminedAnswer (λ (a : A). gives a ≡ g)
+  answer g a a′ p q = is a a′ (p ∙ sym q)
+
+equation : {A : Type 0} (x : A) → DeterminedAnswer (λ (a : A). a ≡ x)
 equation x a a′ p q = p ∙ sym q
 
 -- For evaluating one component, a load, a round, an edit, a run until calm, and the questions that write a lent list; then for judging, also as
 -- the host's call, check 16, calm, the index of an id, a port's value, and a value's methods.
 pub determinacy : Determinacy
 determinacy = (
-  λ f xs vs ys ws t. equations _ _,
-  λ file T. equations _ _,
-  λ T t. equations _ _,
-  λ T i v. equations _ _,
-  λ T t limit. equations _ _,
-  λ T i lent. equations _ _,
-  λ T i lent. equations _ _,
-  λ file. equation _,
+  λ f xs vs ys ws t. outcome evaluatedGives evaluatedGives-is (λ zs. giving (evaluateNumber f xs vs ys ws) []) _,
+  λ file T. changes-determined answerGives answerGives-is (verdictGives (loadVerdict file T)) _,
+  λ t T. changes-determined answerGives answerGives-is (giving (netNumber T)) _,
+  λ i v T. changes-determined answerGives answerGives-is (giving (editNumber T i v)) _,
+  λ t limit T. changes-determined ranGives ranGives-is
+      (λ counts. giving (netNumber T) (run limit t T .rounds ∷ run limit t T .evaluations ∷ counts)) _,
+  λ T i lent. outcome listGives listGives-is (λ zs. giving (listNumber T i lent) (length (sources T i) ∷ [])) _,
+  λ T i lent. outcome listGives listGives-is (λ zs. giving (listNumber T i lent) (length (targetsIn T i) ∷ [])) _,
+  λ file r r′ p q. judges-verdict file r p ∙ sym (judges-verdict file r′ q),
   λ file. equation _,
   λ T. equation _,
-  λ T. equation _,
-  λ T id. equation _,
-  λ T side i port. equation _,
+  λ T. answer calmGives calmGives-is _,
+  λ T id. answer indexGives indexGives-is _,
+  λ T side i port. answer valueGives valueGives-is _,
   λ v. equation _,
   λ v i. equation _,
   λ v. equation _,

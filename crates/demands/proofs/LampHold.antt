@@ -15,7 +15,7 @@ use Rattle.tables.specs.Tables.{fullSize, wiresIn, currentList, followingList, 
 use Rattle.load.specs.Load.{loaded, loadVerdict, loadTables}
 use Rattle.net.specs.Net.{countsWithin, kindsObeyed, idsDistinct, portsFollow, valuesFit, constsHeld, wiresFit, inputsOnce, names, isNet, netNumber}
 use Rattle.simulator.specs.Round.{leave, evaluated, send, visit, round, edited, calm, roundOf}
-use Rattle.simulator.specs.Calls.{roundTables, editNumber, editTables, run, runAnswer, runGives}
+use Rattle.simulator.specs.Calls.{roundTables, editNumber, editTables, run}
 use Rattle.demands.specs.Lamp.{lamp, lampLoaded, lampSet}
 
 -- What the listing prints of it: the verdict, the wires, rounds until calm.
@@ -36,8 +36,8 @@ unfolding loadTables loadVerdict loaded verdict overlay fullSize deepest obeys s
 lamp-lists = refl
 
 -- Run until calm with a limit of 16: two rounds, 4 + 1 evaluations.
-pub lamp-run : runGives (runAnswer lampLoaded 0 16) ≡ 0 ∷ 2 ∷ 5 ∷ []
-unfolding loadTables loadVerdict loaded verdict overlay fullSize deepest obeys source targets sourceOf targetsOf roundTables netNumber isNet countsWithin kindsObeyed idsDistinct portsFollow valuesFit constsHeld wiresFit inputsOnce names roundOf leave round visit evaluated send outputsAfter functionOf appendNew strike runAnswer run calm
+pub lamp-run : netNumber lampLoaded ∷ run 16 0 lampLoaded .rounds ∷ run 16 0 lampLoaded .evaluations ∷ [] ≡ 0 ∷ 2 ∷ 5 ∷ []
+unfolding loadTables loadVerdict loaded verdict overlay fullSize deepest obeys source targets sourceOf targetsOf roundTables netNumber isNet countsWithin kindsObeyed idsDistinct portsFollow valuesFit constsHeld wiresFit inputsOnce names roundOf leave round visit evaluated send outputsAfter functionOf appendNew strike run calm
 lamp-run = refl
 
 -- Switch 0 set after round 2: the current lists of rounds 3 to 7, and of round 8.

@@ -1,5 +1,6 @@
 pub mod LampHold
 pub mod MarkedHold
+pub mod Called
 pub mod Demand3
+pub mod LampSatisfied
 pub mod Determinacy
-pub mod GivenHold

@@ -9,7 +9,7 @@ use Rattle.primitive.specs.declared.table.Fields.{Fields}
 use Rattle.primitive.specs.declared.kinds.Kind.{Kind}
 use Rattle.primitive.specs.declared.kinds.Kind.the-variants.{And, Or, Nor, Xor, Splitter, Joiner, Clock}
 use Rattle.primitive.specs.Kinds.{numberOf}
-use Rattle.primitive.specs.Evaluate.{evaluateAnswer, evaluateGives, evaluateOutputs}
+use Rattle.primitive.specs.Evaluate.{evaluateNumber, evaluateOutputs}
 use Rattle.component.specs.Record.{recordAt, recordCount}
 use Rattle.flatten.specs.Descent.{flatWires}
 use Rattle.flatten.specs.Verdict.{verdict, spoken}
@@ -31,7 +31,7 @@ abbrev pub evaluating : Kind → ℕ → List ℕ → ℕ → ℕ → ℕ → �
 evaluating k p xs v o w t =
     let f : Fields = record { kind = numberOf k; inputs = length xs; outputs = o; width = 0; parameter = p } in
     let vs : List ℕ = replicate (length xs) v in
-    evaluateGives (evaluateAnswer f xs vs (replicate o 0) (replicate o w))
+    evaluateNumber f xs vs (replicate o 0) (replicate o w)
     ∷ evaluateOutputs f xs vs (replicate o 0) (replicate o w) t
 
 -- The cases (a) to (l), in their order. In (a) to (j) the leading 0 says that the call is not refused; (k) has the words of the

@@ -20,13 +20,21 @@ use Rattle.lists.proofs.MembersLaws.{from-append}
 use Rattle.primitive.specs.Kinds.{inputWidth, outputWidth}
 use Rattle.component.specs.declared.ChildNo.{ChildNo}
 use Rattle.component.specs.declared.Record.{Record}
-use Rattle.component.specs.declared.Record.the-variants.{Connection, InputMap}
+use Rattle.component.specs.declared.Says.{Says}
+use Rattle.component.specs.declared.Says.the-variants.{Connection, InputMap, OutputMap}
+use Rattle.component.specs.declared.Reading.{Reading}
+use Rattle.component.specs.declared.Reading.the-variants.{Taken, Refused}
+use Rattle.component.specs.declared.Seen.{Seen}
+use Rattle.component.specs.declared.Seen.the-variants.{Component as SeenComponent, Nothing as NotSeen}
+use Rattle.component.specs.declared.Id.{Id}
+use Rattle.primitive.specs.declared.table.Fields.{Fields}
 use Rattle.component.specs.Record.{recordAt, formOf, ownerOf, portOf, fieldsOf, fromOf, outputOf, toOf, inputOf, isPrimitive}
 use Rattle.component.specs.Drawing.{deepest, child, mapsIn, outMap}
 use Rattle.component.specs.Index.{IsRange}
 use Rattle.component.specs.Record.{ownedAs}
-use Rattle.component.proofs.Record.{the-type}
-use Rattle.component.proofs.RecordLaws.{formOf-no-connection, formOf-no-input-map}
+use Rattle.component.specs.Reading.{apart, said, formBy, SeenAs}
+use Rattle.component.proofs.Says.{the-type}
+use Rattle.component.proofs.RecordLaws.{no-connection, no-input-map, no-output-map, refused-is, taken-is, taken-form, taken-owner, unseen-fields, seen-is}
 use Rattle.flatten.specs.declared.Pin.{Pin}
 use Rattle.flatten.specs.declared.Wire.{Wire}
 use Rattle.flatten.specs.declared.descent.Entered.{Entered}
@@ -118,16 +126,23 @@ module _ (at : ℕ → Record) (n : ℕ) where
   source-ends zero c i h e = absurd (h refl)
   source-ends (suc d) c i h e = rw e
 
-  pub source-through : (d c i : ℕ) → (d ≡ 0 → ⊥) → isPrimitive (at c) ≡ false
+  pub source-none : (d c i : ℕ) → (d ≡ 0 → ⊥) → isPrimitive (at c) ≡ false → (formOf (at (outMap at n c i)) ≡ 4 → ⊥)
+      → pin n 0 ≡ source at n d c i
+  unfolding source
+  source-none zero c i h e k = absurd (h refl)
+  source-none (suc d) c i h e k = rw (e, ne-eqb (formOf (at (outMap at n c i))) 4 k)
+
+  pub source-through : (d c i : ℕ) → (d ≡ 0 → ⊥) → isPrimitive (at c) ≡ false → formOf (at (outMap at n c i)) ≡ 4
       → source at n (d - 1) (child at n c (fromOf (at (outMap at n c i)))) (outputOf (at (outMap at n c i))) ≡ source at n d c i
   unfolding source
-  source-through zero c i h e = absurd (h refl)
-  source-through (suc d) c i h e = let z : suc d - 1 ≡ d = omega arith in rw (e, z)
+  source-through zero c i h e k = absurd (h refl)
+  source-through (suc d) c i h e k =
+      let z : suc d - 1 ≡ d = omega arith in rw (e, eq-eqb (formOf (at (outMap at n c i))) 4 k, z)
 
   -- The targets: no depth left; a primitive; a composite.
 
   abbrev pub given : ℕ → ℕ → ℕ → ℕ → List Pin
-  given d c i q = cond (mapsIn at n c i q) (targets at n d (child at n c (toOf (at q))) (inputOf (at q))) []
+  given d c i q = cond (mapsIn at c i q) (targets at n d (child at n c (toOf (at q))) (inputOf (at q))) []
 
   pub targets-bottom : (d c i : ℕ) → d ≡ 0 → targets at n d c i ≡ []
   unfolding targets
@@ -146,14 +161,14 @@ module _ (at : ℕ → Record) (n : ℕ) where
 
   -- Only the stretch at which the input maps of c stand has to be looked at.
   given-none : (d c i q : ℕ) → (ownedAs 3 c (at q) ≡ true → ⊥) → given d c i q ≡ []
-  given-none d c i q h = by-test (mapsIn at n c i q) refl
+  given-none d c i q h = by-test (mapsIn at c i q) refl
     where
       owned : (a b p : Bool) → (a && b && p) ≡ true → (a && b) ≡ true
       owned true true p e = refl
       owned true false p e = e
       owned false b p e = e
 
-      by-test : (b : Bool) → mapsIn at n c i q ≡ b → cond b (targets at n d (child at n c (toOf (at q))) (inputOf (at q))) [] ≡ []
+      by-test : (b : Bool) → mapsIn at c i q ≡ b → cond b (targets at n d (child at n c (toOf (at q))) (inputOf (at q))) [] ≡ []
       by-test true e = absurd (h (owned (eqb (formOf (at q)) 3) (eqb (ownerOf (at q)) c) (eqb (portOf (at q)) i) e))
       by-test false e = refl
 
@@ -171,7 +186,7 @@ module _ (at : ℕ → Record) (n : ℕ) where
   follow d Nothing = []
 
   given-is : (d c i q : ℕ) (g : Entered) → g ≡ entered at n c i q → given d c i q ≡ follow d g
-  given-is d c i q g h = sym (by-test (mapsIn at n c i q)) ∙ ap (follow d) (sym h)
+  given-is d c i q g h = sym (by-test (mapsIn at c i q)) ∙ ap (follow d) (sym h)
     where
       by-test : (b : Bool) → follow d (cond b (To (child at n c (toOf (at q))) (inputOf (at q))) Nothing)
           ≡ cond b (targets at n d (child at n c (toOf (at q))) (inputOf (at q))) []
@@ -192,39 +207,73 @@ module _ (at : ℕ → Record) (n : ℕ) where
 
 -- In a file: record q is r, and b says whether a test holds of it.
 module _ (s : List ℕ) (n : ℕ) where
-  pub primitive-is : (c : ℕ) (r : Record) (b x : Bool) → r ≡ recordAt s c → b ≡ isPrimitive r → b ≡ x → isPrimitive (recordAt s c) ≡ x
-  primitive-is c r b x e h t = sym (h ∙ ap isPrimitive e) ∙ t
+  -- the width of a component's ports: no component; a component
+  module _ (c : ℕ) (g : Seen) (e : SeenAs g (recordAt s c)) where
+    pub input-width-none : g ≡ NotSeen → 1 ≡ inputWidth (fieldsOf (recordAt s c))
+    input-width-none h = sym (ap inputWidth (unseen-fields (recordAt s c) g e h))
 
-  -- the source: a primitive; a composite
-  pub source-here : (d c i : ℕ) (r : Record) (b : Bool) → (d ≡ 0 → ⊥) → r ≡ recordAt s c → b ≡ isPrimitive r → b ≡ true
-      → pin c i ≡ source (recordAt s) n d c i
-  source-here d c i r b h e p t = source-ends (recordAt s) n d c i h (primitive-is c r b true e p t)
+    pub output-width-none : g ≡ NotSeen → 1 ≡ outputWidth (fieldsOf (recordAt s c))
+    output-width-none h = sym (ap outputWidth (unseen-fields (recordAt s c) g e h))
 
-  pub source-below : (x : Pin) (d c i m t o : ℕ) (r w : Record) (f : ChildNo) (b : Bool) → (d ≡ 0 → ⊥)
-      → r ≡ recordAt s c → b ≡ isPrimitive r → b ≡ false
-      → m ≡ outMap (recordAt s) n c i → w ≡ recordAt s m → f .0 ≡ fromOf w → t ≡ child (recordAt s) n c (f .0) → o ≡ outputOf w
-      → x ≡ source (recordAt s) n (d - 1) t o → x ≡ source (recordAt s) n d c i
-  source-below x d c i m t o r w f b h e p k em ew ef et eo ex =
-      let z : w ≡ recordAt s (outMap (recordAt s) n c i) = ew ∙ ap (recordAt s) em in
-      ex ∙ ap (λ (j : ℕ). source (recordAt s) n (d - 1) j o) (et ∙ ap (child (recordAt s) n c) ef)
-      ∙ ap (λ (j : ℕ). source (recordAt s) n (d - 1) (child (recordAt s) n c (fromOf w)) j) eo
-      ∙ ap (λ (v : Record). source (recordAt s) n (d - 1) (child (recordAt s) n c (fromOf v)) (outputOf v)) z
-      ∙ source-through (recordAt s) n d c i h (primitive-is c r b false e p k)
+    module _ (o : ℕ) (i : Id) (f : Fields) (h : g ≡ SeenComponent o i f) where
+      pub input-width-is : (w : ℕ) → w ≡ inputWidth f → w ≡ inputWidth (fieldsOf (recordAt s c))
+      input-width-is w k = k ∙ sym (ap (λ (r : Record). inputWidth (fieldsOf r)) (seen-is (recordAt s c) g e o i f h))
 
-  -- where the record at q leads: it is no input map; one of another owner; of another input; of this one
-  module _ (c i q : ℕ) (r : Record) (e : r ≡ recordAt s q) where
-    pub entered-other : OneOf (0 ∷ 1 ∷ 3 ∷ 4 ∷ []) (tagOf the-type r) → Nothing ≡ entered (recordAt s) n c i q
-    entered-other k = rw (← e, ne-eqb (formOf r) 3 (formOf-no-input-map r k))
+      pub output-width-is : (w : ℕ) → w ≡ outputWidth f → w ≡ outputWidth (fieldsOf (recordAt s c))
+      output-width-is w k = k ∙ sym (ap (λ (r : Record). outputWidth (fieldsOf r)) (seen-is (recordAt s c) g e o i f h))
 
-    module _ (o a d : ℕ) (t : ChildNo) (k : r ≡ InputMap o a t d) where
-      pub entered-owner : (o ≡ c → ⊥) → Nothing ≡ entered (recordAt s) n c i q
-      entered-owner h = rw (← e, k, ne-eqb o c h)
+  -- the source: a primitive; a composite whose map is refused, is no output map, is one
+  module _ (d c i : ℕ) (b : Bool) (h : d ≡ 0 → ⊥) (p : b ≡ isPrimitive (recordAt s c)) where
+    pub source-here : b ≡ true → pin c i ≡ source (recordAt s) n d c i
+    source-here t = source-ends (recordAt s) n d c i h (sym p ∙ t)
 
-      pub entered-port : o ≡ c → (a ≡ i → ⊥) → Nothing ≡ entered (recordAt s) n c i q
-      entered-port h g = rw (← e, k, eq-eqb o c h, ne-eqb a i g)
+    module _ (k : b ≡ false) (m : ℕ) (r : Reading) (em : m ≡ outMap (recordAt s) n c i) (er : said r ≡ recordAt s m) where
+      map-is : said r ≡ recordAt s (outMap (recordAt s) n c i)
+      map-is = er ∙ ap (recordAt s) em
 
-      pub entered-to : (x : ℕ) → o ≡ c → a ≡ i → x ≡ child (recordAt s) n c (t .0) → To x d ≡ entered (recordAt s) n c i q
-      entered-to x h g z = rw (z, ← e, k, eq-eqb o c h, eq-eqb a i g)
+      pub source-refused : {z : ℕ} → r ≡ Refused z → pin n 0 ≡ source (recordAt s) n d c i
+      source-refused q =
+          source-none (recordAt s) n d c i h (sym p ∙ k)
+          (λ z. omega (arith, z, ap formOf (refused-is (recordAt s (outMap (recordAt s) n c i)) r map-is q)))
+
+      module _ (o : ℕ) (x : Says) (q : r ≡ Taken o x) where
+        map-form : formOf (recordAt s (outMap (recordAt s) n c i)) ≡ formBy x
+        map-form = taken-form (recordAt s (outMap (recordAt s) n c i)) r map-is o x q
+
+        pub source-unmapped : OneOf (0 ∷ 1 ∷ 2 ∷ []) (tagOf the-type x) → pin n 0 ≡ source (recordAt s) n d c i
+        source-unmapped y = source-none (recordAt s) n d c i h (sym p ∙ k) (λ z. no-output-map x y (sym map-form ∙ z))
+
+        pub source-below : (f : ChildNo) (u t : ℕ) (v : Pin) → x ≡ OutputMap f u → t ≡ child (recordAt s) n c (f .0)
+            → v ≡ source (recordAt s) n (d - 1) t u → v ≡ source (recordAt s) n d c i
+        source-below f u t v y et ev =
+            let z : recordAt s (outMap (recordAt s) n c i) ≡ apart o (OutputMap f u) =
+            taken-is (recordAt s (outMap (recordAt s) n c i)) r map-is o x q ∙ ap (apart o) y in
+            ev ∙ ap (λ (j : ℕ). source (recordAt s) n (d - 1) j u) et
+            ∙ ap (λ (w : Record). source (recordAt s) n (d - 1) (child (recordAt s) n c (fromOf w)) (outputOf w)) (sym z)
+            ∙ source-through (recordAt s) n d c i h (sym p ∙ k) (ap formOf z)
+
+  -- where the record at q leads: it is refused; no input map; one of another owner; of another input; of this one
+  module _ (c i q : ℕ) (r : Reading) (e : said r ≡ recordAt s q) where
+    pub entered-refused : {z : ℕ} → r ≡ Refused z → Nothing ≡ entered (recordAt s) n c i q
+    entered-refused k = rw (refused-is (recordAt s q) r e k)
+
+    module _ (o : ℕ) (x : Says) (h : r ≡ Taken o x) where
+      pub entered-other : OneOf (0 ∷ 1 ∷ 3 ∷ []) (tagOf the-type x) → Nothing ≡ entered (recordAt s) n c i q
+      entered-other k =
+          rw (ne-eqb (formOf (recordAt s q)) 3 (λ z. no-input-map x k (sym (taken-form (recordAt s q) r e o x h) ∙ z)))
+
+      module _ (a d : ℕ) (t : ChildNo) (k : x ≡ InputMap a t d) where
+        at-map : recordAt s q ≡ apart o (InputMap a t d)
+        at-map = taken-is (recordAt s q) r e o x h ∙ ap (apart o) k
+
+        pub entered-owner : (o ≡ c → ⊥) → Nothing ≡ entered (recordAt s) n c i q
+        entered-owner y = rw (at-map, ne-eqb o c y)
+
+        pub entered-port : o ≡ c → (a ≡ i → ⊥) → Nothing ≡ entered (recordAt s) n c i q
+        entered-port y g = rw (at-map, eq-eqb o c y, ne-eqb a i g)
+
+        pub entered-to : (u : ℕ) → o ≡ c → a ≡ i → u ≡ child (recordAt s) n c (t .0) → To u d ≡ entered (recordAt s) n c i q
+        entered-to u y g z = rw (z, at-map, eq-eqb o c y, eq-eqb a i g)
 
   -- the stretch of the index, and all positions
   pub stretch-index : (lo hi : List ℕ) (c : ℕ) → IsRange s n lo hi → c < 256 → IsStretch (recordAt s) n c (getD lo c 0) (getD hi c 0)
@@ -241,19 +290,19 @@ module _ (s : List ℕ) (n : ℕ) where
   pub differs-bottom : (d c i w : ℕ) → d ≡ 0 → false ≡ any (unlike (recordAt s) w) (targets (recordAt s) n d c i)
   differs-bottom d c i w h = ap (any (unlike (recordAt s) w)) (sym (targets-bottom (recordAt s) n d c i h))
 
-  pub differs-here : (d c i w v : ℕ) (r : Record) (b : Bool) → (d ≡ 0 → ⊥) → r ≡ recordAt s c → b ≡ isPrimitive r → b ≡ true
-      → v ≡ inputWidth (fieldsOf r) → not (eqb w v) ≡ any (unlike (recordAt s) w) (targets (recordAt s) n d c i)
-  differs-here d c i w v r b h e p t ev =
-      ap (λ (x : ℕ). not (eqb w x)) (ev ∙ ap (λ (x : Record). inputWidth (fieldsOf x)) e)
+  pub differs-here : (d c i w v : ℕ) (b : Bool) → (d ≡ 0 → ⊥) → b ≡ isPrimitive (recordAt s c) → b ≡ true
+      → v ≡ inputWidth (fieldsOf (recordAt s c)) → not (eqb w v) ≡ any (unlike (recordAt s) w) (targets (recordAt s) n d c i)
+  differs-here d c i w v b h p t ev =
+      ap (λ (x : ℕ). not (eqb w x)) ev
       ∙ sym (or-false (not (eqb w (inputWidth (fieldsOf (recordAt s c))))))
-      ∙ ap (any (unlike (recordAt s) w)) (sym (targets-ends (recordAt s) n d c i h (primitive-is c r b true e p t)))
+      ∙ ap (any (unlike (recordAt s) w)) (sym (targets-ends (recordAt s) n d c i h (sym p ∙ t)))
 
-  pub differs-start : (d c i w a e : ℕ) (r : Record) (b : Bool) → (d ≡ 0 → ⊥) → r ≡ recordAt s c → b ≡ isPrimitive r → b ≡ false
+  pub differs-start : (d c i w a e : ℕ) (b : Bool) → (d ≡ 0 → ⊥) → b ≡ isPrimitive (recordAt s c) → b ≡ false
       → IsStretch (recordAt s) n c a e
       → any (unlike (recordAt s) w) (joined (given (recordAt s) n (d - 1) c i) (from a (e - a)))
       ≡ any (unlike (recordAt s) w) (targets (recordAt s) n d c i)
-  differs-start d c i w a e r b h er p t z =
-      ap (any (unlike (recordAt s) w)) (sym (targets-stretch (recordAt s) n d c i a e h (primitive-is c r b false er p t) z))
+  differs-start d c i w a e b h p t z =
+      ap (any (unlike (recordAt s) w)) (sym (targets-stretch (recordAt s) n d c i a e h (sym p ∙ t) z))
 
   -- one turn: a target of the map at q differs; none does; the record leads nowhere; and the end
   module _ (d c i w q e : ℕ) (x : Bool)
@@ -283,27 +332,35 @@ module _ (s : List ℕ) (n : ℕ) where
     differs-end l = ap (any (unlike (recordAt s) w)) (sym (joined-end (given (recordAt s) n d c i) q e l)) ∙ inv
 
   -- 15: no connection; a connection
-  pub fails15-other : (p : ℕ) (r : Record) → r ≡ recordAt s p → OneOf (0 ∷ 2 ∷ 3 ∷ 4 ∷ []) (tagOf the-type r)
-      → false ≡ fails15 (recordAt s) n p
-  fails15-other p r e k = rw (← e, ne-eqb (formOf r) 2 (formOf-no-connection r k))
+  pub fails15-refused : (p : ℕ) (r : Reading) {z : ℕ} → said r ≡ recordAt s p → r ≡ Refused z → false ≡ fails15 (recordAt s) n p
+  fails15-refused p r e k = rw (refused-is (recordAt s p) r e k)
 
-  module _ (p o a b : ℕ) (f t : ChildNo) (r : Record) (e : r ≡ recordAt s p) (k : r ≡ Connection o f a t b) where
+  pub fails15-other : (p o : ℕ) (r : Reading) (x : Says) → said r ≡ recordAt s p → r ≡ Taken o x → OneOf (0 ∷ 2 ∷ 3 ∷ []) (tagOf the-type x)
+      → false ≡ fails15 (recordAt s) n p
+  fails15-other p o r x e h k =
+      rw (ne-eqb (formOf (recordAt s p)) 2 (λ z. no-connection x k (sym (taken-form (recordAt s p) r e o x h) ∙ z)))
+
+  module _ (p : ℕ) (r : Reading) (e : said r ≡ recordAt s p) (o a b : ℕ) (f t : ChildNo) (x : Says) (h : r ≡ Taken o x)
+      (k : x ≡ Connection f a t b) where
+    at-connection : apart o (Connection f a t b) ≡ recordAt s p
+    at-connection = sym (taken-is (recordAt s p) r e o x h ∙ ap (apart o) k)
+
     pub source-is : (m c : ℕ) (x : Pin) → m ≡ deepest → c ≡ child (recordAt s) n o (f .0) → x ≡ source (recordAt s) n m c a
         → x ≡ sourceOf (recordAt s) n p
     unfolding sourceOf
     source-is m c x em ec ex =
         ex ∙ ap (λ (j : ℕ). source (recordAt s) n j c a) em ∙ ap (λ (j : ℕ). source (recordAt s) n deepest j a) ec
-        ∙ ap (λ (y : Record). source (recordAt s) n deepest (child (recordAt s) n (ownerOf y) (fromOf y)) (outputOf y)) (sym k ∙ e)
+        ∙ ap (λ (y : Record). source (recordAt s) n deepest (child (recordAt s) n (ownerOf y) (fromOf y)) (outputOf y)) at-connection
 
     pub targets-are : (m c : ℕ) → m ≡ deepest → c ≡ child (recordAt s) n o (t .0)
         → targets (recordAt s) n m c b ≡ targetsOf (recordAt s) n p
     unfolding targetsOf
     targets-are m c em ec =
         ap (λ (j : ℕ). targets (recordAt s) n j c b) em ∙ ap (λ (j : ℕ). targets (recordAt s) n deepest j b) ec
-        ∙ ap (λ (y : Record). targets (recordAt s) n deepest (child (recordAt s) n (ownerOf y) (toOf y)) (inputOf y)) (sym k ∙ e)
+        ∙ ap (λ (y : Record). targets (recordAt s) n deepest (child (recordAt s) n (ownerOf y) (toOf y)) (inputOf y)) at-connection
 
     pub form-is : formOf (recordAt s p) ≡ 2
-    form-is = ap formOf (sym e ∙ k)
+    form-is = sym (ap formOf at-connection)
 
     differing : Wire → Bool
     differing w = not (eqb (outputWidth (fieldsOf (recordAt s (w .src .comp)))) (inputWidth (fieldsOf (recordAt s (w .dst .comp)))))
@@ -315,15 +372,14 @@ module _ (s : List ℕ) (n : ℕ) where
         sym (any-map differing (λ (x : Pin). record { src = sourceOf (recordAt s) n p; dst = x }) (targetsOf (recordAt s) n p))
         ∙ ap (λ (y : Bool). y && any differing (wiresAt (recordAt s) n p)) (sym (eq-eqb (formOf (recordAt s p)) 2 form-is))
 
-    pub fails15-connection : (m c l g w : ℕ) (x : Pin) (v : Record) (y : Bool)
+    pub fails15-connection : (m c l g w : ℕ) (x : Pin) (y : Bool)
         → c ≡ child (recordAt s) n o (f .0) → m ≡ deepest → x ≡ source (recordAt s) n m c a
-        → v ≡ recordAt s (x .comp) → w ≡ outputWidth (fieldsOf v)
+        → w ≡ outputWidth (fieldsOf (recordAt s (x .comp)))
         → g ≡ child (recordAt s) n o (t .0) → l ≡ deepest → y ≡ any (unlike (recordAt s) w) (targets (recordAt s) n l g b)
         → y ≡ fails15 (recordAt s) n p
-    fails15-connection m c l g w x v y ec em ex ev ew eg el ey =
+    fails15-connection m c l g w x y ec em ex ew eg el ey =
         let z : w ≡ outputWidth (fieldsOf (recordAt s (sourceOf (recordAt s) n p .comp))) =
-        ew ∙ ap (λ (u : Record). outputWidth (fieldsOf u)) ev
-        ∙ ap (λ (u : Pin). outputWidth (fieldsOf (recordAt s (u .comp)))) (source-is m c x em ec ex) in
+        ew ∙ ap (λ (u : Pin). outputWidth (fieldsOf (recordAt s (u .comp)))) (source-is m c x em ec ex) in
         ey ∙ ap (λ (u : ℕ). any (unlike (recordAt s) u) (targets (recordAt s) n l g b)) z
         ∙ ap (any (unlike (recordAt s) (outputWidth (fieldsOf (recordAt s (sourceOf (recordAt s) n p .comp)))))) (targets-are l g el eg)
         ∙ fails15-is

@@ -15,12 +15,13 @@ use lib.Seq.{drop-cons}
 use Rattle.lists.specs.Lists.{from, every, first}
 use Rattle.lists.proofs.ListsLaws.{and-left, and-right, first-here, first-next, first-none}
 use Rattle.primitive.specs.declared.answers.Refusal.{Refusal}
+use Rattle.primitive.proofs.GivenLaws.{done-declined, declined-refusal}
 use Rattle.component.specs.declared.Verdict.{Verdict}
 use Rattle.component.specs.declared.Verdict.the-variants.{Accepted, Refused}
 use Rattle.component.specs.Record.{recordAt}
 use Rattle.flatten.specs.declared.judgement.Found.{Found}
 use Rattle.flatten.specs.declared.judgement.Found.the-variants.{At, Nowhere}
-use Rattle.flatten.specs.Verdict.{Check, checks, refused, said, judged, sized, verdict}
+use Rattle.flatten.specs.Verdict.{Check, checks, refused, said, judged, sized, verdict, verdictGives, Judges}
 use Rattle.flatten.specs.Steps.{noCheck, failsBy, found}
 
 -- A search's answer.
@@ -131,13 +132,25 @@ module _ (s : List ℕ) (b : Bool) (e : b ≡ sized s) where
       leb-true (length s / 24) 1024
       (and-right (not (eqb (length s) 0) && eqb (length s % 24) 0) (leb (length s / 24) 1024) (sym e ∙ not-false b h))
 
-  pub verdict-sized : not b ≡ true → refused 1 0 ≡ verdict s
+  pub verdict-sized : not b ≡ true → Judges s (refused 1 0)
   unfolding verdict
   verdict-sized h = rw (← e, not-true b h)
 
-  pub verdict-judged : (v : Verdict) → not b ≡ false → v ≡ judged (length s / 24) (checks (recordAt s) (length s / 24)) → v ≡ verdict s
+  pub verdict-judged : (v : Verdict) → not b ≡ false → v ≡ judged (length s / 24) (checks (recordAt s) (length s / 24)) → Judges s v
   unfolding verdict
-  verdict-judged v h d = d ∙ rw (← e, not-false b h)
+  verdict-judged v h d =
+      let q : v ≡ verdict s = d ∙ rw (← e, not-false b h) in
+      ap (λ (x : Verdict). verdictGives x []) q
+
+-- Verdicts that give the same are the same, so what `judge` promises is the verdict.
+pub verdictGives-is : (a b : Verdict) → verdictGives a [] ≡ verdictGives b [] → a ≡ b
+verdictGives-is Accepted Accepted e = refl
+verdictGives-is Accepted (Refused r) e = absurd (done-declined [] r e)
+verdictGives-is (Refused r) Accepted e = absurd (done-declined [] r (sym e))
+verdictGives-is (Refused r) (Refused s) e = ap Refused (declined-refusal r s e)
+
+pub judges-verdict : (s : List ℕ) (v : Verdict) → Judges s v → v ≡ verdict s
+judges-verdict s v e = verdictGives-is v (verdict s) e
 
 -- A refusal's number is at most 15, and its position is below 1,024.
 judged-bound : (n : ℕ) (cs : List Check) (r : Refusal) → every (λ (c : Check). ltb (c .number) 16) cs ≡ true → judged n cs ≡ Refused r

@@ -1,4 +1,5 @@
 -- The judgement of a file's bytes. docs/SPECIFICATION.md, "Numbers given back" and the host's call.
+use mathlib.Core.Path.{_≡_}
 use Prim.Native.Nat.{ℕ, _+_, _*_, _%_}
 use mathlib.Core.Bool.{Bool, cond, not, _&&_}
 use mathlib.Core.List.{List, [], _∷_}
@@ -6,6 +7,7 @@ use mathlib.Core.Option.{Option, none, some}
 use lib.ListN.{length}
 use lib.Dec.{eqb, leb}
 use Rattle.lists.specs.Lists.{from, first}
+use Rattle.primitive.specs.Given.{Given, done, declined}
 use Rattle.component.specs.declared.Record.{Record}
 use Rattle.component.specs.declared.Verdict.{Verdict}
 use Rattle.component.specs.declared.Verdict.the-variants.{Accepted, Refused}
@@ -25,9 +27,9 @@ check k f = record { number = k; fails = f }
 -- The checks of a drawing, in number order.
 abbrev pub checks : (ℕ → Record) → ℕ → List Check
 checks at n =
-    check 3 (fails3 at n) ∷ check 4 (fails4 at n) ∷ check 5 (fails5 at n) ∷ check 6 (fails6 at n) ∷ check 7 (fails7 at n)
-    ∷ check 8 (fails8 at n) ∷ check 9 (fails9 at n) ∷ check 10 (fails10 at n) ∷ check 11 (fails11 at n) ∷ check 12 (fails12 at n)
-    ∷ check 13 (fails13 at n) ∷ check 14 (fails14 at n) ∷ check 15 (fails15 at n) ∷ []
+    check 3 (fails3 at) ∷ check 4 (fails4 at) ∷ check 5 (fails5 at) ∷ check 6 (fails6 at) ∷ check 7 (fails7 at)
+    ∷ check 8 (fails8 at) ∷ check 9 (fails9 at) ∷ check 10 (fails10 at) ∷ check 11 (fails11 at) ∷ check 12 (fails12 at n)
+    ∷ check 13 (fails13 at) ∷ check 14 (fails14 at n) ∷ check 15 (fails15 at n) ∷ []
 
 -- Refused with number k at position p.
 abbrev pub refused : ℕ → ℕ → Verdict
@@ -55,3 +57,16 @@ verdict file = cond (sized file) (judged (recordCount file) (checks (recordAt fi
 abbrev pub spoken : Verdict → ℕ
 spoken Accepted = 0
 spoken (Refused r) = 65536 * r .number + r .position
+
+-- What each verdict gives; where it is accepted, these values.
+abbrev pub verdictGives : Verdict → List ℕ → Given
+verdictGives Accepted xs = done xs
+verdictGives (Refused r) xs = declined r
+
+-- The promise of `judge`: its answer r gives what the file is judged to be.
+abbrev pub Judges : List ℕ → Verdict → Type 0
+Judges file r = verdictGives r [] ≡ verdictGives (verdict file) []
+
+-- The promise of the host's call.
+abbrev pub Speaks : List ℕ → ℕ → Type 0
+Speaks file r = r ≡ spoken (verdict file)

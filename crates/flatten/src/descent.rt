@@ -9,14 +9,14 @@ ghost use Rattle.component.specs.Index.{IsTable, IsRange};
 ghost use Rattle.flatten.specs.Descent.{source, targets, fails15};
 ghost use Rattle.flatten.specs.Steps.{entered, unlike, IsStretch};
 use crate::Pin;
-use component::Record;
+use component::Reading;
+use component::Says;
+use component::Seen;
 use component::child_of;
+use component::component_at;
 use component::deepest;
-use component::fields_of;
-use component::from_of;
-use component::is_primitive;
+use component::is_primitive_at;
 use component::out_map_of;
-use component::output_of;
 use component::record_at;
 
 // Where a record leads from an input of a composite: to an input of a child, if it is one of that input's maps, or nowhere.
@@ -31,18 +31,24 @@ pub struct Stretch {
     pub end: usize,
 }
 
-// The bits of each input of a component; 1 where the record is none.
-fn input_width_of(r: Record) -> u64
-    ensures { λ x. ⌜ x ≡ inputWidth (fieldsOf r) ⌝ }
+// The bits of each input of component c; 1 where there is none.
+fn input_width_at(file: &[u8], c: usize) -> u64
+    ensures { λ x. ⌜ x ≡ inputWidth (fieldsOf (recordAt (now (file .entry)) c)) ⌝ }
 {
-    primitive::input_width(fields_of(r))
+    let Seen::Component { fields, .. } = component_at(file, c) else {
+        return 1;
+    };
+    primitive::input_width(fields)
 }
 
-// The bits of each output of a component; 1 where the record is none.
-fn output_width_of(r: Record) -> u64
-    ensures { λ x. ⌜ x ≡ outputWidth (fieldsOf r) ⌝ }
+// The bits of each output of component c; 1 where there is none.
+fn output_width_at(file: &[u8], c: usize) -> u64
+    ensures { λ x. ⌜ x ≡ outputWidth (fieldsOf (recordAt (now (file .entry)) c)) ⌝ }
 {
-    primitive::output_width(fields_of(r))
+    let Seen::Component { fields, .. } = component_at(file, c) else {
+        return 1;
+    };
+    primitive::output_width(fields)
 }
 
 // Output i of component c, down through output maps to a primitive's output, with the depth left. Crates flatten and load call
@@ -63,12 +69,17 @@ pub fn source_of(
     if depth == 0 {
         return Pin { comp: n, port: 0 };
     }
-    if is_primitive(record_at(file, c)) {
+    if is_primitive_at(file, c) {
         return Pin { comp: c, port: i };
     }
-    let map = record_at(file, out_map_of(file, n, outs, c, i));
-    let from = child_of(file, n, children, c, from_of(map));
-    source_of(file, n, children, outs, depth - 1, from, output_of(map))
+    let Reading::Taken { says, .. } = record_at(file, out_map_of(file, n, outs, c, i)) else {
+        return Pin { comp: n, port: 0 };
+    };
+    let Says::OutputMap { from, output } = says else {
+        return Pin { comp: n, port: 0 };
+    };
+    let inner = child_of(file, n, children, c, from);
+    source_of(file, n, children, outs, depth - 1, inner, output)
 }
 
 // Where the record at q leads, if it maps input i of composite c. Crates flatten and load call it, with the index filled.
@@ -76,13 +87,10 @@ pub fn enter(file: &[u8], n: usize, children: &[u16], c: usize, i: u16, q: usize
     requires { ⌜ IsTable 256 (child (recordAt (now file)) n) (now children) ⌝ }
     ensures { λ r. ⌜ r ≡ entered (recordAt (now (file .entry))) n c i q ⌝ }
 {
-    let Record::InputMap {
-        owner,
-        port,
-        to,
-        input,
-    } = record_at(file, q)
-    else {
+    let Reading::Taken { owner, says } = record_at(file, q) else {
+        return Entered::Nothing;
+    };
+    let Says::InputMap { port, to, input } = says else {
         return Entered::Nothing;
     };
     if owner as usize != c {
@@ -128,9 +136,8 @@ fn differs(
     if depth == 0 {
         return false;
     }
-    let here = record_at(file, c);
-    if is_primitive(here) {
-        return width != input_width_of(here);
+    if is_primitive_at(file, c) {
+        return width != input_width_at(file, c);
     }
     let maps = stretch_of(file, n, lo, hi, c);
     let end = maps.end;
@@ -161,19 +168,21 @@ pub(crate) fn check15(
     requires { ⌜ IsRange (now file) n (now lo) (now hi) ⌝ }
     ensures { λ r. ⌜ r ≡ fails15 (recordAt (now (file .entry))) n p ⌝ }
 {
-    let Record::Connection {
-        owner,
+    let Reading::Taken { owner, says } = record_at(file, p) else {
+        return false;
+    };
+    let Says::Connection {
         from,
         output,
         to,
         input,
-    } = record_at(file, p)
+    } = says
     else {
         return false;
     };
     let start = child_of(file, n, children, owner as usize, from);
     let source = source_of(file, n, children, outs, deepest(), start, output);
-    let width = output_width_of(record_at(file, source.comp));
+    let width = output_width_at(file, source.comp);
     let goal = child_of(file, n, children, owner as usize, to);
     differs(file, n, children, lo, hi, deepest(), goal, input, width)
 }

@@ -5,7 +5,7 @@ ghost use Rattle.lists.specs.Lists.{from, first};
 ghost use Rattle.component.specs.Record.{recordAt};
 ghost use Rattle.component.specs.Drawing.{child, outMap};
 ghost use Rattle.component.specs.Index.{IsTable, IsRange};
-ghost use Rattle.flatten.specs.Verdict.{checks, judged, sized, verdict};
+ghost use Rattle.flatten.specs.Verdict.{checks, judged, sized, Judges};
 ghost use Rattle.flatten.specs.Steps.{failsBy, found};
 use crate::descent::check15;
 use component::Verdict;
@@ -50,17 +50,17 @@ fn fails(
     ensures { λ r. ⌜ r ≡ failsBy (recordAt (now (file .entry))) n k p ⌝ }
 {
     match k {
-        3 => check3(file, n, p),
-        4 => check4(file, n, p),
-        5 => check5(file, n, p),
-        6 => check6(file, n, p),
-        7 => check7(file, n, p),
-        8 => check8(file, n, p),
-        9 => check9(file, n, p),
-        10 => check10(file, n, p),
-        11 => check11(file, n, p),
+        3 => check3(file, p) != 0,
+        4 => check4(file, p),
+        5 => check5(file, p),
+        6 => check6(file, p),
+        7 => check7(file, p),
+        8 => check8(file, p),
+        9 => check9(file, p),
+        10 => check10(file, p),
+        11 => check11(file, p),
         12 => check12(file, n, children, p),
-        13 => check13(file, n, p),
+        13 => check13(file, p),
         14 => check14(file, n, p),
         _ => check15(file, n, children, outs, lo, hi, p),
     }
@@ -130,7 +130,7 @@ pub fn is_sized(file: &[u8]) -> bool
 
 // What a file's bytes are judged to be.
 pub fn judge(file: &[u8]) -> Verdict
-    ensures { λ r. ⌜ r ≡ verdict (now (file .entry)) ⌝ }
+    ensures { λ r. ⌜ Judges (now (file .entry)) r ⌝ }
 {
     if !is_sized(file) {
         return Verdict::Refused(Refusal {

@@ -1,16 +1,30 @@
-// The call of the screen's host program, which is written in C. Rule: docs/SPECIFICATION.md, "Rounds", its last paragraph.
-// host/berxundar.h declares it.
-ghost use mathlib.Core.Path.{_≡_};
-ghost use Rattle.flatten.specs.Verdict.{verdict, spoken};
-use component::Verdict;
+// The calls of the screen's host program, which is written in C. Rules: docs/SPECIFICATION.md, "Rounds", its last paragraph, and
+// "Numbers given back". host/berxundar.h declares them. Each has its engine's own promise, on the tables that the lent slices and
+// count words make; a function of many slices stands in a module of its own.
+mod answers;
+mod calm;
+mod counts;
+mod edit;
+mod evaluate;
+mod index;
+mod is_net;
+mod judge;
+mod loading;
+mod port;
+mod round;
+mod run;
+mod sources;
+mod targets;
 
-// Judges a file's bytes: number times 65,536 plus position, check 2 not made.
-#[no_mangle]
-pub extern "C" fn berxundar_judge(file: &[u8]) -> u32
-    ensures { λ r. ⌜ r ≡ spoken (verdict (now (file .entry))) ⌝ }
-{
-    match flatten::judge(file) {
-        Verdict::Accepted => 0,
-        Verdict::Refused(refusal) => 65536 * refusal.number + refusal.position,
-    }
-}
+pub use calm::berxundar_calm;
+pub use edit::berxundar_edit;
+pub use evaluate::berxundar_evaluate;
+pub use index::berxundar_index;
+pub use is_net::berxundar_check;
+pub use judge::berxundar_judge;
+pub use loading::berxundar_load;
+pub use port::berxundar_value;
+pub use round::berxundar_round;
+pub use run::berxundar_run_until_calm;
+pub use sources::berxundar_sources;
+pub use targets::berxundar_targets;

@@ -15,9 +15,8 @@ use lib.ListN.{length, getD}
 use Rattle.lists.specs.Lists.{from, first}
 use Rattle.lists.proofs.MembersLaws.{In, first-none, from0-complete, getD-cases}
 use Rattle.component.specs.declared.Record.{Record}
-use Rattle.component.specs.declared.Record.the-variants.{Refused as NoRecord}
 use Rattle.component.specs.declared.Verdict.the-variants.{Accepted}
-use Rattle.component.specs.Record.{recordAt, recordCount}
+use Rattle.component.specs.Record.{noRecord, recordAt, recordCount}
 use Rattle.flatten.specs.Verdict.{Check, check, checks, refused, said, judged, sized, verdict}
 
 -- A refusal is no acceptance.
@@ -50,7 +49,7 @@ checks-numbers at n = refl
 
 -- A drawing that passes every check, and has no record past its end.
 pub record Passed (at : ℕ → Record) (n : ℕ) : Type 0 where
-  pub past : (p : ℕ) → n ≤ p → at p ≡ NoRecord
+  pub past : (p : ℕ) → n ≤ p → at p ≡ noRecord
   pub passes : (k p : ℕ) → p < n → checkNumbered at n k .fails p ≡ false
 
 -- An accepted file has a size that check 1 passes.

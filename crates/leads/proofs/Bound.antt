@@ -52,12 +52,12 @@ module _ (at : ℕ → Record) (n : ℕ) where
 
   -- Every input of every primitive.
   abbrev pub inputPins : List Pin
-  inputPins = joined (λ c. map (pin c) (from 0 (inputsOf (at c)))) (primitivesBefore at n n)
+  inputPins = joined (λ c. map (pin c) (from 0 (inputsOf (at c)))) (primitivesBefore at n)
 
-  inputPins-length : length inputPins ≡ inputsBefore at n n
+  inputPins-length : length inputPins ≡ inputsBefore at n
   inputPins-length =
-      joined-length (λ c. map (pin c) (from 0 (inputsOf (at c)))) (primitivesBefore at n n)
-      ∙ total-cong _ _ (primitivesBefore at n n)
+      joined-length (λ c. map (pin c) (from 0 (inputsOf (at c)))) (primitivesBefore at n)
+      ∙ total-cong _ _ (primitivesBefore at n)
       (λ c. length-map (from 0 (inputsOf (at c))) (pin c) ∙ from-length 0 (inputsOf (at c)))
 
 module _ (at : ℕ → Record) (n : ℕ) (d : Passed at n) where
@@ -67,7 +67,7 @@ module _ (at : ℕ → Record) (n : ℕ) (d : Passed at n) where
 
   inputPins-complete : (t : Pin) → IsInput at t → In t (inputPins at n)
   inputPins-complete t i =
-      joined-complete (λ c. map (pin c) (from 0 (inputsOf (at c)))) t (primitivesBefore at n n) (t .comp)
+      joined-complete (λ c. map (pin c) (from 0 (inputsOf (at c)))) t (primitivesBefore at n) (t .comp)
       (primitivesBefore-complete at n (t .comp) n (i .of-primitive)
       (primitive-below at n d (t .comp) (i .of-primitive)))
       (map-complete (pin (t .comp)) (t .port) (from 0 (inputsOf (at (t .comp))))

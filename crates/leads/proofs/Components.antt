@@ -10,7 +10,7 @@ use mathlib.Core.List.{List}
 use Prim.Native.Nat.{ℕ, zero, suc, _-_, _≤_, _<_}
 use native.Mathlib.Decide.{decLt}
 use native.Mathlib.Omega.{arith}
-use borrow.Author.Tests.{eqb-true, eqb-false, eq-eqb, ltb-false, leb-false, not-true, not-false}
+use borrow.Author.Tests.{eqb-true, eqb-false, eq-eqb, ne-eqb, ltb-false, leb-false, not-true, not-false}
 use lib.ListN.{length, getD}
 use lib.Dec.{eqb, leb}
 use Rattle.lists.specs.Lists.{from, keep}
@@ -50,21 +50,21 @@ module _ (at : ℕ → Record) (n : ℕ) (d : Passed at n) where
   -- No component is numbered 256 or more, and none is deeper than allowed.
   pub component-number : (c : ℕ) → formOf (at c) ≡ 1 → c < 256
   component-number c e =
-      let six : (leb 256 c || deeper at n deepest c) ≡ false = rw e at (d .passes 6 c (component-below c e)) in
-      leb-false 256 c (or-left-false (leb 256 c) (deeper at n deepest c) six)
+      let six : (leb 256 c || deeper at deepest c) ≡ false = rw e at (d .passes 6 c (component-below c e)) in
+      leb-false 256 c (or-left-false (leb 256 c) (deeper at deepest c) six)
 
-  pub component-deep : (c : ℕ) → formOf (at c) ≡ 1 → deeper at n deepest c ≡ false
+  pub component-deep : (c : ℕ) → formOf (at c) ≡ 1 → deeper at deepest c ≡ false
   component-deep c e =
-      let six : (leb 256 c || deeper at n deepest c) ≡ false = rw e at (d .passes 6 c (component-below c e)) in
-      or-right-false (leb 256 c) (deeper at n deepest c) six
+      let six : (leb 256 c || deeper at deepest c) ≡ false = rw e at (d .passes 6 c (component-below c e)) in
+      or-right-false (leb 256 c) (deeper at deepest c) six
 
   -- A component that is no primitive is a composite.
   pub component-composite : (c : ℕ) → formOf (at c) ≡ 1 → isPrimitive (at c) ≡ false → composite (at c) ≡ true
   component-composite c e z =
       let k = fieldsOf (at c) .kind in
       let l = component-below c e in
-      let seven : eqb k 14 ≡ false = rw e at (d .passes 7 c l) in
-      let eight : leb 15 k ≡ false = rw e at (d .passes 8 c l) in
+      let seven : eqb k 14 ≡ false = and-right-false _ _ (d .passes 7 c l) (eq-eqb (formOf (at c)) 1 e) in
+      let eight : leb 15 k ≡ false = and-right-false _ _ (d .passes 8 c l) (eq-eqb (formOf (at c)) 1 e) in
       by-least (leb 1 k) refl (eqb-false k 14 seven) (leb-false 15 k eight)
     where
       by-least : (b : Bool) → leb 1 (fieldsOf (at c) .kind) ≡ b → (fieldsOf (at c) .kind ≡ 14 → ⊥)
@@ -77,12 +77,14 @@ module _ (at : ℕ → Record) (n : ℕ) (d : Passed at n) where
   pub owner-composite : (q : ℕ) → q < n → 2 ≤ formOf (at q) → composite (at (ownerOf (at q))) ≡ true
   owner-composite zero l h =
       let z : formOf (at 0) ≡ 1 = eqb-true (formOf (at 0)) 1 (not-false _ (d .passes 4 0 l)) in absurd (omega arith)
-  owner-composite (suc q) l h = and-left (composite (at (ownerOf (at (suc q))))) _ (not-false _ (d .passes 5 (suc q) l))
+  owner-composite (suc q) l h =
+      let some = ne-eqb (formOf (at (suc q))) 0 (λ z. omega arith) in
+      and-left (composite (at (ownerOf (at (suc q))))) _ (not-false _ (rw some at (d .passes 5 (suc q) l)))
 
   -- Components stand first: what stands before a component is one.
   component-before : (q : ℕ) → suc q < n → formOf (at (suc q)) ≡ 1 → formOf (at q) ≡ 1
   component-before q l e =
-      let four = ltb-false (formOf (at (suc q))) (formOf (at q)) (or-left-false _ _ (d .passes 4 (suc q) l)) in
+      let four = ltb-false 1 (formOf (at q)) (or-left-false _ _ (rw e at (d .passes 4 (suc q) l))) in
       let three = eqb-false (formOf (at q)) 0 (d .passes 3 q (omega arith)) in
       omega arith
 
@@ -96,27 +98,27 @@ module _ (at : ℕ → Record) (n : ℕ) (d : Passed at n) where
       by-place before (no l) = let z : q ≡ suc c = omega arith in rw z e
 
   -- What holds a component stands before it, if owners up to there do.
-  holds-before : (f o q : ℕ) → ((x : ℕ) → x ≤ q → 1 ≤ x → ownerOf (at x) < x) → holds at n f o q ≡ true → o < q
+  holds-before : (f o q : ℕ) → ((x : ℕ) → x ≤ q → 1 ≤ x → ownerOf (at x) < x) → holds at f o q ≡ true → o < q
   holds-before zero o q r h = absurd (false≢true h)
   holds-before (suc f) o q r h =
-      let nz = eqb-false q 0 (not-true _ (and-left (not (eqb q 0)) _ h)) in
+      let nz = eqb-false q 0 (not-true _ (and-left (not (eqb q 0)) _ (and-left (not (eqb q 0) && isComponent at q) _ h))) in
       let before = r q (omega arith) (omega arith) in
       ⊎-elim (λ u. omega (arith, eqb-true (ownerOf (at q)) o u))
       (λ u. omega (arith, holds-before f o (ownerOf (at q)) (λ x a b. r x (omega arith) b) u))
-      (or-cases (eqb (ownerOf (at q)) o) _ (and-right (not (eqb q 0)) _ h))
+      (or-cases (eqb (ownerOf (at q)) o) _ (and-right (not (eqb q 0) && isComponent at q) _ h))
 
   owner-before-upto : (m c : ℕ) → c < m → 1 ≤ c → formOf (at c) ≡ 1 → ownerOf (at c) < c
   owner-before-upto zero c h p e = absurd (omega arith)
   owner-before-upto (suc m) zero h p e = absurd (omega arith)
   owner-before-upto (suc m) (suc b) h p e =
       let o = ownerOf (at (suc b)) in
-      let five : (composite (at o) && (not (isComponent at n (suc b)) || eqb o b || holds at n b o b)) ≡ true =
-      not-false _ (d .passes 5 (suc b) (component-below (suc b) e)) in
-      let held : (eqb o b || holds at n b o b) ≡ true = rw e at (and-right (composite (at o)) _ five) in
+      let five : (composite (at o) && (eqb o b || holds at b o b)) ≡ true =
+      not-false _ (rw e at (d .passes 5 (suc b) (component-below (suc b) e))) in
+      let held = and-right (composite (at o)) (eqb o b || holds at b o b) five in
       ⊎-elim (λ u. omega (arith, eqb-true o b u))
       (λ u. let w = holds-before b o b
       (λ x a c. owner-before-upto m x (omega arith) c (components-first (suc b) x e (omega arith))) u in omega arith)
-      (or-cases (eqb o b) (holds at n b o b) held)
+      (or-cases (eqb o b) (holds at b o b) held)
 
   -- An owner stands before what it owns.
   pub owner-before : (c : ℕ) → 1 ≤ c → formOf (at c) ≡ 1 → ownerOf (at c) < c
@@ -128,18 +130,18 @@ module _ (at : ℕ → Record) (n : ℕ) (d : Passed at n) where
   child-owner o k e =
       ⊎-elim (λ u. let z : child at n o k < n = component-below _ e in absurd (omega arith))
       (λ v. let r = keep-sound owned (child at n o k) (from 1 (n - 1)) (v .1) in
-      (eqb-true _ _ (and-right (isComponent at n (child at n o k)) _ (r .0)), from-sound 1 (n - 1) _ (r .1) .0))
+      (eqb-true _ _ (and-right (isComponent at (child at n o k)) _ (r .0)), from-sound 1 (n - 1) _ (r .1) .0))
       (getD-cases (keep owned (from 1 (n - 1))) k n)
     where
       owned : ℕ → Bool
-      owned q = isComponent at n q && eqb (ownerOf (at q)) o
+      owned q = isComponent at q && eqb (ownerOf (at q)) o
 
   -- Two children of one owner that are one component have one place.
   pub child-inj : (o j k : ℕ) → formOf (at (child at n o j)) ≡ 1 → child at n o j ≡ child at n o k → j ≡ k
   child-inj o j k e s = by-places (getD-cases children j n) (getD-cases children k n)
     where
       children : List ℕ
-      children = keep (λ q. isComponent at n q && eqb (ownerOf (at q)) o) (from 1 (n - 1))
+      children = keep (λ q. isComponent at q && eqb (ownerOf (at q)) o) (from 1 (n - 1))
 
       inside : child at n o j < n
       inside = component-below (child at n o j) e

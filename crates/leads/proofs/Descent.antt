@@ -29,7 +29,7 @@ use Rattle.leads.proofs.Components.{component-below, component-composit
 
 module _ (at : ℕ → Record) (n : ℕ) where
   -- What a record that maps input i of composite c is.
-  pub mapsIn-sound : (c i q : ℕ) → mapsIn at n c i q ≡ true
+  pub mapsIn-sound : (c i q : ℕ) → mapsIn at c i q ≡ true
       → (formOf (at q) ≡ 3) × (ownerOf (at q) ≡ c) × (portOf (at q) ≡ i)
   mapsIn-sound c i q m =
       let both = and-left (eqb (formOf (at q)) 3 && eqb (ownerOf (at q)) c) (eqb (portOf (at q)) i) m in (
@@ -65,29 +65,29 @@ module _ (at : ℕ → Record) (n : ℕ) where
       onward q = targets at n f (child at n c (toOf (at q))) (inputOf (at q))
 
       by-kind : ((x j : ℕ) → In t (targets at n f x j) → Into at n x j t) → (b : Bool) → isPrimitive (at c) ≡ b
-          → In t (cond b (pin c i ∷ []) (joined (λ q. cond (mapsIn at n c i q) (onward q) []) (from 0 n)))
+          → In t (cond b (pin c i ∷ []) (joined (λ q. cond (mapsIn at c i q) (onward q) []) (from 0 n)))
           → Into at n c i t
       by-kind down true e (inl u) = ends e u
       by-kind down true e (inr u) = absurd u
       by-kind down false e u =
-          let r = joined-sound (λ q. cond (mapsIn at n c i q) (onward q) []) t (from 0 n) u in
+          let r = joined-sound (λ q. cond (mapsIn at c i q) (onward q) []) t (from 0 n) u in
           let q = r .0 in
-          let m = in-cond t (mapsIn at n c i q) (onward q) (r .2) in
+          let m = in-cond t (mapsIn at c i q) (onward q) (r .2) in
           maps q (from0-sound n q (r .1)) e (m .0) (down (child at n c (toOf (at q))) (inputOf (at q)) (m .1))
 
 module _ (at : ℕ → Record) (n : ℕ) (d : Passed at n) where
   -- A child is one deeper than its owner.
-  deeper-child : (g o k : ℕ) → formOf (at (child at n o k)) ≡ 1 → deeper at n g o ≡ true
-      → deeper at n (suc g) (child at n o k) ≡ true
+  deeper-child : (g o k : ℕ) → formOf (at (child at n o k)) ≡ 1 → deeper at g o ≡ true
+      → deeper at (suc g) (child at n o k) ≡ true
   deeper-child g o k e u =
       let r = child-owner at n d o k e in
-      rw (ne-eqb (child at n o k) 0 (λ z. omega (arith, r .1)), r .0) u
+      rw (ne-eqb (child at n o k) 0 (λ z. omega (arith, r .1)), e, r .0) u
 
   -- No component is met with no depth left.
-  depth-left : (g c : ℕ) → g + 0 ≡ deepest → formOf (at c) ≡ 1 → deeper at n g c ≡ true → ⊥
+  depth-left : (g c : ℕ) → g + 0 ≡ deepest → formOf (at c) ≡ 1 → deeper at g c ≡ true → ⊥
   depth-left g c h e u =
       let z : g ≡ deepest = omega arith in
-      true≢false (sym u ∙ ap (λ (x : ℕ). deeper at n x c) z ∙ component-deep at n d c e)
+      true≢false (sym u ∙ ap (λ (x : ℕ). deeper at x c) z ∙ component-deep at n d c e)
 
   into-component : (c i : ℕ) (t : Pin) → Into at n c i t → formOf (at c) ≡ 1
   into-component c i t (ends e u) = primitive-component (at c) e
@@ -106,7 +106,7 @@ module _ (at : ℕ → Record) (n : ℕ) (d : Passed at n) where
       (subst (λ (o : ℕ). composite (at o) ≡ true) (m .1) (owner-composite at n d (outMap at n c i) l (omega arith)))
 
   -- Each primitive input that an input goes to is found as a target.
-  pub targets-complete : (g f c i : ℕ) (t : Pin) → g + f ≡ deepest → deeper at n g c ≡ true → Into at n c i t
+  pub targets-complete : (g f c i : ℕ) (t : Pin) → g + f ≡ deepest → deeper at g c ≡ true → Into at n c i t
       → In t (targets at n f c i)
   unfolding targets
   targets-complete g zero c i t h u r = absurd (depth-left g c h (into-component c i t r) u)
@@ -114,13 +114,13 @@ module _ (at : ℕ → Record) (n : ℕ) (d : Passed at n) where
   targets-complete g (suc f) c i t h u (maps q l e m r) =
       let below = child at n c (toOf (at q)) in
       rw e
-      (joined-complete (λ q. cond (mapsIn at n c i q) (targets at n f (child at n c (toOf (at q))) (inputOf (at q))) [])
+      (joined-complete (λ q. cond (mapsIn at c i q) (targets at n f (child at n c (toOf (at q))) (inputOf (at q))) [])
       t (from 0 n) q (from0-complete n q l)
       (rw m (targets-complete (suc g) f below (inputOf (at q)) t (omega arith)
       (deeper-child g c (toOf (at q)) (into-component below (inputOf (at q)) t r) u) r)))
 
   -- The primitive output that an output comes from is found as its source.
-  pub source-complete : (g f c i : ℕ) (s : Pin) → g + f ≡ deepest → deeper at n g c ≡ true → From at n c i s
+  pub source-complete : (g f c i : ℕ) (s : Pin) → g + f ≡ deepest → deeper at g c ≡ true → From at n c i s
       → source at n f c i ≡ s
   unfolding source
   source-complete g zero c i s h u r = absurd (depth-left g c h (from-component c i s r) u)
@@ -128,7 +128,7 @@ module _ (at : ℕ → Record) (n : ℕ) (d : Passed at n) where
   source-complete g (suc f) c i s h u (through l e r) =
       let q = outMap at n c i in
       let below = child at n c (fromOf (at q)) in
-      rw e
+      rw (e, outMap-sound at n c i l .0)
       (source-complete (suc g) f below (outputOf (at q)) s (omega arith)
       (deeper-child g c (fromOf (at q)) (from-component below (outputOf (at q)) s r) u) r)
 
@@ -149,7 +149,7 @@ module _ (at : ℕ → Record) (n : ℕ) (d : Passed at n) where
       (l, rw (m .1) at (ltb-true (outputOf (at q)) _ (not-false (fromThere at n (at q)) twelve)))
 
   -- The source found is where the output comes from.
-  pub source-sound : (g f c i : ℕ) → g + f ≡ deepest → deeper at n g c ≡ true → i < outputsOf (at c)
+  pub source-sound : (g f c i : ℕ) → g + f ≡ deepest → deeper at g c ≡ true → i < outputsOf (at c)
       → From at n c i (source at n f c i)
   unfolding source
   source-sound g zero c i h u o = absurd (depth-left g c h (output-component (at c) i o) u)
@@ -161,12 +161,12 @@ module _ (at : ℕ → Record) (n : ℕ) (d : Passed at n) where
       below : ℕ
       below = child at n c (fromOf (at mapped))
 
-      by-kind : ((x j : ℕ) → deeper at n (suc g) x ≡ true → j < outputsOf (at x) → From at n x j (source at n f x j))
+      by-kind : ((x j : ℕ) → deeper at (suc g) x ≡ true → j < outputsOf (at x) → From at n x j (source at n f x j))
           → (b : Bool) → isPrimitive (at c) ≡ b
-          → From at n c i (cond b (pin c i) (source at n f below (outputOf (at mapped))))
+          → From at n c i (cond b (pin c i) (cond (eqb (formOf (at mapped)) 4) (source at n f below (outputOf (at mapped))) (pin n 0)))
       by-kind down true e = starts e refl
       by-kind down false e =
           let r = outMap-there c i (component-composite at n d c (output-component (at c) i o) e) o in
-          through (r .0) e
+          rw (outMap-sound at n c i (r .0) .0) (through (r .0) e
           (down below (outputOf (at mapped))
-          (deeper-child g c (fromOf (at mapped)) (output-component (at below) _ (r .1)) u) (r .1))
+          (deeper-child g c (fromOf (at mapped)) (output-component (at below) _ (r .1)) u) (r .1)))

@@ -112,12 +112,12 @@ module _ (at : ℕ → Record) (n : ℕ) (d : Passed at n) where
   under-above q l f t (here e) = down q l f (here refl) e
   under-above q l f t (down r m g u e) = down r m g (under-above q l f (start at r) u) e
 
-  mapsIn-entry : (c i q : ℕ) → mapsIn at n c i q ≡ true
+  mapsIn-entry : (c i q : ℕ) → mapsIn at c i q ≡ true
       → entry at n q ≡ pin (child at n c (toOf (at q))) (inputOf (at q))
   mapsIn-entry c i q m =
       ap (λ (o : ℕ). pin (child at n o (toOf (at q))) (inputOf (at q))) (mapsIn-sound at n c i q m .1)
 
-  mapsIn-start : (c i q : ℕ) → mapsIn at n c i q ≡ true → start at q ≡ pin c i
+  mapsIn-start : (c i q : ℕ) → mapsIn at c i q ≡ true → start at q ≡ pin c i
   mapsIn-start c i q m =
       let s = mapsIn-sound at n c i q m in
       ap (λ (o : ℕ). pin o (portOf (at q))) (s .1) ∙ ap (pin c) (s .2)
@@ -168,16 +168,16 @@ module _ (at : ℕ → Record) (n : ℕ) (d : Passed at n) where
       by-map each true q = each (child at n c (toOf (at q))) (inputOf (at q))
       by-map each false q = tt
 
-      path : (q : ℕ) (t : Pin) → mapsIn at n c i q ≡ true → In t (onward q) → Under at n (entry at n q) t
+      path : (q : ℕ) (t : Pin) → mapsIn at c i q ≡ true → In t (onward q) → Under at n (entry at n q) t
       path q t m h =
           subst (λ (x : Pin). Under at n x t) (sym (mapsIn-entry c i q m))
           (into-under _ _ t (targets-sound at n f _ _ t h))
 
       apart : (p q : ℕ) (t : Pin) → In p (from 0 n) → In q (from 0 n)
-          → In t (cond (mapsIn at n c i p) (onward p) []) → In t (cond (mapsIn at n c i q) (onward q) []) → p ≡ q
+          → In t (cond (mapsIn at c i p) (onward p) []) → In t (cond (mapsIn at c i q) (onward q) []) → p ≡ q
       apart p q t u v g h =
-          let a = in-cond t (mapsIn at n c i p) (onward p) g in
-          let b = in-cond t (mapsIn at n c i q) (onward q) h in
+          let a = in-cond t (mapsIn at c i p) (onward p) g in
+          let b = in-cond t (mapsIn at c i q) (onward q) h in
           let lp : p < n = from0-sound n p u in
           let lq : q < n = from0-sound n q v in
           let s : start at p ≡ start at q = mapsIn-start c i p (a .0) ∙ sym (mapsIn-start c i q (b .0)) in
@@ -187,11 +187,11 @@ module _ (at : ℕ → Record) (n : ℕ) (d : Passed at n) where
           (under-linear (entry at n p) (entry at n q) t (path p t (a .0) (a .1)) (path q t (b .0) (b .1)))
 
       by-kind : ((x j : ℕ) → Distinct (targets at n f x j)) → (b : Bool)
-          → Distinct (cond b (pin c i ∷ []) (joined (λ q. cond (mapsIn at n c i q) (onward q) []) (from 0 n)))
+          → Distinct (cond b (pin c i ∷ []) (joined (λ q. cond (mapsIn at c i q) (onward q) []) (from 0 n)))
       by-kind each true = (λ u. u, tt)
       by-kind each false =
-          distinct-joined (λ q. cond (mapsIn at n c i q) (onward q) []) (from 0 n) (distinct-from 0 n)
-          (λ q u. by-map each (mapsIn at n c i q) q) apart
+          distinct-joined (λ q. cond (mapsIn at c i q) (onward q) []) (from 0 n) (distinct-from 0 n)
+          (λ q u. by-map each (mapsIn at c i q) q) apart
 
   -- No input is the target of two connections, or twice of one.
   pub targetsAt-distinct : Distinct (joined (targetsAt at n) (from 0 n))

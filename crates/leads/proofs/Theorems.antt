@@ -90,19 +90,19 @@ module _ (file : List ℕ) where
     accepted-wires-width = wires-width at n passed
 
     -- The tables have room for all primitives, which are at most 256,
-    pub accepted-primitives-bound : length (primitivesBefore at n n) ≤ 256
+    pub accepted-primitives-bound : length (primitivesBefore at n) ≤ 256
     accepted-primitives-bound = primitives-bound at n passed
 
     -- for their inputs, at most 1,024,
-    pub accepted-inputs-bound : inputsBefore at n n ≤ 1024
+    pub accepted-inputs-bound : inputsBefore at n ≤ 1024
     accepted-inputs-bound = inputs-bound at n passed
 
     -- and for their outputs, at most 1,024.
-    pub accepted-outputs-bound : outputsBefore at n n ≤ 1024
+    pub accepted-outputs-bound : outputsBefore at n ≤ 1024
     accepted-outputs-bound = outputs-bound at n passed
 
     -- Each primitive has a flat index below the number of primitives,
-    pub accepted-flat-below : (c : ℕ) → isPrimitive (at c) ≡ true → flat at n c < length (primitivesBefore at n n)
+    pub accepted-flat-below : (c : ℕ) → isPrimitive (at c) ≡ true → flat at n c < length (primitivesBefore at n)
     accepted-flat-below = flat-below at n passed
 
     -- which no other primitive has.
@@ -115,5 +115,5 @@ module _ (file : List ℕ) where
     accepted-obeys = primitive-obeys at n passed
 
     -- No two primitives have one id.
-    pub accepted-ids-distinct : Distinct (map (λ c. idOf (at c)) (primitivesBefore at n n))
+    pub accepted-ids-distinct : Distinct (map (λ c. idOf (at c)) (primitivesBefore at n))
     accepted-ids-distinct = ids-distinct at n passed

@@ -1,6 +1,14 @@
-// The listing program: reads a drawing from standard input, loads it, runs it at time 0 until calm, and prints what it is and does.
+// The listing program: reads a drawing from standard input and writes its listing.
 // Rule: docs/SPECIFICATION.md, "The lamp drawing and marked cases".
+ghost use mathlib.Core.Path.{_≡_};
 ghost use Prim.Native.Nat.{_≤_};
+ghost use lib.ListN.{length};
+ghost use Rattle.tables.specs.Tables.{tablesOf, countsAfter};
+ghost use Rattle.net.specs.Net.{netNumber};
+ghost use Rattle.simulator.specs.Round.{calm};
+ghost use Rattle.simulator.specs.Calls.{roundTables};
+ghost use Rattle.lines.specs.Lines.{Puts};
+ghost use Rattle.listing.specs.Listing.{fresh, ending, rounds, listing, calmOf, RoundMade};
 use libc::STDIN_FILENO;
 use simulator::Calm;
 use tables::Answer;
@@ -9,149 +17,42 @@ use tables::Counts;
 // The most rounds.
 const ROUNDS: u64 = 16;
 
-// What a round leaves: calm, the counts to go on with, or nothing where it was refused.
-enum Step {
-    Calm,
-    Next(Counts),
-    Stopped,
-}
-
-// Ends a line at a place, and writes it out.
-fn end(out: &mut [u8], at: usize) {
-    let next = text::put(out, at, b'\n');
-    text::flush(out, next);
-}
-
-// A line of words alone.
-fn said(out: &mut [u8], words: &[u8]) {
-    let at = text::put_bytes(out, 0, words);
-    end(out, at);
-}
-
-// A word, a blank and a number.
-fn put_counted(out: &mut [u8], at: usize, word: &[u8], number: u64) -> usize {
-    let named = text::put_bytes(out, at, word);
-    let blank = text::put(out, named, b' ');
-    text::put_number(out, blank, number)
-}
-
-// The name of a kind.
-fn put_kind(out: &mut [u8], at: usize, kind: u64) -> usize {
-    match kind {
-        1 => text::put_bytes(out, at, b"And"),
-        2 => text::put_bytes(out, at, b"Or"),
-        3 => text::put_bytes(out, at, b"Not"),
-        4 => text::put_bytes(out, at, b"Nand"),
-        5 => text::put_bytes(out, at, b"Nor"),
-        6 => text::put_bytes(out, at, b"Xor"),
-        7 => text::put_bytes(out, at, b"Switch"),
-        8 => text::put_bytes(out, at, b"Input"),
-        9 => text::put_bytes(out, at, b"Output"),
-        10 => text::put_bytes(out, at, b"Splitter"),
-        11 => text::put_bytes(out, at, b"Joiner"),
-        12 => text::put_bytes(out, at, b"Clock"),
-        13 => text::put_bytes(out, at, b"Const"),
-        _ => at,
-    }
-}
-
-// A component: its index, its kind and its id.
-fn component_line(out: &mut [u8], components: &[u64], i: usize) {
-    let index = text::put_number(out, 0, i as u64);
-    let blank = text::put(out, index, b' ');
-    let named = put_kind(out, blank, tables::word(components, 8 * (i % 256)));
-    let parted = text::put(out, named, b' ');
-    let ended = text::put_number(out, parted, tables::word(components, 8 * (i % 256) + 1));
-    end(out, ended);
-}
-
-// A port: its component's index and its number.
-fn put_pin(out: &mut [u8], at: usize, wires: &[u16], place: usize) -> usize
-    requires { ⌜ place ≤ 4096 ⌝ }
-{
-    let comp = text::put_number(out, at, tables::entry(wires, place) as u64);
-    let dot = text::put(out, comp, b'.');
-    text::put_number(out, dot, tables::entry(wires, place + 1) as u64)
-}
-
-// A wire: the port it leaves and the port it enters.
-fn wire_line(out: &mut [u8], wires: &[u16], k: usize) {
-    let place = 4 * (k % 1024);
-    let left = put_pin(out, 0, wires, place);
-    let blank = text::put(out, left, b' ');
-    let entered = put_pin(out, blank, wires, place + 2);
-    end(out, entered);
-}
-
-// The components.
-fn show_components(out: &mut [u8], components: &[u64], count: usize) {
-    let all = put_counted(out, 0, b"components", count as u64);
-    end(out, all);
-    let mut i: usize = 0;
-    while i < count {
-        component_line(out, components, i);
-        i += 1;
-    }
-}
-
-// The wires.
-fn show_wires(out: &mut [u8], wires: &[u16], count: usize) {
-    let all = put_counted(out, 0, b"wires", count as u64);
-    end(out, all);
-    let mut k: usize = 0;
-    while k < count {
-        wire_line(out, wires, k);
-        k += 1;
-    }
-}
-
-// The components and the wires that a load counts.
-fn show_net(out: &mut [u8], components: &[u64], wires: &[u16], counts: Counts) {
-    show_components(out, components, counts.components);
-    show_wires(out, wires, counts.wires);
-}
-
-// A round, and the current list that it leaves.
-fn round_line(out: &mut [u8], round: u64, current: &[u16], count: usize) {
-    let numbered = put_counted(out, 0, b"round", round);
-    let next = text::put_bytes(out, numbered, b" next");
-    if count <= current.len() {
-        let listed = text::put_shorts(out, next, &current[..count]);
-        end(out, listed);
-    }
-}
-
-// Asks whether a round left calm. Where the question is refused the rounds go on.
-fn after_round(
-    components: &[u64],
-    inputs: &[u64],
-    outputs: &[u64],
-    wires: &[u16],
-    current: &[u16],
-    following: &[u16],
-    standing: &[u16],
+// What a round leaves: the counts, and whether it left calm.
+struct Left {
     counts: Counts,
-) -> Step {
-    let asked = simulator::is_calm(
-        components,
-        inputs,
-        outputs,
-        wires,
-        current,
-        following,
-        standing,
-        counts,
-    );
-    if let Calm::Is(calm) = asked {
-        if calm {
-            return Step::Calm;
-        }
-    }
-    Step::Next(counts)
+    calm: bool,
 }
 
-// Runs a round at time 0, prints its line, and asks whether it left calm.
-fn one_round(
+// The counts of an answer; none of a refusal.
+fn counts_of(answer: Answer) -> Counts
+    ensures { λ r. ⌜ r ≡ countsAfter answer (fresh .counts) ⌝ }
+{
+    let Answer::Done(counts) = answer else {
+        return Counts {
+            components: 0,
+            inputs: 0,
+            outputs: 0,
+            wires: 0,
+            current: 0,
+            following: 0,
+            standing: 0,
+        };
+    };
+    counts
+}
+
+// Calm or not; after a refusal there is nothing more to run.
+fn calm_of(answer: Calm) -> bool
+    ensures { λ r. ⌜ r ≡ calmOf answer ⌝ }
+{
+    let Calm::Is(calm) = answer else {
+        return true;
+    };
+    calm
+}
+
+// Runs a round of a net at time 0, and asks whether it left calm. On a net neither call is refused.
+fn round_left(
     components: &[u64],
     inputs: &mut [u64],
     outputs: &mut [u64],
@@ -160,10 +61,11 @@ fn one_round(
     following: &mut [u16],
     standing: &mut [u16],
     counts: Counts,
-    round: u64,
-    out: &mut [u8],
-) -> Step {
-    let answer = simulator::round(
+) -> Left
+    requires { ⌜ netNumber (tablesOf (now components) (now inputs) (now outputs) (now wires) (now current) (now following) (now standing) counts) ≡ 0 ⌝ }
+    ensures { λ r. ⌜ RoundMade (tablesOf (now (components .entry)) (now (inputs .entry)) (now (outputs .entry)) (now (wires .entry)) (now (current .entry)) (now (following .entry)) (now (standing .entry)) counts) (tablesOf (now (components .entry)) (now (inputs .exit)) (now (outputs .exit)) (now (wires .entry)) (now (current .exit)) (now (following .exit)) (now (standing .exit)) (r .counts)) (r .calm) ⌝ }
+{
+    let made = simulator::round(
         components,
         inputs,
         outputs,
@@ -174,11 +76,8 @@ fn one_round(
         counts,
         0,
     );
-    let Answer::Done(new) = answer else {
-        return Step::Stopped;
-    };
-    round_line(out, round, current, new.current);
-    after_round(
+    let new = counts_of(made);
+    let asked = simulator::is_calm(
         components,
         inputs,
         outputs,
@@ -187,11 +86,25 @@ fn one_round(
         following,
         standing,
         new,
-    )
+    );
+    Left {
+        counts: new,
+        calm: calm_of(asked),
+    }
 }
 
-// Rounds until calm, sixteen at most.
-fn run(
+// How the rounds end.
+fn put_end(out: &mut [u8], at: usize, calm: bool) -> usize
+    ensures { λ r. ⌜ Puts (now (out .entry)) at (ending calm) (now (out .exit)) r ⌝ }
+{
+    if calm {
+        return text::put_bytes(out, at, b"calm\n");
+    }
+    text::put_bytes(out, at, b"not calm\n")
+}
+
+// The rounds of a net at time 0 until calm, sixteen at most, and how they end.
+fn put_rounds(
     components: &[u64],
     inputs: &mut [u64],
     outputs: &mut [u64],
@@ -201,11 +114,17 @@ fn run(
     standing: &mut [u16],
     counts: Counts,
     out: &mut [u8],
-) {
-    let mut now = counts;
-    let mut round: u64 = 1;
-    while round <= ROUNDS {
-        let left = one_round(
+    at: usize,
+) -> usize
+    requires { ⌜ (at ≤ length (now out)) × (netNumber (tablesOf (now components) (now inputs) (now outputs) (now wires) (now current) (now following) (now standing) counts) ≡ 0) ⌝ }
+    ensures { λ r. ⌜ Puts (now (out .entry)) at (rounds 16 1 (tablesOf (now (components .entry)) (now (inputs .entry)) (now (outputs .entry)) (now (wires .entry)) (now (current .entry)) (now (following .entry)) (now (standing .entry)) counts)) (now (out .exit)) r ⌝ }
+{
+    let mut reached = counts;
+    let mut next = at;
+    let mut round: u64 = 0;
+    let mut calm = false;
+    while !calm & (round < ROUNDS) {
+        let left = round_left(
             components,
             inputs,
             outputs,
@@ -213,75 +132,20 @@ fn run(
             current,
             following,
             standing,
-            now,
-            round,
-            out,
+            reached,
         );
-        match left {
-            Step::Calm => {
-                said(out, b"calm");
-                return;
-            }
-            Step::Next(new) => now = new,
-            Step::Stopped => return,
-        }
         round += 1;
+        reached = left.counts;
+        calm = left.calm;
+        next = lines::put_round(out, next, round, current, reached.current);
     }
-    said(out, b"not calm");
+    put_end(out, next, calm)
 }
 
-// The line of a refused file: what and where.
-fn refused(out: &mut [u8], number: u32, position: u32) {
-    let numbered = put_counted(out, 0, b"refused", number as u64);
-    let blank = text::put(out, numbered, b' ');
-    let placed = put_counted(out, blank, b"at", position as u64);
-    end(out, placed);
-}
-
-// Loads a drawing and lists it.
-fn list(
-    file: &[u8],
-    components: &mut [u64],
-    inputs: &mut [u64],
-    outputs: &mut [u64],
-    wires: &mut [u16],
-    current: &mut [u16],
-    following: &mut [u16],
-    standing: &mut [u16],
-    out: &mut [u8],
-) {
-    let answer = load::load(
-        file,
-        components,
-        inputs,
-        outputs,
-        wires,
-        current,
-        following,
-        standing,
-    );
-    match answer {
-        Answer::Done(counts) => {
-            show_net(out, components, wires, counts);
-            run(
-                components,
-                inputs,
-                outputs,
-                wires,
-                current,
-                following,
-                standing,
-                counts,
-                out,
-            );
-        }
-        Answer::Refused(refusal) => refused(out, refusal.number, refusal.position),
-    }
-}
-
-fn main() {
-    // One record more than the largest file, so that a file that is too long is seen to be.
-    let mut file = [0u8; 24600];
+// Lists a drawing in a lent buffer, and answers how many bytes that is.
+fn list(file: &[u8], out: &mut [u8]) -> usize
+    ensures { λ r. ⌜ Puts (now (out .entry)) 0 (listing (now (file .entry))) (now (out .exit)) r ⌝ }
+{
     let mut components = [0u64; 2048];
     let mut inputs = [0u64; 1024];
     let mut outputs = [0u64; 1024];
@@ -289,10 +153,8 @@ fn main() {
     let mut current = [0u16; 256];
     let mut following = [0u16; 256];
     let mut standing = [0u16; 256];
-    let mut out = io::buffer();
-    let count = io::read_full(STDIN_FILENO, &mut file);
-    list(
-        &file[..count],
+    let answer = load::load(
+        file,
         &mut components,
         &mut inputs,
         &mut outputs,
@@ -300,6 +162,32 @@ fn main() {
         &mut current,
         &mut following,
         &mut standing,
-        &mut out,
     );
+    match answer {
+        Answer::Done(counts) => {
+            let wired = lines::put_net(out, 0, &components, &wires, counts);
+            put_rounds(
+                &components,
+                &mut inputs,
+                &mut outputs,
+                &wires,
+                &mut current,
+                &mut following,
+                &mut standing,
+                counts,
+                out,
+                wired,
+            )
+        }
+        Answer::Refused(refusal) => lines::put_refused(out, 0, refusal),
+    }
+}
+
+fn main() {
+    // One record more than the largest file, so that a file that is too long is seen to be.
+    let mut file = [0u8; 24600];
+    let mut out = io::large_buffer();
+    let count = io::read_full(STDIN_FILENO, &mut file);
+    let end = list(&file[..count], &mut out);
+    text::flush(&out, end);
 }

@@ -25,7 +25,7 @@ use Rattle.tables.proofs.SizesLaws.{fullSize-sound}
 use Rattle.tables.proofs.NamedLaws.{overlay-list, overlay-count}
 use Rattle.load.specs.declared.rows.Before.{Before}
 use Rattle.load.specs.Load.{wireWords, primitives, componentWords, standingAtLoad, loaded, loadVerdict}
-use Rattle.load.specs.Load.{loadTables, loadAnswer, Loads}
+use Rattle.load.specs.Load.{loadTables, Loads}
 use Rattle.load.specs.Laying.{beforeAt, startingOf}
 use Rattle.load.proofs.LayingLaws.{sets-overlay}
 use Rattle.load.proofs.NamesLaws.{standing-bound}
@@ -134,20 +134,20 @@ module _ (s cs is os ws cur fol std : List ℕ) where
   unfolding loadVerdict
   judge-unsized e m = rw e
 
-  module _ (sz : sized s ≡ true) (k : Counts) where
-    pub judge-short : fullSize (lent k) ≡ false → (m : Counts) → refused 2 0 ≡ loadVerdict s (lent m)
-    unfolding loadVerdict fullSize
-    judge-short e m = rw (sz, e)
+  module _ (sz : sized s ≡ true) where
+    pub judge-short : ((m : Counts) → fullSize (lent m) ≡ false) → (m : Counts) → refused 2 0 ≡ loadVerdict s (lent m)
+    unfolding loadVerdict
+    judge-short e m = rw (sz, e m)
 
-    pub judge-file : fullSize (lent k) ≡ true → (v : Verdict) → v ≡ verdict s → (m : Counts)
+    pub judge-file : ((m : Counts) → fullSize (lent m) ≡ true) → (v : Verdict) → v ≡ verdict s → (m : Counts)
         → v ≡ loadVerdict s (lent m)
-    unfolding loadVerdict fullSize
-    judge-file full v e m = rw (sz, full, e)
+    unfolding loadVerdict
+    judge-file full v e m = rw (sz, full m, e)
 
   -- The ways out of a load whose verdict is v.
   module _ (v : Verdict) (h : (m : Counts) → v ≡ loadVerdict s (lent m)) where
-    pub load-refused : (r : Refusal) → v ≡ Refused r → Loads s lent lent (Declined r)
-    unfolding loadAnswer loadTables
+    pub load-refused : (r : Refusal) → v ≡ Refused r → (m : Counts) → Loads s (lent m) (Declined r) (lent m)
+    unfolding loadTables
     load-refused r e m = rw (sym (h m) ∙ e) (refl, refl)
 
     module _ (e : v ≡ Accepted) where
@@ -164,8 +164,6 @@ module _ (s cs is os ws cur fol std : List ℕ) where
 
       pub load-done : (cs' is' os' ws' cur' fol' std' : List ℕ) (c : Counts)
           → tablesOf cs' is' os' ws' cur' fol' std' c ≡ loaded (recordAt s) (recordCount s) (lent c)
-          → Loads s lent (tablesOf cs' is' os' ws' cur' fol' std') (Done c)
-      unfolding loadAnswer loadTables loaded
-      load-done cs' is' os' ws' cur' fol' std' c d m =
-          let counts = ap (λ (T : Tables). T .counts) d in
-          rw (sym (h m) ∙ e) (ap Done counts, ap (tablesOf cs' is' os' ws' cur' fol' std') (sym counts) ∙ d)
+          → (m : Counts) → Loads s (lent m) (Done c) (tablesOf cs' is' os' ws' cur' fol' std' c)
+      unfolding loadTables loaded
+      load-done cs' is' os' ws' cur' fol' std' c d m = rw (sym (h m) ∙ e) (refl, d)

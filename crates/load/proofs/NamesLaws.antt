@@ -78,7 +78,7 @@ module _ (at : ℕ → Record) (n : ℕ) where
   flat-next c x e h =
       let z : flat at n (c + 1) ≡ flat at n c + 1 =
       ap (flat at n) (add-one c) ∙ ap (λ (l : List ℕ). length l) (primitivesBefore-step at n c e)
-      ∙ length-append (primitivesBefore at n c) (c ∷ []) in
+      ∙ length-append (primitivesBefore at c) (c ∷ []) in
       omega arith
 
   pub flat-same : (c x : ℕ) → isPrimitive (at c) ≡ false → x ≡ flat at n c → x ≡ flat at n (c + 1)

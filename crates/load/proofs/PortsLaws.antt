@@ -80,7 +80,7 @@ starting-length f o = by-kind (is Const f) refl
 
 -- The starting values of the primitives, record by record.
 pub outputs-joined : (at : ℕ → Record) (n p : ℕ)
-    → joined (startingOf at) (primitivesBefore at n p) ≡ joined (outputsAt at) (from 0 p)
+    → joined (startingOf at) (primitivesBefore at p) ≡ joined (outputsAt at) (from 0 p)
 outputs-joined at n p =
     joined-keep (λ q. isPrimitive (at q)) (startingOf at) (outputsAt at) (λ q. by-kind q (isPrimitive (at q)))
     (from 0 p)
@@ -91,10 +91,10 @@ outputs-joined at n p =
 
 -- The starting values of the primitives of a drawing that passes every check are as many as their outputs.
 pub starting-before : (at : ℕ → Record) (n : ℕ) → Passed at n → (p : ℕ)
-    → length (joined (startingOf at) (primitivesBefore at n p)) ≡ outputsBefore at n p
+    → length (joined (startingOf at) (primitivesBefore at p)) ≡ outputsBefore at p
 starting-before at n d p =
-    joined-length (startingOf at) (primitivesBefore at n p)
-    ∙ total-members (λ q. length (startingOf at q)) (λ q. outputsOf (at q)) (primitivesBefore at n p)
+    joined-length (startingOf at) (primitivesBefore at p)
+    ∙ total-members (λ q. length (startingOf at q)) (λ q. outputsOf (at q)) (primitivesBefore at p)
     (λ q u. starting-length (fieldsOf (at q)) (primitive-obeyed at n d q (primitivesBefore-sound at n q p u .0)))
 
 -- Laying the outputs of an accepted file, in a table t of full size.

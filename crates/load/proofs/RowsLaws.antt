@@ -18,12 +18,13 @@ use Rattle.primitive.specs.declared.table.Fields.{Fields}
 use Rattle.primitive.specs.Kinds.{primitive}
 use Rattle.component.specs.declared.Id.{Id}
 use Rattle.component.specs.declared.Record.{Record}
-use Rattle.component.specs.declared.Record.the-variants.{Component}
+use Rattle.component.specs.declared.Seen.{Seen}
+use Rattle.component.specs.declared.Seen.the-variants.{Component as SeenComponent, Nothing}
+use Rattle.component.specs.Reading.{SeenAs}
 use Rattle.component.specs.declared.Verdict.the-variants.{Accepted}
 use Rattle.component.specs.Record.{recordAt, recordCount, inputsOf, outputsOf, isPrimitive}
 use Rattle.component.specs.Drawing.{primitivesBefore}
-use Rattle.component.proofs.Record.{the-type}
-use Rattle.component.proofs.RecordLaws.{formOf-no-component}
+use Rattle.component.proofs.RecordLaws.{unseen-primitive, seen-is}
 use Rattle.flatten.specs.Verdict.{verdict}
 use Rattle.leads.proofs.Components.{primitive-component}
 use Rattle.leads.proofs.Primitives.{primitivesBefore-append, primitivesBefore-step, primitivesBefore-skip}
@@ -36,21 +37,17 @@ use Rattle.load.specs.Load.{primitives, componentWords}
 use Rattle.load.specs.Laying.{seenIf, seen, componentBy, rowBy, beforeBy, beforeAt, rowAt}
 use Rattle.load.proofs.LayingLaws.{joined-keep, Laid, laid-room, laid-step, laid-end}
 
--- What a record is seen as: no component; a primitive; a component that is none.
-module _ (s : List ℕ) (p : ℕ) (r : Record) (e : r ≡ recordAt s p) where
-  pub seen-none : OneOf (1 ∷ 2 ∷ 3 ∷ 4 ∷ []) (tagOf the-type r) → Other ≡ seen (recordAt s p)
-  seen-none t = rw (← e) (by-test (isPrimitive r) refl)
-    where
-      by-test : (b : Bool) → isPrimitive r ≡ b → Other ≡ seenIf b r
-      by-test true d = absurd (formOf-no-component r t (primitive-component r d))
-      by-test false d = refl
+-- What a record is drawn as: no component; a primitive; a component that is none.
+module _ (s : List ℕ) (p : ℕ) (g : Seen) (e : SeenAs g (recordAt s p)) where
+  pub drawn-none : g ≡ Nothing → Other ≡ seen (recordAt s p)
+  drawn-none h = rw (sym (unseen-primitive (recordAt s p) g e h))
 
-  module _ (o : ℕ) (d : Id) (f : Fields) (c : r ≡ Component o d f) (b : Bool) (h : b ≡ primitive f) where
-    pub seen-primitive : b ≡ true → Primitive d f ≡ seen (recordAt s p)
-    seen-primitive k = rw (← e, c, sym h ∙ k)
+  module _ (o : ℕ) (d : Id) (f : Fields) (h : g ≡ SeenComponent o d f) (b : Bool) (k : b ≡ primitive f) where
+    pub drawn-primitive : b ≡ true → Primitive d f ≡ seen (recordAt s p)
+    drawn-primitive t = rw (seen-is (recordAt s p) g e o d f h, sym k ∙ t)
 
-    pub seen-composite : b ≡ false → Other ≡ seen (recordAt s p)
-    seen-composite k = rw (← e, c, sym h ∙ k)
+    pub drawn-composite : b ≡ false → Other ≡ seen (recordAt s p)
+    drawn-composite t = rw (seen-is (recordAt s p) g e o d f h, sym k ∙ t)
 
 -- What stands before the next primitive.
 module _ (at : ℕ → Record) (n : ℕ) where
@@ -60,8 +57,8 @@ module _ (at : ℕ → Record) (n : ℕ) where
       by-kind : (b : Bool) → isPrimitive (at p) ≡ b
           → beforeBy (seenIf b (at p)) (beforeAt at n p) ≡ beforeAt at n (suc p)
       by-kind true e =
-          let many : length (primitivesBefore at n p) + 1 ≡ length (primitivesBefore at n (suc p)) =
-          sym (ap (λ (l : List ℕ). length l) (primitivesBefore-step at n p e) ∙ length-append (primitivesBefore at n p)
+          let many : length (primitivesBefore at p) + 1 ≡ length (primitivesBefore at (suc p)) =
+          sym (ap (λ (l : List ℕ). length l) (primitivesBefore-step at n p e) ∙ length-append (primitivesBefore at p)
           (p ∷ [])) in
           λ j. record {
             components = many j;
@@ -77,7 +74,7 @@ module _ (at : ℕ → Record) (n : ℕ) where
           }
 
   -- The words of the primitives, record by record.
-  pub rows-joined : (p : ℕ) → joined (componentWords at n) (primitivesBefore at n p) ≡ joined (rowAt at n) (from 0 p)
+  pub rows-joined : (p : ℕ) → joined (componentWords at n) (primitivesBefore at p) ≡ joined (rowAt at n) (from 0 p)
   rows-joined p =
       joined-keep (λ q. isPrimitive (at q)) (componentWords at n) (rowAt at n) (λ q. by-kind q (isPrimitive (at q)))
       (from 0 p)
@@ -87,23 +84,23 @@ module _ (at : ℕ → Record) (n : ℕ) where
       by-kind q true = refl
       by-kind q false = refl
 
-  pub rows-length : (p : ℕ) → length (joined (rowAt at n) (from 0 p)) ≡ 8 * length (primitivesBefore at n p)
+  pub rows-length : (p : ℕ) → length (joined (rowAt at n) (from 0 p)) ≡ 8 * length (primitivesBefore at p)
   rows-length p =
       ap (λ (l : List ℕ). length l) (sym (rows-joined p))
-      ∙ joined-width (componentWords at n) 8 (λ q. refl) (primitivesBefore at n p)
+      ∙ joined-width (componentWords at n) 8 (λ q. refl) (primitivesBefore at p)
 
   -- All primitives are those before p, and others.
   primitives-split : (p : ℕ) → p ≤ n
-      → primitives at n ≡ primitivesBefore at n p ++ keep (λ q. isPrimitive (at q)) (from p (n - p))
+      → primitives at n ≡ primitivesBefore at p ++ keep (λ q. isPrimitive (at q)) (from p (n - p))
   primitives-split p h =
       let e : n ≡ p + (n - p) = omega arith in
-      ap (primitivesBefore at n) e ∙ primitivesBefore-append at n p (n - p)
+      ap (primitivesBefore at) e ∙ primitivesBefore-append at n p (n - p)
 
-  pub primitivesBefore-few : (p : ℕ) → p ≤ n → length (primitivesBefore at n p) ≤ length (primitives at n)
+  pub primitivesBefore-few : (p : ℕ) → p ≤ n → length (primitivesBefore at p) ≤ length (primitives at n)
   primitivesBefore-few p h = omega (arith, simp length-append at (ap (λ (l : List ℕ). length l) (primitives-split p h)))
 
   pub portsBefore-few : (f : Record → ℕ) (p : ℕ) → p ≤ n
-      → total (λ q. f (at q)) (primitivesBefore at n p) ≤ total (λ q. f (at q)) (primitives at n)
+      → total (λ q. f (at q)) (primitivesBefore at p) ≤ total (λ q. f (at q)) (primitives at n)
   portsBefore-few f p h = omega (arith, simp total-append at (ap (total (λ q. f (at q))) (primitives-split p h)))
 
 -- Laying the entry of one record.

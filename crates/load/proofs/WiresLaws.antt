@@ -22,12 +22,16 @@ use Rattle.lists.proofs.ListsLaws.{and-right}
 use Rattle.lists.proofs.OverlayLaws.{joined-append, joined-width}
 use Rattle.component.specs.declared.ChildNo.{ChildNo}
 use Rattle.component.specs.declared.Record.{Record}
-use Rattle.component.specs.declared.Record.the-variants.{Connection}
+use Rattle.component.specs.declared.Says.{Says}
+use Rattle.component.specs.declared.Says.the-variants.{Connection}
+use Rattle.component.specs.declared.Reading.{Reading}
+use Rattle.component.specs.declared.Reading.the-variants.{Taken, Refused}
+use Rattle.component.specs.Reading.{said}
 use Rattle.component.specs.Record.{recordAt, recordCount, formOf, ownerOf, fromOf, outputOf, isPrimitive}
 use Rattle.component.specs.declared.Verdict.the-variants.{Accepted}
 use Rattle.component.specs.Drawing.{deepest, child}
-use Rattle.component.proofs.Record.{the-type}
-use Rattle.component.proofs.RecordLaws.{formOf-no-connection}
+use Rattle.component.proofs.Says.{the-type}
+use Rattle.component.proofs.RecordLaws.{no-connection, refused-is, taken-form}
 use Rattle.flatten.specs.declared.Pin.{Pin}
 use Rattle.flatten.specs.declared.Wire.{Wire}
 use Rattle.flatten.specs.declared.descent.Entered.{Entered}
@@ -36,7 +40,7 @@ use Rattle.flatten.specs.Descent.{source, targets, sourceOf, targetsOf, wiresAt
 use Rattle.flatten.specs.Steps.{entered, IsStretch}
 use Rattle.flatten.specs.Verdict.{verdict}
 use Rattle.flatten.proofs.DescentLaws.{given, targets-bottom, targets-ends, targets-stretch, given-to, given-nothing}
-use Rattle.flatten.proofs.DescentLaws.{joined-end, primitive-is, source-is, targets-are, form-is}
+use Rattle.flatten.proofs.DescentLaws.{joined-end, source-is, targets-are, form-is}
 use Rattle.leads.proofs.Accepted.{Passed, accepted-sized, accepted-passed}
 use Rattle.leads.proofs.Components.{primitive-component, component-number}
 use Rattle.leads.proofs.Descent.{source-sound}
@@ -64,11 +68,11 @@ module _ (s : List ℕ) (n d c i : ℕ) (f : Pin) (t : List ℕ) (k : ℕ) where
       let e : led s n f (targets (recordAt s) n d c i) ≡ [] = ap (led s n f) (targets-bottom (recordAt s) n d c i h) in
       record { table = ap (sets t k) (sym e); place = omega (arith, ap (λ (l : List ℕ). length l) e) }
 
-  module _ (r : Record) (b : Bool) (h : d ≡ 0 → ⊥) (er : r ≡ recordAt s c) (eb : b ≡ isPrimitive r) where
+  module _ (b : Bool) (h : d ≡ 0 → ⊥) (eb : b ≡ isPrimitive (recordAt s c)) where
     -- A primitive: one wire.
     module _ (p : b ≡ true) where
       led-here : led s n f (targets (recordAt s) n d c i) ≡ f .comp ∷ f .port ∷ flat (recordAt s) n c ∷ i ∷ []
-      led-here = ap (led s n f) (targets-ends (recordAt s) n d c i h (primitive-is s n c r b true er eb p))
+      led-here = ap (led s n f) (targets-ends (recordAt s) n d c i h (sym eb ∙ p))
 
       pub lead-room : k + length (led s n f (targets (recordAt s) n d c i)) ≤ length t → k + 4 ≤ length t
       lead-room room = omega (arith, ap (λ (l : List ℕ). length l) led-here)
@@ -87,7 +91,7 @@ module _ (s : List ℕ) (n d c i : ℕ) (f : Pin) (t : List ℕ) (k : ℕ) where
     -- A composite: the loop over its input maps starts.
     pub leading-start : (a e : ℕ) → b ≡ false → IsStretch (recordAt s) n c a e → Leading s n d c i f t k a e t k
     leading-start a e p z =
-        let y = targets-stretch (recordAt s) n d c i a e h (primitive-is s n c r b false er eb p) z in
+        let y = targets-stretch (recordAt s) n d c i a e h (sym eb ∙ p) z in
         record {
           size = refl;
           table = ap (λ (ts : List Pin). sets t k (led s n f ts)) (sym y);
@@ -161,33 +165,41 @@ accepted-most s accepted =
     (and-right (not (eqb (length s) 0) && eqb (length s % 24) 0) (leb (recordCount s) 1024) (accepted-sized s accepted))
 
 -- A primitive of an accepted file has a number below 256.
-pub primitive-number : (s : List ℕ) (n c : ℕ) (cs lo hi fs : List ℕ) (r : Record) (b : Bool) → Ready s n cs lo hi fs
-    → r ≡ recordAt s c → b ≡ isPrimitive r → b ≡ true → c < 256
-primitive-number s n c cs lo hi fs r b h er eb p =
+pub primitive-number : (s : List ℕ) (n c : ℕ) (cs lo hi fs : List ℕ) (b : Bool) → Ready s n cs lo hi fs
+    → b ≡ isPrimitive (recordAt s c) → b ≡ true → c < 256
+primitive-number s n c cs lo hi fs b h eb p =
     component-number (recordAt s) _ (accepted-passed s (h .accepted)) c
-    (primitive-component (recordAt s c) (primitive-is s n c r b true er eb p))
+    (primitive-component (recordAt s c) (sym eb ∙ p))
 
--- The wires of the record at p: it is no connection; a connection.
+-- The wires of the record at p: it is refused; no connection; a connection.
 module _ (s : List ℕ) (n : ℕ) where
-  pub connect-other : (p : ℕ) (r : Record) (t : List ℕ) (k : ℕ) → r ≡ recordAt s p
-      → OneOf (0 ∷ 2 ∷ 3 ∷ 4 ∷ []) (tagOf the-type r)
-      → Written t k (wiresGiven (recordAt s) n p) t k
-  connect-other p r t k e y =
-      let z : wiresGiven (recordAt s) n p ≡ [] = rw (← e, ne-eqb (formOf r) 2 (formOf-no-connection r y)) in
+  unwired : (p : ℕ) (t : List ℕ) (k : ℕ) → (formOf (recordAt s p) ≡ 2 → ⊥) → Written t k (wiresGiven (recordAt s) n p) t k
+  unwired p t k h =
+      let z : wiresGiven (recordAt s) n p ≡ [] = rw (ne-eqb (formOf (recordAt s p)) 2 h) in
       record { table = ap (sets t k) (sym z); place = omega (arith, ap (λ (l : List ℕ). length l) z) }
 
-  module _ (p w a b : ℕ) (f g : ChildNo) (r : Record) (e : r ≡ recordAt s p) (y : r ≡ Connection w f a g b) where
+  pub connect-refused : (p : ℕ) (r : Reading) (t : List ℕ) (k : ℕ) {j : ℕ} → said r ≡ recordAt s p → r ≡ Refused j
+      → Written t k (wiresGiven (recordAt s) n p) t k
+  connect-refused p r t k e h = unwired p t k (λ z. omega (arith, z, ap formOf (refused-is (recordAt s p) r e h)))
+
+  pub connect-other : (p o : ℕ) (r : Reading) (x : Says) (t : List ℕ) (k : ℕ) → said r ≡ recordAt s p → r ≡ Taken o x
+      → OneOf (0 ∷ 2 ∷ 3 ∷ []) (tagOf the-type x) → Written t k (wiresGiven (recordAt s) n p) t k
+  connect-other p o r x t k e h y =
+      unwired p t k (λ z. no-connection x y (sym (taken-form (recordAt s p) r e o x h) ∙ z))
+
+  module _ (p : ℕ) (v : Reading) (e : said v ≡ recordAt s p) (w a b : ℕ) (f g : ChildNo) (r : Says) (h : v ≡ Taken w r)
+      (y : r ≡ Connection f a g b) where
     module _ (m c : ℕ) (x : Pin) (em : m ≡ deepest) (ec : c ≡ child (recordAt s) n w (f .0))
         (ex : x ≡ source (recordAt s) n m c a) where
       from-source : x ≡ sourceOf (recordAt s) n p
-      from-source = source-is s n p w a b f g r e y m c x em ec ex
+      from-source = source-is s n p v e w a b f g r h y m c x em ec ex
 
       -- The source is a primitive's, and its number is below 256.
       pub source-number : (cs lo hi fs : List ℕ) → Ready s n cs lo hi fs → p < n → x .comp < 256
       unfolding sourceOf
-      source-number cs lo hi fs h l =
-          let d = subst (Passed (recordAt s)) (sym (h .count)) (accepted-passed s (h .accepted)) in
-          let there = connection-ends (recordAt s) n d p l (form-is s n p w a b f g r e y) .0 in
+      source-number cs lo hi fs ready l =
+          let d = subst (Passed (recordAt s)) (sym (ready .count)) (accepted-passed s (ready .accepted)) in
+          let there = connection-ends (recordAt s) n d p l (form-is s n p v e w a b f g r h y) .0 in
           let comes = source-sound (recordAt s) n d 0 deepest
           (child (recordAt s) n (ownerOf (recordAt s p)) (fromOf (recordAt s p)))
           (outputOf (recordAt s p)) (zero-add deepest) refl there in
@@ -200,11 +212,11 @@ module _ (s : List ℕ) (n : ℕ) where
           (ei : i ≡ flatPin (recordAt s) n x) where
         pub wires-are : led s n i (targets (recordAt s) n l q b) ≡ wiresGiven (recordAt s) n p
         wires-are =
-            ap (led s n i) (targets-are s n p w a b f g r e y l q el eq)
+            ap (led s n i) (targets-are s n p v e w a b f g r h y l q el eq)
             ∙ ap (λ (z : Pin). led s n z (targetsOf (recordAt s) n p)) (ei ∙ ap (flatPin (recordAt s) n) from-source)
             ∙ ap (λ (z : Bool). cond z
             (led s n (flatPin (recordAt s) n (sourceOf (recordAt s) n p)) (targetsOf (recordAt s) n p)) [])
-            (sym (eq-eqb (formOf (recordAt s p)) 2 (form-is s n p w a b f g r e y)))
+            (sym (eq-eqb (formOf (recordAt s p)) 2 (form-is s n p v e w a b f g r h y)))
 
         pub connect-room : (t : List ℕ) (k : ℕ) → k + length (wiresGiven (recordAt s) n p) ≤ length t
             → k + length (led s n i (targets (recordAt s) n l q b)) ≤ length t

@@ -78,7 +78,7 @@ outputsAt at p = outputsBy (seen (at p))
 module _ (at : ℕ → Record) (n : ℕ) where
   abbrev pub beforeAt : ℕ → Before
   beforeAt p =
-      record { components = length (primitivesBefore at n p); inputs = inputsBefore at n p; outputs = outputsBefore at n p }
+      record { components = length (primitivesBefore at p); inputs = inputsBefore at p; outputs = outputsBefore at p }
 
   abbrev pub rowAt : ℕ → List ℕ
   rowAt p = rowBy (seen (at p)) (beforeAt p)

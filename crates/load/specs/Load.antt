@@ -14,12 +14,10 @@ use Rattle.component.specs.declared.Verdict.the-variants.{Accepted, Refused}
 use Rattle.component.specs.Record.{recordAt, recordCount, fieldsOf, idOf, inputsOf, outputsOf}
 use Rattle.component.specs.Drawing.{primitivesBefore, inputsBefore, outputsBefore}
 use Rattle.flatten.specs.declared.Wire.{Wire}
-use Rattle.tables.specs.declared.Counts.{Counts}
 use Rattle.tables.specs.declared.Answer.{Answer}
-use Rattle.tables.specs.declared.Answer.the-variants.{Done, Refused as Declined}
 use Rattle.flatten.specs.Descent.{flat, flatWires}
-use Rattle.flatten.specs.Verdict.{sized, refused, verdict}
-use Rattle.tables.specs.Tables.{Tables, fullSize}
+use Rattle.flatten.specs.Verdict.{sized, refused, verdict, verdictGives}
+use Rattle.tables.specs.Tables.{Tables, countsOf, tablesOf, fullSize, answerGives, Changes}
 
 -- The words of a wire's entry.
 abbrev pub wireWords : Wire → List ℕ
@@ -28,13 +26,13 @@ wireWords w = w .src .comp ∷ w .src .port ∷ w .dst .comp ∷ w .dst .port �
 module _ (at : ℕ → Record) (n : ℕ) where
   -- The primitives, in file order.
   abbrev pub primitives : List ℕ
-  primitives = primitivesBefore at n n
+  primitives = primitivesBefore at n
 
   -- The words of a primitive's entry; its ports follow those of the primitives before.
   abbrev pub componentWords : ℕ → List ℕ
   componentWords x =
       fieldsOf (at x) .kind ∷ idOf (at x) ∷ fieldsOf (at x) .width ∷ fieldsOf (at x) .parameter ∷ inputsOf (at x) ∷ outputsOf (at x)
-      ∷ inputsBefore at n x ∷ outputsBefore at n x ∷ []
+      ∷ inputsBefore at x ∷ outputsBefore at x ∷ []
 
   -- The standing list at load: every Const and Clock, ascending.
   abbrev pub standingAtLoad : List ℕ
@@ -43,25 +41,12 @@ module _ (at : ℕ → Record) (n : ℕ) where
   -- The tables after the load of an accepted drawing: all ports 0, a Const's output its value; following a copy of standing; current all components.
   unfoldable pub loaded : Tables → Tables
   loaded T =
-      record {
-        components = overlay (joined componentWords primitives) (T .components);
-        inputs = overlay (replicate (inputsBefore at n n) 0) (T .inputs);
-        outputs = overlay (joined (λ x. starting (fieldsOf (at x))) primitives) (T .outputs);
-        wires = overlay (joined wireWords (flatWires at n)) (T .wires);
-        current = overlay (from 0 (length primitives)) (T .current);
-        following = overlay standingAtLoad (T .following);
-        standing = overlay standingAtLoad (T .standing);
-        counts =
-            record {
-              components = length primitives;
-              inputs = inputsBefore at n n;
-              outputs = outputsBefore at n n;
-              wires = length (flatWires at n);
-              current = length primitives;
-              following = length standingAtLoad;
-              standing = length standingAtLoad;
-            };
-      }
+      tablesOf (overlay (joined componentWords primitives) (T .components)) (overlay (replicate (inputsBefore at n) 0) (T .inputs))
+      (overlay (joined (λ x. starting (fieldsOf (at x))) primitives) (T .outputs))
+      (overlay (joined wireWords (flatWires at n)) (T .wires)) (overlay (from 0 (length primitives)) (T .current))
+      (overlay standingAtLoad (T .following)) (overlay standingAtLoad (T .standing))
+      (countsOf (length primitives) (inputsBefore at n) (outputsBefore at n) (length (flatWires at n)) (length primitives)
+      (length standingAtLoad) (length standingAtLoad))
 
 -- The verdict of a load: check 2 stands between 1 and 3.
 unfoldable pub loadVerdict : List ℕ → Tables → Verdict
@@ -75,21 +60,6 @@ tablesBy (Refused r) new old = old
 unfoldable pub loadTables : List ℕ → Tables → Tables
 loadTables file T = tablesBy (loadVerdict file T) (loaded (recordAt file) (recordCount file) T) T
 
--- The answer to a load.
-abbrev pub answerBy : Verdict → Tables → Answer
-answerBy Accepted new = Done (new .counts)
-answerBy (Refused r) new = Declined r
-
-unfoldable pub loadAnswer : List ℕ → Tables → Answer
-loadAnswer file T = answerBy (loadVerdict file T) (loadTables file T)
-
--- The document's number and position of each answer.
-abbrev pub verdictOf : Answer → Verdict
-verdictOf (Done m) = Accepted
-verdictOf (Declined r) = Refused r
-
--- What a load promises of tables whose counts nobody asks for, `lent` being the tables before and `left` those after, each by its
--- counts: whatever the counts were, the answer is the definition's, and so are all tables, with the counts that the definition gives.
-abbrev pub Loads : List ℕ → (Counts → Tables) → (Counts → Tables) → Answer → Type 0
-Loads file lent left r =
-    (m : Counts) → (r ≡ loadAnswer file (lent m)) × (left (loadTables file (lent m) .counts) ≡ loadTables file (lent m))
+-- The promise of `load`: its answer gives what the verdict gives, with the new counts where it is accepted.
+abbrev pub Loads : List ℕ → Tables → Answer → Tables → Type 0
+Loads file before r after = Changes answerGives (verdictGives (loadVerdict file before)) (loadTables file before) r after

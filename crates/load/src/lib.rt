@@ -11,7 +11,7 @@ ghost use Rattle.component.specs.Record.{recordAt, recordCount};
 ghost use Rattle.component.specs.declared.Verdict.the-variants.{Accepted};
 ghost use Rattle.flatten.specs.Verdict.{verdict};
 ghost use Rattle.tables.specs.declared.Counts.{Counts};
-ghost use Rattle.tables.specs.Tables.{tablesOf};
+ghost use Rattle.tables.specs.Tables.{tablesOf, countsAfter};
 ghost use Rattle.load.specs.Load.{loaded, loadVerdict, Loads};
 use component::Verdict;
 use names::count_up;
@@ -23,19 +23,6 @@ use rows::zeros;
 use tables::Answer;
 use tables::Counts;
 use wires::lay_wires;
-
-// Counts of tables of which no entry is in use.
-fn unused() -> Counts {
-    Counts {
-        components: 0,
-        inputs: 0,
-        outputs: 0,
-        wires: 0,
-        current: 0,
-        following: 0,
-        standing: 0,
-    }
-}
 
 // Writes the tables of an accepted drawing: all ports 0, a Const's output its value; standing every Const and Clock, following a copy
 // of it; current all components. The answer is how many entries of each table are in use.
@@ -49,8 +36,12 @@ fn fill(
     following: &mut [u16],
     standing: &mut [u16],
 ) -> Counts
-    requires { ⌜ (verdict (now file) ≡ Accepted) × (2048 ≤ length (now components)) × (1024 ≤ length (now inputs)) × (1024 ≤ length (now outputs)) × (4096 ≤ length (now wires)) × (256 ≤ length (now current)) × (256 ≤ length (now following)) × (256 ≤ length (now standing)) ⌝ }
-    ensures { λ r. ⌜ tablesOf (now (components .exit)) (now (inputs .exit)) (now (outputs .exit)) (now (wires .exit)) (now (current .exit)) (now (following .exit)) (now (standing .exit)) r ≡ loaded (recordAt (now (file .entry))) (recordCount (now (file .entry))) (tablesOf (now (components .entry)) (now (inputs .entry)) (now (outputs .entry)) (now (wires .entry)) (now (current .entry)) (now (following .entry)) (now (standing .entry)) r) ⌝ }
+    requires { ⌜ (verdict (now file) ≡ Accepted) × (2048 ≤ length (now components)) × (1024 ≤ length (now inputs)) × (1024 ≤ length (now outputs))
+        × (4096 ≤ length (now wires)) × (256 ≤ length (now current)) × (256 ≤ length (now following)) × (256 ≤ length (now standing)) ⌝ }
+    ensures { λ r. ⌜ tablesOf (now (components .exit)) (now (inputs .exit)) (now (outputs .exit)) (now (wires .exit)) (now (current .exit))
+        (now (following .exit)) (now (standing .exit)) r ≡ loaded (recordAt (now (file .entry))) (recordCount (now (file .entry)))
+        (tablesOf (now (components .entry)) (now (inputs .entry)) (now (outputs .entry)) (now (wires .entry)) (now (current .entry))
+        (now (following .entry)) (now (standing .entry)) r) ⌝ }
 {
     let all = lay_components(file, components);
     zeros(inputs, 0, all.inputs);
@@ -81,7 +72,9 @@ fn judge_load(
     following: &[u16],
     standing: &[u16],
 ) -> Verdict
-    ensures { λ r. ⌜ ((m : Counts) → r ≡ loadVerdict (now (file .entry)) (tablesOf (now (components .entry)) (now (inputs .entry)) (now (outputs .entry)) (now (wires .entry)) (now (current .entry)) (now (following .entry)) (now (standing .entry)) m)) ⌝ }
+    ensures { λ r. ⌜ ((m : Counts) → r ≡ loadVerdict (now (file .entry))
+        (tablesOf (now (components .entry)) (now (inputs .entry)) (now (outputs .entry)) (now (wires .entry)) (now (current .entry))
+        (now (following .entry)) (now (standing .entry)) m)) ⌝ }
 {
     if !flatten::is_sized(file) {
         return Verdict::Refused(Refusal {
@@ -97,7 +90,6 @@ fn judge_load(
         current,
         following,
         standing,
-        unused(),
     ) {
         return Verdict::Refused(Refusal {
             number: 2,
@@ -119,7 +111,12 @@ pub fn load(
     following: &mut [u16],
     standing: &mut [u16],
 ) -> Answer
-    ensures { λ r. ⌜ Loads (now (file .entry)) (tablesOf (now (components .entry)) (now (inputs .entry)) (now (outputs .entry)) (now (wires .entry)) (now (current .entry)) (now (following .entry)) (now (standing .entry))) (tablesOf (now (components .exit)) (now (inputs .exit)) (now (outputs .exit)) (now (wires .exit)) (now (current .exit)) (now (following .exit)) (now (standing .exit))) r ⌝ }
+    ensures { λ r.
+        let before = tablesOf (now (components .entry)) (now (inputs .entry)) (now (outputs .entry)) (now (wires .entry))
+        (now (current .entry)) (now (following .entry)) (now (standing .entry)) in
+        let after = tablesOf (now (components .exit)) (now (inputs .exit)) (now (outputs .exit)) (now (wires .exit))
+        (now (current .exit)) (now (following .exit)) (now (standing .exit)) in
+        ⌜ ((m : Counts) → Loads (now (file .entry)) (before m) r (after (countsAfter r m))) ⌝ }
 {
     if let Verdict::Refused(refusal) = judge_load(
         file,

@@ -15,8 +15,7 @@ ghost use Rattle.load.specs.Load.{standingAtLoad};
 ghost use Rattle.load.specs.Laying.{standingBy, stoodBy, IsFlat};
 use crate::rows::Drawn;
 use crate::rows::drawn_at;
-use component::is_primitive;
-use component::record_at;
+use component::is_primitive_at;
 use primitive::Fields;
 use primitive::Kind;
 
@@ -72,7 +71,8 @@ fn stand(standing: &mut [u16], drawn: Drawn, stood: Stood) -> Stood
 // Lays the standing list. The answer is how many it names.
 pub(crate) fn lay_standing(file: &[u8], standing: &mut [u16]) -> usize
     requires { ⌜ (verdict (now file) ≡ Accepted) × (256 ≤ length (now standing)) ⌝ }
-    ensures { λ r. ⌜ now (standing .exit) ≡ overlay (standingAtLoad (recordAt (now (file .entry))) (recordCount (now (file .entry)))) (now (standing .entry)) ⌝ }
+    ensures { λ r. ⌜ now (standing .exit) ≡ overlay (standingAtLoad (recordAt (now (file .entry))) (recordCount (now (file .entry))))
+        (now (standing .entry)) ⌝ }
     ensures { λ r. ⌜ r ≡ length (standingAtLoad (recordAt (now (file .entry))) (recordCount (now (file .entry)))) ⌝ }
 {
     let n = file.len() / 24;
@@ -97,7 +97,7 @@ pub(crate) fn index_flat(file: &[u8], flat: &mut [u16])
     let mut c: usize = 0;
     while c < 256 {
         flat[c] = count;
-        if is_primitive(record_at(file, c)) {
+        if is_primitive_at(file, c) {
             count += 1;
         }
         c += 1;

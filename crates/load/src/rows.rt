@@ -10,8 +10,8 @@ ghost use Rattle.flatten.specs.Verdict.{verdict};
 ghost use Rattle.load.specs.Load.{primitives, componentWords};
 ghost use Rattle.load.specs.Laying.{seen, componentBy, rowBy, beforeBy, beforeAt, outputsBy, startingOf};
 use component::Id;
-use component::Record;
-use component::record_at;
+use component::Seen;
+use component::component_at;
 use primitive::Fields;
 use primitive::Kind;
 
@@ -32,7 +32,7 @@ pub struct Before {
 pub(crate) fn drawn_at(file: &[u8], p: usize) -> Drawn
     ensures { λ r. ⌜ r ≡ seen (recordAt (now (file .entry)) p) ⌝ }
 {
-    let Record::Component { id, fields, .. } = record_at(file, p) else {
+    let Seen::Component { id, fields, .. } = component_at(file, p) else {
         return Drawn::Other;
     };
     if primitive::is_primitive(fields) {
@@ -64,7 +64,8 @@ fn write_row(components: &mut [u64], at: usize, id: Id, fields: Fields, before: 
 
 // Lays the entry of a primitive behind those before. The answer is what stands before the next.
 fn lay_component(components: &mut [u64], drawn: Drawn, before: Before) -> Before
-    requires { ⌜ (8 * before .components + length (rowBy drawn before) ≤ length (now components)) × (before .components ≤ 256) × (before .inputs ≤ 1024) × (before .outputs ≤ 1024) ⌝ }
+    requires { ⌜ (8 * before .components + length (rowBy drawn before) ≤ length (now components)) × (before .components ≤ 256)
+        × (before .inputs ≤ 1024) × (before .outputs ≤ 1024) ⌝ }
     ensures { λ r. ⌜ (now (components .exit) ≡ sets (now (components .entry)) (8 * before .components) (rowBy drawn before)) × (r ≡ beforeBy drawn before) ⌝ }
 {
     let Drawn::Primitive { id, fields } = drawn else {
@@ -81,7 +82,8 @@ fn lay_component(components: &mut [u64], drawn: Drawn, before: Before) -> Before
 // Lays the entries of all primitives, in file order. The answer is how many there are, and their inputs and outputs.
 pub(crate) fn lay_components(file: &[u8], components: &mut [u64]) -> Before
     requires { ⌜ (verdict (now file) ≡ Accepted) × (2048 ≤ length (now components)) ⌝ }
-    ensures { λ r. ⌜ now (components .exit) ≡ overlay (joined (componentWords (recordAt (now (file .entry))) (recordCount (now (file .entry)))) (primitives (recordAt (now (file .entry))) (recordCount (now (file .entry))))) (now (components .entry)) ⌝ }
+    ensures { λ r. ⌜ now (components .exit) ≡ overlay (joined (componentWords (recordAt (now (file .entry))) (recordCount (now (file .entry))))
+        (primitives (recordAt (now (file .entry))) (recordCount (now (file .entry))))) (now (components .entry)) ⌝ }
     ensures { λ r. ⌜ r ≡ beforeAt (recordAt (now (file .entry))) (recordCount (now (file .entry))) (recordCount (now (file .entry))) ⌝ }
 {
     let n = file.len() / 24;
@@ -130,7 +132,8 @@ fn lay_output(outputs: &mut [u64], at: usize, drawn: Drawn) -> usize
 // Lays the outputs of all primitives, in file order.
 pub(crate) fn lay_outputs(file: &[u8], outputs: &mut [u64])
     requires { ⌜ (verdict (now file) ≡ Accepted) × (1024 ≤ length (now outputs)) ⌝ }
-    ensures { λ _. ⌜ now (outputs .exit) ≡ overlay (joined (startingOf (recordAt (now (file .entry)))) (primitives (recordAt (now (file .entry))) (recordCount (now (file .entry))))) (now (outputs .entry)) ⌝ }
+    ensures { λ _. ⌜ now (outputs .exit) ≡ overlay (joined (startingOf (recordAt (now (file .entry))))
+        (primitives (recordAt (now (file .entry))) (recordCount (now (file .entry))))) (now (outputs .entry)) ⌝ }
 {
     let n = file.len() / 24;
     let mut at: usize = 0;

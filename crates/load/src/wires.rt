@@ -14,13 +14,14 @@ ghost use Rattle.flatten.specs.Verdict.{verdict};
 ghost use Rattle.load.specs.Load.{wireWords};
 ghost use Rattle.load.specs.Laying.{Written, IsFlat, Ready, leadWords, reached, wiresGiven};
 use crate::names::index_flat;
-use component::Record;
+use component::Reading;
+use component::Says;
 use component::child_of;
 use component::deepest;
 use component::index_children;
 use component::index_outs;
 use component::index_ranges;
-use component::is_primitive;
+use component::is_primitive_at;
 use component::record_at;
 use flatten::Entered;
 use flatten::Pin;
@@ -72,13 +73,15 @@ fn lead(
     at: usize,
 ) -> usize
     requires { ⌜ Ready (now file) n (now children) (now lo) (now hi) (now indexes) ⌝ }
-    requires { ⌜ (from .comp < 65536) × (at + length (joined (leadWords (recordAt (now file)) n from) (reached (recordAt (now file)) n goal)) ≤ length (now wires)) ⌝ }
-    ensures { λ r. ⌜ Written (now (wires .entry)) at (joined (leadWords (recordAt (now (file .entry))) n from) (reached (recordAt (now (file .entry))) n goal)) (now (wires .exit)) r ⌝ }
+    requires { ⌜ (from .comp < 65536) × (at + length (joined (leadWords (recordAt (now file)) n from) (reached (recordAt (now file)) n goal)) ≤ length
+        (now wires)) ⌝ }
+    ensures { λ r. ⌜ Written (now (wires .entry)) at (joined (leadWords (recordAt (now (file .entry))) n from)
+        (reached (recordAt (now (file .entry))) n goal)) (now (wires .exit)) r ⌝ }
 {
     if goal.depth == 0 {
         return at;
     }
-    if is_primitive(record_at(file, goal.comp)) {
+    if is_primitive_at(file, goal.comp) {
         let to = flat_pin(file, n, indexes, goal.comp, goal.port);
         write_wire(wires, at, from, to);
         return at + 4;
@@ -116,13 +119,15 @@ fn connect(
     requires { ⌜ (p < n) × (at + length (wiresGiven (recordAt (now file)) n p) ≤ length (now wires)) ⌝ }
     ensures { λ r. ⌜ Written (now (wires .entry)) at (wiresGiven (recordAt (now (file .entry))) n p) (now (wires .exit)) r ⌝ }
 {
-    let Record::Connection {
-        owner,
+    let Reading::Taken { owner, says } = record_at(file, p) else {
+        return at;
+    };
+    let Says::Connection {
         from,
         output,
         to,
         input,
-    } = record_at(file, p)
+    } = says
     else {
         return at;
     };
@@ -151,7 +156,8 @@ fn connect_all(
     requires { ⌜ Ready (now file) n (now children) (now lo) (now hi) (now indexes) ⌝ }
     requires { ⌜ IsTable 64 (outMap (recordAt (now file)) n) (now outs) ⌝ }
     requires { ⌜ 4096 ≤ length (now wires) ⌝ }
-    ensures { λ r. ⌜ (now (wires .exit) ≡ overlay (joined wireWords (flatWires (recordAt (now (file .entry))) n)) (now (wires .entry))) × (r ≡ 4 * length (flatWires (recordAt (now (file .entry))) n)) ⌝ }
+    ensures { λ r. ⌜ (now (wires .exit) ≡ overlay (joined wireWords (flatWires (recordAt (now (file .entry))) n)) (now (wires .entry)))
+        × (r ≡ 4 * length (flatWires (recordAt (now (file .entry))) n)) ⌝ }
 {
     let mut at: usize = 0;
     let mut p: usize = 0;
@@ -165,7 +171,8 @@ fn connect_all(
 // Lays the wires of an accepted drawing. The answer is how many there are.
 pub(crate) fn lay_wires(file: &[u8], wires: &mut [u16]) -> usize
     requires { ⌜ (verdict (now file) ≡ Accepted) × (4096 ≤ length (now wires)) ⌝ }
-    ensures { λ r. ⌜ now (wires .exit) ≡ overlay (joined wireWords (flatWires (recordAt (now (file .entry))) (recordCount (now (file .entry))))) (now (wires .entry)) ⌝ }
+    ensures { λ r. ⌜ now (wires .exit) ≡ overlay (joined wireWords (flatWires (recordAt (now (file .entry))) (recordCount (now (file .entry)))))
+        (now (wires .entry)) ⌝ }
     ensures { λ r. ⌜ r ≡ length (flatWires (recordAt (now (file .entry))) (recordCount (now (file .entry)))) ⌝ }
 {
     let n = file.len() / 24;

@@ -1,17 +1,15 @@
 -- A file of bytes: an id in it has 32 bits. docs/SPECIFICATION.md, "The drawing file".
 -- Assumes nothing.
 use mathlib.Core.Path.{sym, _∙_, subst}
-use mathlib.Core.Bool.{Bool, true, false, cond, _&&_}
+use mathlib.Core.Bool.{Bool, true, false, cond}
 use mathlib.Core.List.{List}
 use Prim.Native.Nat.{ℕ, _+_, _*_, _^_, _<_}
 use native.Mathlib.Omega.{arith}
 use lib.ListN.{getD, drop}
 use lib.Seq.{getD-take, getD-drop}
-use lib.Dec.{eqb, ltb}
+use lib.Dec.{ltb}
 use Rattle.component.specs.declared.Record.{Record}
-use Rattle.component.specs.declared.Record.the-variants.{Refused}
-use Rattle.component.specs.Record.{IsBytes, le16, le32, le64, componentIn, connectionIn, inputMapIn, outputMapIn}
-use Rattle.component.specs.Record.{lineIn, readRecord, recordCount, partAt, recordAt, idOf}
+use Rattle.component.specs.Record.{IsBytes, le32, numbersIn, wellFormed, noRecord, recordIn, recordCount, partAt, recordAt, idOf}
 
 module _ (file : List ℕ) (bytes : IsBytes file) where
   -- A byte of a record.
@@ -35,19 +33,9 @@ module _ (file : List ℕ) (bytes : IsBytes file) where
   taken-id true r s u v = u
   taken-id false r s u v = v
 
-  -- Every id in the file has 32 bits: a component's is read from four bytes, and no other record has one.
+  -- Every id in the file has 32 bits: it is read from four bytes, and no record has id 0.
   pub recordAt-id : (p : ℕ) → idOf (recordAt file p) < 2 ^ 32
   recordAt-id p =
-      let s = partAt file p in
+      let r = numbersIn (partAt file p) in
       let none : 0 < 2 ^ 32 = omega arith in
-      let component : idOf (componentIn s) < 2 ^ 32 = taken-id (eqb (le16 s 10) 0) _ Refused (part-id p) none in
-      let input : idOf (inputMapIn s) < 2 ^ 32 = taken-id (eqb (le16 s 6) 0) _ Refused none none in
-      let output : idOf (outputMapIn s) < 2 ^ 32 =
-      taken-id (eqb (le16 s 8) 0 && eqb (le16 s 10) 0) _ Refused none none in
-      let line : idOf (lineIn s) < 2 ^ 32 =
-      taken-id (eqb (getD s 1 0) 0 && eqb (le32 s 12) 0 && eqb (le64 s 16) 0) _ Refused
-      (taken-id (eqb (getD s 0 0) 2) (connectionIn s) _ none
-      (taken-id (eqb (getD s 0 0) 3) (inputMapIn s) _ input
-      (taken-id (eqb (getD s 0 0) 4) (outputMapIn s) Refused output none))) none in
-      taken-id (ltb p (recordCount file)) (readRecord s) Refused
-      (taken-id (eqb (getD s 0 0) 1) (componentIn s) (lineIn s) component line) none
+      taken-id (ltb p (recordCount file)) (recordIn r) noRecord (taken-id (wellFormed r) r noRecord (part-id p) none) none

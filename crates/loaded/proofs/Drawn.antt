@@ -35,12 +35,12 @@ use Rattle.tables.proofs.SameLaws.{SameWiring, sameWiring-word, sameWiring-fiel
 -- The components and wires of U are those of the drawing: each primitive stands at its flat index.
 pub record IsDrawn (at : ℕ → Record) (n : ℕ) (U : Tables) : Type 0 where
   pub component-count : U .counts .components ≡ flat at n n
-  pub input-count : U .counts .inputs ≡ inputsBefore at n n
-  pub output-count : U .counts .outputs ≡ outputsBefore at n n
+  pub input-count : U .counts .inputs ≡ inputsBefore at n
+  pub output-count : U .counts .outputs ≡ outputsBefore at n
   pub fields : (c : ℕ) → isPrimitive (at c) ≡ true → fieldsAt U (flat at n c) ≡ fieldsOf (at c)
   pub id : (c : ℕ) → isPrimitive (at c) ≡ true → idAt U (flat at n c) ≡ idOf (at c)
-  pub first-input : (c : ℕ) → isPrimitive (at c) ≡ true → firstInput U (flat at n c) ≡ inputsBefore at n c
-  pub first-output : (c : ℕ) → isPrimitive (at c) ≡ true → firstOutput U (flat at n c) ≡ outputsBefore at n c
+  pub first-input : (c : ℕ) → isPrimitive (at c) ≡ true → firstInput U (flat at n c) ≡ inputsBefore at c
+  pub first-output : (c : ℕ) → isPrimitive (at c) ≡ true → firstOutput U (flat at n c) ≡ outputsBefore at c
   pub wires : wiresIn U ≡ flatWires at n
 
 -- A load of a drawing that passes every check leaves such tables.
@@ -76,15 +76,15 @@ drawn-kept at n L U s d =
 pub place-inj : (at : ℕ → Record) (n : ℕ) (f : Record → ℕ) (s t : Pin)
     → isPrimitive (at (s .comp)) ≡ true → isPrimitive (at (t .comp)) ≡ true
     → s .port < f (at (s .comp)) → t .port < f (at (t .comp))
-    → total (λ q. f (at q)) (primitivesBefore at n (s .comp)) + s .port
-    ≡ total (λ q. f (at q)) (primitivesBefore at n (t .comp)) + t .port
+    → total (λ q. f (at q)) (primitivesBefore at (s .comp)) + s .port
+    ≡ total (λ q. f (at q)) (primitivesBefore at (t .comp)) + t .port
     → s ≡ t
 place-inj at n f s t i j h l e =
     let below : s .comp < t .comp → ⊥ = λ u. omega (arith, portsBefore-within at n f (s .comp) (t .comp) i u) in
     let above : t .comp < s .comp → ⊥ = λ u. omega (arith, portsBefore-within at n f (t .comp) (s .comp) j u) in
     let c : s .comp ≡ t .comp = omega arith in
     let p : s .port ≡ t .port =
-    omega (arith, ap (λ (x : ℕ). total (λ q. f (at q)) (primitivesBefore at n x)) c) in
+    omega (arith, ap (λ (x : ℕ). total (λ q. f (at q)) (primitivesBefore at x)) c) in
     λ k. pin (c k) (p k)
 
 -- The primitive of the drawing that is component i of U: there is one and no other.
@@ -123,7 +123,7 @@ module _ (at : ℕ → Record) (n : ℕ) (U : Tables) (d : IsDrawn at n U) where
 
   -- Ports of a primitive stand behind those of the primitives before it,
   pub drawn-inputPlace : (t : Pin) → isPrimitive (at (t .comp)) ≡ true
-      → inputPlace U (flatPin at n t) ≡ inputsBefore at n (t .comp) + t .port
+      → inputPlace U (flatPin at n t) ≡ inputsBefore at (t .comp) + t .port
   drawn-inputPlace t e = ap (λ (q : ℕ). q + t .port) (d .first-input (t .comp) e)
 
   -- so no two inputs share a place, and no two outputs.

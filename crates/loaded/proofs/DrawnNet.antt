@@ -64,9 +64,9 @@ module _ (at : ℕ → Record) (n : ℕ) (p : Passed at n) (U : Tables) (d : IsD
 
   -- What the components below a flat index have of ports, f being the inputs or the outputs of fields.
   portsBelow : (f : Fields → ℕ) (m : ℕ) → total (λ i. f (fieldsAt U i)) (from 0 (flat at n m))
-      ≡ total (λ q. f (fieldsOf (at q))) (primitivesBefore at n m)
+      ≡ total (λ q. f (fieldsOf (at q))) (primitivesBefore at m)
   portsBelow f m =
-      total-indexes (λ i. f (fieldsAt U i)) (λ q. f (fieldsOf (at q))) m (primitivesBefore at n m)
+      total-indexes (λ i. f (fieldsAt U i)) (λ q. f (fieldsOf (at q))) m (primitivesBefore at m)
       (λ i u. let r = flat-onto at n i m m u in
       ap (λ (k : ℕ). f (fieldsAt U k)) (sym (r .2)) ∙ ap f (d .fields _ (r .0)))
 
@@ -74,8 +74,8 @@ module _ (at : ℕ → Record) (n : ℕ) (p : Passed at n) (U : Tables) (d : IsD
   pub drawn-portsFollow : portsFollow U ≡ true
   unfolding portsFollow
   drawn-portsFollow =
-      let inputs : (m : ℕ) → inputSum (U .components) (flat at n m) ≡ inputsBefore at n m = portsBelow (λ f. f .inputs) in
-      let outputs : (m : ℕ) → outputSum (U .components) (flat at n m) ≡ outputsBefore at n m = portsBelow (λ f. f .outputs) in
+      let inputs : (m : ℕ) → inputSum (U .components) (flat at n m) ≡ inputsBefore at m = portsBelow (λ f. f .inputs) in
+      let outputs : (m : ℕ) → outputSum (U .components) (flat at n m) ≡ outputsBefore at m = portsBelow (λ f. f .outputs) in
       let follows : ℕ → Bool =
       λ i. eqb (firstInput U i) (inputSum (U .components) i) && eqb (firstOutput U i) (outputSum (U .components) i) in
       let each : every follows (indexes U) ≡ true =

@@ -74,9 +74,9 @@ module _ (at : ℕ → Record) (n : ℕ) (d : Passed at n) (T : Tables) where
 
   -- and its ports start behind those of the primitives before it.
   pub loaded-firstInput : (c : ℕ) → isPrimitive (at c) ≡ true
-      → firstInput (loaded at n T) (flat at n c) ≡ inputsBefore at n c
+      → firstInput (loaded at n T) (flat at n c) ≡ inputsBefore at c
   loaded-firstInput c e = loaded-word c 6 e (omega arith)
 
   pub loaded-firstOutput : (c : ℕ) → isPrimitive (at c) ≡ true
-      → firstOutput (loaded at n T) (flat at n c) ≡ outputsBefore at n c
+      → firstOutput (loaded at n T) (flat at n c) ≡ outputsBefore at c
   loaded-firstOutput c e = loaded-word c 7 e (omega arith)

@@ -23,19 +23,19 @@ use Rattle.load.proofs.PortsLaws.{starting-length, starting-before}
 use Rattle.loaded.proofs.Entries.{loaded-fields, loaded-firstInput, loaded-firstOutput}
 
 -- Every input that there is is 0.
-pub loaded-input : (at : ℕ → Record) (n : ℕ) (T : Tables) (i : ℕ) → i < inputsBefore at n n
+pub loaded-input : (at : ℕ → Record) (n : ℕ) (T : Tables) (i : ℕ) → i < inputsBefore at n
     → getD (loaded at n T .inputs) i 0 ≡ 0
 unfolding loaded
 loaded-input at n T i h =
-    overlay-at (replicate (inputsBefore at n n) 0) (T .inputs) i 0
-    (omega (arith, length-replicate {A = ℕ} (inputsBefore at n n) 0))
-    ∙ getD-replicate (inputsBefore at n n) i 0 0 h
+    overlay-at (replicate (inputsBefore at n) 0) (T .inputs) i 0
+    (omega (arith, length-replicate {A = ℕ} (inputsBefore at n) 0))
+    ∙ getD-replicate (inputsBefore at n) i 0 0 h
 
-inputs-room : (at : ℕ → Record) (n : ℕ) (T : Tables) → inputsBefore at n n ≤ length (loaded at n T .inputs)
+inputs-room : (at : ℕ → Record) (n : ℕ) (T : Tables) → inputsBefore at n ≤ length (loaded at n T .inputs)
 unfolding loaded overlay
 inputs-room at n T =
-    let all : List ℕ = replicate (inputsBefore at n n) 0 in
-    omega (arith, length-append all (drop (length all) (T .inputs)), length-replicate {A = ℕ} (inputsBefore at n n) 0)
+    let all : List ℕ = replicate (inputsBefore at n) 0 in
+    omega (arith, length-append all (drop (length all) (T .inputs)), length-replicate {A = ℕ} (inputsBefore at n) 0)
 
 module _ (at : ℕ → Record) (n : ℕ) (d : Passed at n) (T : Tables) where
   -- The inputs of each primitive are 0.
@@ -47,7 +47,7 @@ module _ (at : ℕ → Record) (n : ℕ) (d : Passed at n) (T : Tables) where
       let room = portsBefore-within at n inputsOf c n e (primitive-below at n d c e) in
       let ins = loaded at n T .inputs in
       (λ j. numbers ins (first j) (own j .inputs))
-      ∙ slice-replicate 0 (inputsBefore at n c) (inputsOf (at c)) ins (omega (arith, inputs-room at n T))
+      ∙ slice-replicate 0 (inputsBefore at c) (inputsOf (at c)) ins (omega (arith, inputs-room at n T))
       (λ i l u. loaded-input at n T i (omega arith))
 
   -- The outputs of each primitive are its starting values: 0, a Const's output its value.
@@ -55,7 +55,7 @@ module _ (at : ℕ → Record) (n : ℕ) (d : Passed at n) (T : Tables) where
       → outputsAt (loaded at n T) (loaded at n T .outputs) (flat at n c) ≡ starting (fieldsOf (at c))
   unfolding loaded overlay
   loaded-outputs c e =
-      let before = primitivesBefore at n c in
+      let before = primitivesBefore at c in
       let behind = keep (λ q. isPrimitive (at q)) (from (suc c) (n - suc c)) in
       let split = primitivesBefore-split at n c n e (primitive-below at n d c e) in
       let rest = drop (length (joined (startingOf at) (primitives at n))) (T .outputs) in

@@ -56,8 +56,8 @@ module _ (at : ℕ → Record) (n : ℕ) (d : Passed at n) where
             overlay-length (joined (componentWords at n) (primitives at n)) (T .components)
             (omega (arith, joined-width (componentWords at n) 8 (λ c. refl) (primitives at n), s .components));
         inputs =
-            overlay-length (replicate (inputsBefore at n n) 0) (T .inputs)
-            (omega (arith, length-replicate {A = ℕ} (inputsBefore at n n) 0, inputs-bound at n d, s .inputs));
+            overlay-length (replicate (inputsBefore at n) 0) (T .inputs)
+            (omega (arith, length-replicate {A = ℕ} (inputsBefore at n) 0, inputs-bound at n d, s .inputs));
         outputs =
             overlay-length (joined (startingOf at) (primitives at n)) (T .outputs)
             (omega (arith, starting-before at n d n, outputs-bound at n d, s .outputs));

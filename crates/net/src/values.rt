@@ -30,7 +30,8 @@ fn all_below(ports: &[u64], start: usize, count: usize, width: u64) -> bool
 
 // Whether the values of component i fit its ports.
 fn row_fits(components: &[u64], inputs: &[u64], outputs: &[u64], i: usize) -> bool
-    requires { ⌜ (i < 65536) × (fieldsFit (fieldsIn (now components) i) ≡ true) × InputsInside (now components) (now inputs) i × OutputsInside (now components) (now outputs) i ⌝ }
+    requires { ⌜ (i < 65536) × (fieldsFit (fieldsIn (now components) i) ≡ true) × InputsInside (now components) (now inputs) i
+        × OutputsInside (now components) (now outputs) i ⌝ }
     ensures { λ r. ⌜ r ≡ fitAt (now (components .entry)) (now (inputs .entry)) (now (outputs .entry)) i ⌝ }
 {
     let f = tables::fields_at(components, i);
@@ -49,7 +50,8 @@ pub(crate) fn values_fit(
     outputs: &[u64],
     counts: Counts,
 ) -> bool
-    requires { ⌜ (counts .components ≤ 256) × (kindsObeyed (lent (now components) [] [] [] counts) ≡ true) × PortsInside (now components) (now inputs) (now outputs) (counts .components) ⌝ }
+    requires { ⌜ (counts .components ≤ 256) × (kindsObeyed (lent (now components) [] [] [] counts) ≡ true)
+        × PortsInside (now components) (now inputs) (now outputs) (counts .components) ⌝ }
     ensures { λ r. ⌜ r ≡ valuesFit (lent (now (components .entry)) (now (inputs .entry)) (now (outputs .entry)) [] counts) ⌝ }
 {
     let n = counts.components;

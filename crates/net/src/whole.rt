@@ -4,7 +4,7 @@ ghost use mathlib.Core.Bool.{true};
 ghost use Prim.Native.Nat.{_≤_};
 ghost use lib.ListN.{length};
 ghost use Rattle.tables.specs.Tables.{tablesOf, fullSize};
-ghost use Rattle.net.specs.Net.{lent, isCircuit, isNet, netNumber};
+ghost use Rattle.net.specs.Net.{lent, isCircuit, isNet, Checks};
 use crate::ids::ids_distinct;
 use crate::limits::counts_within;
 use crate::naming::names;
@@ -56,7 +56,8 @@ fn is_net(
     counts: Counts,
 ) -> bool
     requires { ⌜ fullSize (tablesOf (now components) (now inputs) (now outputs) (now wires) (now current) (now following) (now standing) counts) ≡ true ⌝ }
-    ensures { λ r. ⌜ r ≡ isNet (tablesOf (now (components .entry)) (now (inputs .entry)) (now (outputs .entry)) (now (wires .entry)) (now (current .entry)) (now (following .entry)) (now (standing .entry)) counts) ⌝ }
+    ensures { λ r. ⌜ r ≡ isNet (tablesOf (now (components .entry)) (now (inputs .entry)) (now (outputs .entry)) (now (wires .entry))
+        (now (current .entry)) (now (following .entry)) (now (standing .entry)) counts) ⌝ }
 {
     if !is_circuit(components, inputs, outputs, wires, counts) {
         return false;
@@ -78,7 +79,10 @@ pub fn net_number(
     standing: &[u16],
     counts: Counts,
 ) -> u32
-    ensures { λ r. ⌜ r ≡ netNumber (tablesOf (now (components .entry)) (now (inputs .entry)) (now (outputs .entry)) (now (wires .entry)) (now (current .entry)) (now (following .entry)) (now (standing .entry)) counts) ⌝ }
+    ensures { λ r.
+        let before = tablesOf (now (components .entry)) (now (inputs .entry)) (now (outputs .entry)) (now (wires .entry))
+        (now (current .entry)) (now (following .entry)) (now (standing .entry)) counts in
+        ⌜ Checks before r ⌝ }
 {
     if !tables::full_size(
         components,
@@ -88,7 +92,6 @@ pub fn net_number(
         current,
         following,
         standing,
-        counts,
     ) {
         return 2;
     }

@@ -16,7 +16,8 @@ use Rattle.value.specs.Value.{below}
 use Rattle.primitive.specs.declared.table.Fields.{Fields}
 use Rattle.primitive.specs.declared.answers.Evaluated.the-variants.{Done, Refused}
 use Rattle.primitive.specs.Kinds.{kept, unknown, primitive, obeys, inputWidth, outputWidth}
-use Rattle.primitive.specs.Evaluate.{fitting, Own, outputsAfter, evaluateNumber, evaluateAnswer, evaluateOutputs}
+use Rattle.primitive.specs.Evaluate.{fitting, Own, outputsAfter, evaluateNumber, evaluateOutputs, evaluatedGives}
+use Rattle.primitive.specs.Given.{giving}
 
 -- Value i has width w and a number below 2^w.
 abbrev pub fitsAt : ℕ → List ℕ → List ℕ → ℕ → Bool
@@ -134,8 +135,7 @@ module _ (f : Fields) (xs vs ys ws : List ℕ) where
 
   -- The outcome of a refusal: the outputs are as they were.
   module _ (n : ℕ) (e : n ≡ evaluateNumber f xs vs ys ws) (h : n ≡ 0 → ⊥) where
-    pub refused-answer : Refused (record { number = n; position = 0 }) ≡ evaluateAnswer f xs vs ys ws
-    unfolding evaluateAnswer
+    pub refused-answer : evaluatedGives (Refused (record { number = n; position = 0 })) ≡ giving (evaluateNumber f xs vs ys ws) []
     refused-answer = rw (← e, ne-eqb n 0 h)
 
     pub refused-outputs : (t : ℕ) → ys ≡ evaluateOutputs f xs vs ys ws t
@@ -144,8 +144,7 @@ module _ (f : Fields) (xs vs ys ws : List ℕ) where
 
   -- The outcome of an evaluation: the component's outputs are laid over the lent ones.
   module _ (z : evaluateNumber f xs vs ys ws ≡ 0) where
-    pub done-answer : Done ≡ evaluateAnswer f xs vs ys ws
-    unfolding evaluateAnswer
+    pub done-answer : evaluatedGives Done ≡ giving (evaluateNumber f xs vs ys ws) []
     done-answer = rw z
 
     pub done-outputs : (zs : List ℕ) (t : ℕ) → zs ≡ outputsAfter f (take (f .inputs) xs) (take (f .outputs) ys) t → length zs ≡ f .outputs

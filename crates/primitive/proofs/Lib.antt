@@ -4,3 +4,4 @@ pub mod FoldLaws
 pub mod UpdateLaws
 pub mod FitLaws
 pub mod EvaluateLaws
+pub mod GivenLaws

@@ -1,7 +1,7 @@
 -- Evaluating a single component. docs/SPECIFICATION.md, "Rounds" and "Numbers given back".
 --   functionOf f xs t        "its function of its inputs", at a time
 --   outputsAfter f xs ys t   its outputs after an evaluation
---   evaluateAnswer, evaluateOutputs   the public call, on any fields and values
+--   Evaluates                the public call, on any fields and values
 -- Ports' numbers are lists; xs and ys are a component's own inputs and outputs.
 -- Assumes nothing.
 use Prim.Native.Nat.{ℕ, _+_, _*_, _%_}
@@ -16,9 +16,9 @@ use Rattle.value.specs.Value.{level, below, bitOf, complement}
 use Rattle.primitive.specs.declared.kinds.Kind.{Kind}
 use Rattle.primitive.specs.declared.kinds.Kind.the-variants.{Composite, And, Or, Not, Nand, Nor, Xor, Switch, Input, Output, Splitter, Joiner, Clock, Const}
 use Rattle.primitive.specs.declared.table.Fields.{Fields}
-use Rattle.primitive.specs.declared.answers.Refusal.{Refusal}
 use Rattle.primitive.specs.declared.answers.Evaluated.{Evaluated}
 use Rattle.primitive.specs.declared.answers.Evaluated.the-variants.{Done, Refused}
+use Rattle.primitive.specs.Given.{Given, done, declined, giving}
 use Rattle.primitive.specs.Kinds.{kindOf, kept, unknown, is, primitive, obeys, inputWidth, outputWidth}
 
 -- A port is high.
@@ -107,24 +107,17 @@ evaluateNumber f xs vs ys ws =
     ∷ (19 if not (fitting (inputWidth f) (f .inputs) xs vs && fitting (outputWidth f) (f .outputs) ys ws))
     ∷ [])
 
--- A refusal "at position 0".
-abbrev pub refusedBy : ℕ → Refusal
-refusedBy k = record { number = k; position = 0 }
-
--- The answer of a call that gives a number back: done at 0, else refused.
-abbrev pub evaluatedBy : ℕ → Evaluated
-evaluatedBy k = cond (eqb k 0) Done (Refused (refusedBy k))
-
--- The answer.
-unfoldable pub evaluateAnswer : Fields → List ℕ → List ℕ → List ℕ → List ℕ → Evaluated
-evaluateAnswer f xs vs ys ws = evaluatedBy (evaluateNumber f xs vs ys ws)
-
--- The document's number of each answer.
-abbrev pub evaluateGives : Evaluated → ℕ
-evaluateGives Done = 0
-evaluateGives (Refused r) = r .number
-
 -- The output numbers after the call: a refusal changes none, and numbers past the component's own are kept.
 unfoldable pub evaluateOutputs : Fields → List ℕ → List ℕ → List ℕ → List ℕ → ℕ → List ℕ
 evaluateOutputs f xs vs ys ws t =
     cond (eqb (evaluateNumber f xs vs ys ws) 0) (sets ys 0 (outputsAfter f (take (f .inputs) xs) (take (f .outputs) ys) t)) ys
+
+-- What each answer gives.
+abbrev pub evaluatedGives : Evaluated → Given
+evaluatedGives Done = done []
+evaluatedGives (Refused r) = declined r
+
+-- The promise of `evaluate`: its answer r, and the output numbers zs afterwards.
+abbrev pub Evaluates : Fields → List ℕ → List ℕ → List ℕ → List ℕ → ℕ → Evaluated → List ℕ → Type 0
+Evaluates f xs vs ys ws t r zs =
+    (evaluatedGives r ≡ giving (evaluateNumber f xs vs ys ws) []) × (zs ≡ evaluateOutputs f xs vs ys ws t)

@@ -2,7 +2,7 @@
 ghost use mathlib.Core.Path.{_≡_};
 ghost use Prim.Native.Nat.{_≤_};
 ghost use lib.ListN.{length};
-ghost use Rattle.primitive.specs.Evaluate.{fitting, evaluateNumber, evaluateAnswer, evaluateOutputs};
+ghost use Rattle.primitive.specs.Evaluate.{fitting, evaluateNumber, Evaluates};
 use crate::answers::Evaluated;
 use crate::answers::Refusal;
 use crate::rules::update;
@@ -68,7 +68,7 @@ pub fn evaluate(
     leaving: &[u64],
     time: u64,
 ) -> Evaluated
-    ensures { λ r. ⌜ (r ≡ evaluateAnswer f (now (inputs .entry)) (now (entering .entry)) (now (outputs .entry)) (now (leaving .entry))) × (now (outputs .exit) ≡ evaluateOutputs f (now (inputs .entry)) (now (entering .entry)) (now (outputs .entry)) (now (leaving .entry)) time) ⌝ }
+    ensures { λ r. ⌜ Evaluates f (now (inputs .entry)) (now (entering .entry)) (now (outputs .entry)) (now (leaving .entry)) time r (now (outputs .exit)) ⌝ }
 {
     let number = evaluate_number(f, inputs, entering, outputs, leaving);
     if number != 0 {

@@ -1,4 +1,4 @@
--- Demand 3 on the tables' own wires and components, for any rounds and edits since a net as a load leaves it.
+-- Demand 3 on the tables' own wires and components, for any net of which the invariant holds.
 -- docs/SPECIFICATION.md, "Flattening" (satisfied) and "Rounds".
 --   Equal T w       the output and the input of the wire w hold the same number
 --   Follows T t i   the outputs of component i are its function of its inputs, at time t
@@ -28,7 +28,7 @@ use Rattle.simulator.proofs.Sound.{Sound, net-sound}
 use Rattle.simulator.proofs.Held.{Held, Agree}
 use Rattle.simulator.proofs.Left.{net-held}
 use Rattle.quiet.proofs.Invariant.{clocked, Fits, Awaits, Named, now, next, later}
-use Rattle.quiet.proofs.Since.{Fresh, Since, Unbroken, since-net, since-unbroken}
+use Rattle.quiet.proofs.Since.{Unbroken}
 
 -- The output and the input of a wire hold the same number.
 abbrev pub Equal : Tables → Wire → Type 0
@@ -132,11 +132,3 @@ module _ (T : Tables) (ran : Bool) (t : ℕ) (e : netNumber T ≡ 0) (a : Unbrok
               → Fits T t (stateOf T) i ⊎ Awaits T ran (stateOf T) i → Follows T t i
           follow i h s (inl q) = fits-follows i h s q
           follow i h s (inr q) = absurd (clash i h q)
-
--- Demand 3 on the tables: take a net as a load leaves it, and any rounds at any times and any edits, refused ones too.
--- Then wherever the two ends of a wire differ, and wherever a component other than a Switch or a Clock does not hold
--- its function of its inputs, one of the three lists names the component. And once a round has run and the lists name
--- only Clocks, every wire agrees and every component but a Switch holds its function, Clocks at the time of the last
--- round.
-pub since-obeyed : (T₀ : Tables) → Fresh T₀ → {ran : Bool} {t : ℕ} {T : Tables} → Since T₀ ran t T → ObeyedAt T ran t
-since-obeyed T₀ f {ran} {t} {T} r = unbroken-obeyed T ran t (since-net T₀ f r) (since-unbroken T₀ f r)

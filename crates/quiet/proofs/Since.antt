@@ -1,6 +1,6 @@
 -- The invariant on tables: it holds as a load leaves them, and every call keeps it, refused ones too.
 --   Fresh T              a net as a load leaves it: all components current, every Clock standing, following a copy
---   Since T₀ ran t T     rounds and edits lead from T₀ to T; whether a round has run, and the time of the last
+--   Unbroken T ran t     the invariant; whether a round has run, and the time of the last
 -- Assumes nothing.
 use mathlib.Core.Path.{_≡_, refl, sym, subst}
 use mathlib.Core.Bool.{Bool, true, false, cond, _||_, or-true, or-false}
@@ -20,11 +20,9 @@ use Rattle.simulator.specs.Calls.{roundTables, editNumber, editTables}
 use Rattle.simulator.proofs.Sound.{net-sound}
 use Rattle.simulator.proofs.Held.{Order, stored-order}
 use Rattle.quiet.proofs.Edited.{editNumber-editable}
-use Rattle.tables.proofs.SameLaws.{SameWiring, SameLengths, sameWiring-none, sameWiring-more, sameLengths-none, sameLengths-more}
 use Rattle.simulator.proofs.Left.{stateOf-leave, net-held}
 use Rattle.simulator.proofs.EditsLaws.{edit-is-net, edit-there}
-use Rattle.simulator.proofs.Kept.{by-number, roundTables-wiring, roundTables-lengths, roundTables-net}
-use Rattle.quiet.proofs.Kept.{editTables-wiring, editTables-lengths, editTables-net}
+use Rattle.simulator.proofs.Kept.{by-number}
 use Rattle.quiet.proofs.Invariant.{Inv, round-inv, start-inv}
 use Rattle.quiet.proofs.EditInvariant.{edited-inv}
 
@@ -34,13 +32,6 @@ pub record Fresh (T : Tables) : Type 0 where
   pub current : currentList T ≡ from 0 (T .counts .components)
   pub following : followingList T ≡ standingList T
   pub clocks : (i : ℕ) → i < T .counts .components → is Clock (fieldsAt T i) ≡ true → has i (standingList T) ≡ true
-
--- Tables that rounds and edits reach from T₀, refused ones too; a refused round is none that has run.
-pub data Since (T₀ : Tables) : Bool → ℕ → Tables → Type 0 where
-  started : Since T₀ false 0 T₀
-  rounded : {ran : Bool} {t : ℕ} {T : Tables} (u : ℕ) → Since T₀ ran t T
-      → Since T₀ (ran || eqb (netNumber T) 0) (cond (eqb (netNumber T) 0) u t) (roundTables T u)
-  edited : {ran : Bool} {t : ℕ} {T : Tables} (i v : ℕ) → Since T₀ ran t T → Since T₀ ran t (editTables T i v)
 
 -- The invariant of a net's tables.
 abbrev pub Unbroken : Tables → Bool → ℕ → Type 0
@@ -103,30 +94,3 @@ editTables-unbroken T ran t i v a =
         leave-unbroken T ran t (editedState T i v (stateOf T))
         (edited-inv T (net-sound T z) ran t i v (edit-there T i v e) (stateOf T)
         (net-held T z) a (editNumber-editable T i v e))
-
--- Whatever rounds and edits reach from a net as a load leaves it is a net: no call on it is given 2 or 16.
-pub since-net : (T₀ : Tables) → Fresh T₀ → {ran : Bool} {t : ℕ} {T : Tables} → Since T₀ ran t T → netNumber T ≡ 0
-since-net T₀ f started = f .net
-since-net T₀ f (rounded {T = T} u r) = roundTables-net T u (since-net T₀ f r)
-since-net T₀ f (edited {T = T} i v r) = editTables-net T i v (since-net T₀ f r)
-
--- Its components and wires are those of T₀, and so are their counts; no table has another length.
-pub since-wiring : (T₀ : Tables) {ran : Bool} {t : ℕ} {T : Tables} → Since T₀ ran t T → SameWiring T₀ T
-since-wiring T₀ started = sameWiring-none T₀
-since-wiring T₀ (rounded {T = T} u r) =
-    sameWiring-more T₀ T (roundTables T u) (since-wiring T₀ r) (roundTables-wiring T u)
-since-wiring T₀ (edited {T = T} i v r) =
-    sameWiring-more T₀ T (editTables T i v) (since-wiring T₀ r) (editTables-wiring T i v)
-
-pub since-lengths : (T₀ : Tables) {ran : Bool} {t : ℕ} {T : Tables} → Since T₀ ran t T → SameLengths T₀ T
-since-lengths T₀ started = sameLengths-none T₀
-since-lengths T₀ (rounded {T = T} u r) =
-    sameLengths-more T₀ T (roundTables T u) (since-lengths T₀ r) (roundTables-lengths T u)
-since-lengths T₀ (edited {T = T} i v r) =
-    sameLengths-more T₀ T (editTables T i v) (since-lengths T₀ r) (editTables-lengths T i v)
-
--- And the invariant holds of it.
-pub since-unbroken : (T₀ : Tables) → Fresh T₀ → {ran : Bool} {t : ℕ} {T : Tables} → Since T₀ ran t T → Unbroken T ran t
-since-unbroken T₀ f started = fresh-unbroken T₀ f
-since-unbroken T₀ f (rounded {ran = ran} {t = t} {T = T} u r) = roundTables-unbroken T ran t u (since-unbroken T₀ f r)
-since-unbroken T₀ f (edited {ran = ran} {t = t} {T = T} i v r) = editTables-unbroken T ran t i v (since-unbroken T₀ f r)

@@ -1,7 +1,7 @@
 -- An edited component is evaluated no later than the third round after. docs/SPECIFICATION.md, "Rounds".
 -- A round evaluates what its current list names. A standing component that the round at hand does not evaluate stays
 -- standing, so the following list names it after, and what that list names the next round makes current.
---   Edits T U   any edits lead from T to U, refused ones too
+--   AnyEdits T U   any edits lead from T to U, refused ones too
 -- Assumes nothing.
 use mathlib.Core.Path.{_≡_, sym, ap, _∙_, subst}
 use mathlib.Core.Logic.{_⊎_, inl, inr, ⊎-elim}
@@ -99,17 +99,17 @@ module _ (T : Tables) (x t : ℕ) (e : netNumber T ≡ 0) where
       subst (λ (s : State). In x (s .current)) (sym after-state) (round-following T x (wiresIn T) t (stateOf T) m)
 
 -- Any edits, refused ones too.
-pub data Edits (T : Tables) : Tables → Type 0 where
-  none : Edits T T
-  more : {U : Tables} (i v : ℕ) → Edits T U → Edits T (editTables U i v)
+pub data AnyEdits (T : Tables) : Tables → Type 0 where
+  none : AnyEdits T T
+  more : {U : Tables} (i v : ℕ) → AnyEdits T U → AnyEdits T (editTables U i v)
 
-pub edits-net : (T : Tables) {U : Tables} → netNumber T ≡ 0 → Edits T U → netNumber U ≡ 0
+pub edits-net : (T : Tables) {U : Tables} → netNumber T ≡ 0 → AnyEdits T U → netNumber U ≡ 0
 edits-net T e none = e
 edits-net T e (more {U = U} i v r) = editTables-net U i v (edits-net T e r)
 
 -- What every edit of a state keeps, edits of tables keep, refused ones too.
 edits-keep : (P : State → Type 0) → ((T : Tables) (i v : ℕ) → P (stateOf T) → P (edited T i v (stateOf T)))
-    → (T : Tables) {U : Tables} → P (stateOf T) → Edits T U → P (stateOf U)
+    → (T : Tables) {U : Tables} → P (stateOf T) → AnyEdits T U → P (stateOf U)
 unfolding editTables
 edits-keep P f T p none = p
 edits-keep P f T p (more {U = U} i v r) =
@@ -119,15 +119,15 @@ edits-keep P f T p (more {U = U} i v r) =
 
 -- So no name is taken off a list.
 module _ (x : ℕ) where
-  edits-current : (T : Tables) {U : Tables} → In x (currentList T) → Edits T U → In x (currentList U)
+  edits-current : (T : Tables) {U : Tables} → In x (currentList T) → AnyEdits T U → In x (currentList U)
   unfolding edited
   edits-current = edits-keep (λ (s : State). In x (s .current)) (λ T i v m. m)
 
-  edits-following : (T : Tables) {U : Tables} → In x (followingList T) → Edits T U → In x (followingList U)
+  edits-following : (T : Tables) {U : Tables} → In x (followingList T) → AnyEdits T U → In x (followingList U)
   unfolding edited
   edits-following = edits-keep (λ (s : State). In x (s .following)) (λ T i v m. m)
 
-  edits-standing : (T : Tables) {U : Tables} → In x (standingList T) → Edits T U → In x (standingList U)
+  edits-standing : (T : Tables) {U : Tables} → In x (standingList T) → AnyEdits T U → In x (standingList U)
   unfolding edited
   edits-standing = edits-keep (λ (s : State). In x (s .standing)) (λ T i v m. appendNew-kept i x (standingList T) m)
 
@@ -142,8 +142,8 @@ editTables-stands T i v e =
 -- After an edit of component i that is not refused, one of the next three rounds evaluates it: with U₁, U₂ and U₃ the
 -- tables on which those rounds are called, the current list of one of them names i. Any edits may come before each.
 pub edit-third : (T : Tables) (i v : ℕ) → editNumber T i v ≡ 0 → (t₁ t₂ : ℕ) {U₁ U₂ U₃ : Tables}
-    → Edits (editTables T i v) U₁
-    → Edits (roundTables U₁ t₁) U₂ → Edits (roundTables U₂ t₂) U₃
+    → AnyEdits (editTables T i v) U₁
+    → AnyEdits (roundTables U₁ t₁) U₂ → AnyEdits (roundTables U₂ t₂) U₃
     → (has i (currentList U₁) || has i (currentList U₂) || has i (currentList U₃)) ≡ true
 edit-third T i v e t₁ t₂ {U₁} {U₂} {U₃} a b c = by-round (roundTables-standing U₁ i t₁ net₁ stands)
   where

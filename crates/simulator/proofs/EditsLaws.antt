@@ -15,14 +15,14 @@ use Rattle.value.specs.Value.{below}
 use Rattle.primitive.specs.declared.kinds.Kind.the-variants.{Switch, Input}
 use Rattle.primitive.specs.declared.table.Fields.{Fields}
 use Rattle.primitive.specs.Kinds.{is, primitive, obeys, inputWidth, outputWidth}
-use Rattle.primitive.specs.Evaluate.{refusedBy}
+use Rattle.primitive.specs.Given.{refusedBy}
 use Rattle.tables.specs.declared.Counts.{Counts}
 use Rattle.tables.specs.declared.Answer.the-variants.{Done, Refused}
 use Rattle.tables.specs.Tables.{Tables, tablesOf, fieldsAt, fieldsIn, wordIn, firstInput, firstOutput, standingList}
 use Rattle.net.specs.Net.{netNumber}
 use Rattle.net.proofs.NetLaws.{netNumber-net, netNumber-sizes}
 use Rattle.simulator.specs.Round.{leave, edited}
-use Rattle.simulator.specs.Calls.{driven, editNumber, editAnswer, editTables}
+use Rattle.simulator.specs.Calls.{driven, editNumber, editTables, Edits}
 use Rattle.simulator.specs.Asked.{ends, editRefusal}
 use Rattle.simulator.proofs.EndsLaws.{driven-ends}
 use Rattle.simulator.proofs.Evaluation.{switch-outputs, input-inputs}
@@ -146,10 +146,8 @@ module _ (cs ins outs ws cur fol std : List ℕ) (m : Counts) (i v : ℕ) where
   abbrev came : Tables
   came = tablesOf cs ins outs ws cur fol std m
 
-  pub edit-kept : (k : ℕ) → k ≡ editNumber came i v → (k ≡ 0 → ⊥)
-      → (Refused (refusedBy k) ≡ editAnswer came i v)
-      × (tablesOf cs ins outs ws cur fol std (editTables came i v .counts) ≡ editTables came i v)
-  unfolding editAnswer editTables
+  pub edit-kept : (k : ℕ) → k ≡ editNumber came i v → (k ≡ 0 → ⊥) → Edits i v came (Refused (refusedBy k)) came
+  unfolding editTables
   edit-kept k e ne = rw (← e, ne-eqb k 0 ne) (refl, refl)
 
   -- The counts with a new one of the standing list.
@@ -186,9 +184,5 @@ module _ (cs ins outs ws cur fol std : List ℕ) (m : Counts) (i v : ℕ) where
           length-take-le (m .following) fol (following-in came net),
         )
 
-    pub edit-made : (Done (counted n) ≡ editAnswer came i v)
-        × (tablesOf cs ins' outs' ws cur fol std' (editTables came i v .counts) ≡ editTables came i v)
-    unfolding editAnswer
-    edit-made =
-        let c : counted n ≡ editTables came i v .counts = ap (λ (U : Tables). U .counts) made in
-        (rw z (ap Done c), ap (tablesOf cs ins' outs' ws cur fol std') (sym c) ∙ made)
+    pub edit-made : Edits i v came (Done (counted n)) (tablesOf cs ins' outs' ws cur fol std' (counted n))
+    edit-made = (rw z refl, made)

@@ -11,3 +11,4 @@ pub mod StepsLaws
 pub mod RoundLaws
 pub mod CallsLaws
 pub mod RunLaws
+pub mod AnswersLaws

@@ -14,10 +14,11 @@ use lib.Dec.{eqb, leb, ltb}
 use Rattle.lists.specs.Lists.{every, first, refusal, _if_, overlay}
 use Rattle.lists.proofs.ListsLaws.{or-right, refusal-first}
 use Rattle.lists.proofs.MembersLaws.{or-cases}
+use Rattle.value.specs.Value.{level}
 use Rattle.primitive.specs.declared.kinds.Kind.the-variants.{Clock}
 use Rattle.primitive.specs.declared.table.Fields.{Fields}
 use Rattle.primitive.specs.Kinds.{is, inputWidth, outputWidth}
-use Rattle.primitive.specs.Evaluate.{refusedBy}
+use Rattle.primitive.specs.Given.{Given, done, declined, refusedBy}
 use Rattle.tables.specs.Tables.{Tables, fullSize, fieldsAt, idAt, firstInput, firstOutput, indexes, currentList, wireAt, indexOf}
 use Rattle.net.specs.Net.{isNet, netNumber, lent}
 use Rattle.net.proofs.ClausesLaws.{kindsObeyed-fit}
@@ -32,8 +33,8 @@ use Rattle.simulator.specs.declared.Port.the-variants.{Is as PortIs, Ref
 use Rattle.simulator.specs.declared.Listed.{Listed}
 use Rattle.simulator.specs.declared.Listed.the-variants.{Count, Refused as NotListed}
 use Rattle.simulator.specs.Round.{calm}
-use Rattle.simulator.specs.Questions.{calmAnswer, found, indexAnswer, portCount, valueAt, valueNumber, valueAnswer, listNumber, listAfter, listAnswer, sourcesAnswer, sourcesList, targetsAnswer, targetsList}
-use Rattle.simulator.specs.Asked.{isEnd, endOf, met, RowRight, valueOnNet}
+use Rattle.simulator.specs.Questions.{ofNet, AsksCalm, indexGives, found, AsksIndex, portCount, valueGives, valueOnNet, AsksValue, listNumber, Listing, AsksSources, AsksTargets}
+use Rattle.simulator.specs.Asked.{isEnd, endOf, met, RowRight}
 use Rattle.simulator.proofs.Sound.{net-sound, wire-in}
 use Rattle.simulator.proofs.EndsLaws.{sources-met, targets-met}
 
@@ -99,45 +100,36 @@ module _ (T : Tables) (z : netNumber T ≡ 0) where
       target : endOf (T .wires) k 2 < 256
       target = omega (arith, net-sound T z .target (wireAt T k) (wire-in T k h), net-sound T z .few)
 
+-- A question that the number refuses, and one of a net.
+of-refused : (T : Tables) (g : Given) (k : ℕ) → k ≡ netNumber T → (k ≡ 0 → ⊥) → declined (refusedBy k) ≡ ofNet T g
+of-refused T g k e ne = rw (← e, ne-eqb k 0 ne)
+
+of-net : (T : Tables) (g : Given) → netNumber T ≡ 0 → g ≡ ofNet T g
+of-net T g z = rw z
+
 -- Calm or not.
-pub calm-refused : (T : Tables) (k : ℕ) → k ≡ netNumber T → (k ≡ 0 → ⊥) → NoCalm (refusedBy k) ≡ calmAnswer T
-unfolding calmAnswer
-calm-refused T k e ne = rw (← e, ne-eqb k 0 ne)
+pub calm-refused : (T : Tables) (k : ℕ) → k ≡ netNumber T → (k ≡ 0 → ⊥) → AsksCalm T (NoCalm (refusedBy k))
+calm-refused T = of-refused T (done (level (calm T) ∷ []))
 
 pub calm-is : (T : Tables) (b : Bool) → netNumber T ≡ 0 → b ≡ every (λ i. is Clock (fieldsAt T i)) (currentList T)
-    → CalmIs b ≡ calmAnswer T
-unfolding calmAnswer calm
-calm-is T b z e = rw (z, e)
+    → AsksCalm T (CalmIs b)
+unfolding calm
+calm-is T b z e = ap (λ (x : Bool). done (level x ∷ [])) e ∙ of-net T (done (level (calm T) ∷ [])) z
 
 -- The index of an id.
-pub index-refused : (T : Tables) (id k : ℕ) → k ≡ netNumber T → (k ≡ 0 → ⊥) → NoIndex (refusedBy k) ≡ indexAnswer T id
-unfolding indexAnswer
-index-refused T id k e ne = rw (← e, ne-eqb k 0 ne)
+pub index-refused : (T : Tables) (id k : ℕ) → k ≡ netNumber T → (k ≡ 0 → ⊥) → AsksIndex T id (NoIndex (refusedBy k))
+index-refused T id = of-refused T (found (indexOf T id))
 
 pub index-found : (T : Tables) (id : ℕ) (r : Index) → netNumber T ≡ 0
-    → r ≡ found (first (λ i. eqb (idAt T i) id) (indexes T))
-    → r ≡ indexAnswer T id
-unfolding indexAnswer indexOf
-index-found T id r z e = rw z e
+    → indexGives r ≡ found (first (λ i. eqb (idAt T i) id) (indexes T))
+    → AsksIndex T id r
+unfolding indexOf
+index-found T id r z e = e ∙ of-net T (found (indexOf T id)) z
 
 -- A port's value.
 module _ (T : Tables) (side : Side) (i p : ℕ) where
-  abbrev none : Bool
-  none = leb (T .counts .components) i || leb (portCount T side i) p
-
-  pub value-refused : (k : ℕ) → k ≡ netNumber T → (k ≡ 0 → ⊥) → NoPort (refusedBy k) ≡ valueAnswer T side i p
-  unfolding valueAnswer valueNumber
-  value-refused k e ne = rw (number-refused T ((17 if none) ∷ []) k e ne, ne-eqb k 0 ne)
-
-  on-net : netNumber T ≡ 0 → valueOnNet T side i p ≡ valueAnswer T side i p
-  unfolding valueAnswer valueNumber valueOnNet
-  on-net z = rw (number-net T ((17 if none) ∷ []) z) (by-test none)
-    where
-      by-test : (b : Bool) → cond b (NoPort (refusedBy 17)) (PortIs (valueAt T side i p))
-          ≡ cond (eqb (refusal ((17 if b) ∷ [])) 0) (PortIs (valueAt T side i p))
-          (NoPort (refusedBy (refusal ((17 if b) ∷ []))))
-      by-test true = refl
-      by-test false = refl
+  pub value-refused : (k : ℕ) → k ≡ netNumber T → (k ≡ 0 → ⊥) → AsksValue T side i p (NoPort (refusedBy k))
+  value-refused = of-refused T (valueOnNet T side i p)
 
   lent-value : (side : Side)
       → valueOnNet (lent (T .components) (T .inputs) (T .outputs) [] (T .counts)) side i p ≡ valueOnNet T side i p
@@ -146,28 +138,26 @@ module _ (T : Tables) (side : Side) (i p : ℕ) where
   lent-value Outputs = refl
 
   pub value-there : (r : Port) → netNumber T ≡ 0
-      → r ≡ valueOnNet (lent (T .components) (T .inputs) (T .outputs) [] (T .counts)) side i p
-      → r ≡ valueAnswer T side i p
-  value-there r z e = e ∙ lent-value side ∙ on-net z
+      → valueGives r ≡ valueOnNet (lent (T .components) (T .inputs) (T .outputs) [] (T .counts)) side i p
+      → AsksValue T side i p r
+  value-there r z e = e ∙ lent-value side ∙ of-net T (valueOnNet T side i p) z
 
 -- The same inside the tables that are looked at: no such component; a port of it, or none.
 module _ (T : Tables) (side : Side) (i p : ℕ) where
-  pub value-none : T .counts .components ≤ i → NoPort (refusedBy 17) ≡ valueOnNet T side i p
+  pub value-none : T .counts .components ≤ i → valueGives (NoPort (refusedBy 17)) ≡ valueOnNet T side i p
   unfolding valueOnNet
   value-none h = rw (le-leb (T .counts .components) i h)
 
   module _ (r : Port) (f : Fields) (start w : ℕ) (h : i < T .counts .components) (e : f ≡ fieldsAt T i) where
     pub value-input : side ≡ Inputs → start ≡ firstInput T i → w ≡ inputWidth f
-        → r ≡ cond (leb (f .inputs) p) (NoPort (refusedBy 17))
-        (PortIs (record { number = getD (T .inputs) (start + p) 0; width = w }))
-        → r ≡ valueOnNet T side i p
+        → valueGives r ≡ cond (leb (f .inputs) p) (declined (refusedBy 17)) (done (getD (T .inputs) (start + p) 0 ∷ w ∷ []))
+        → valueGives r ≡ valueOnNet T side i p
     unfolding valueOnNet
     value-input k q u given = given ∙ rw (k, u, q, e, lt-leb (T .counts .components) i h)
 
     pub value-output : side ≡ Outputs → start ≡ firstOutput T i → w ≡ outputWidth f
-        → r ≡ cond (leb (f .outputs) p) (NoPort (refusedBy 17))
-        (PortIs (record { number = getD (T .outputs) (start + p) 0; width = w }))
-        → r ≡ valueOnNet T side i p
+        → valueGives r ≡ cond (leb (f .outputs) p) (declined (refusedBy 17)) (done (getD (T .outputs) (start + p) 0 ∷ w ∷ []))
+        → valueGives r ≡ valueOnNet T side i p
     unfolding valueOnNet
     value-output k q u given = given ∙ rw (k, u, q, e, lt-leb (T .counts .components) i h)
 
@@ -210,25 +200,18 @@ module _ (T : Tables) (i : ℕ) (list : List ℕ) where
 
 -- The answer and the lent list, where m is the number and xs is listed.
 module _ (m : ℕ) (xs list : List ℕ) where
-  pub joined-refused : (k : ℕ) → k ≡ m → (k ≡ 0 → ⊥)
-      → (NotListed (refusedBy k) ≡ listAnswer m xs) × (list ≡ listAfter m xs list)
+  pub joined-refused : (k : ℕ) → k ≡ m → (k ≡ 0 → ⊥) → Listing m xs list (NotListed (refusedBy k)) list
   joined-refused k e ne = rw (← e, ne-eqb k 0 ne) (refl, refl)
 
-  pub joined-listed : (n : ℕ) (u : List ℕ) → m ≡ 0 → (n ≡ length xs) × (u ≡ overlay xs list)
-      → (Count n ≡ listAnswer m xs) × (u ≡ listAfter m xs list)
-  joined-listed n u z e = rw z (ap Count (e .0), e .1)
+  pub joined-listed : (n : ℕ) (u : List ℕ) → m ≡ 0 → (n ≡ length xs) × (u ≡ overlay xs list) → Listing m xs list (Count n) u
+  joined-listed n u z e = rw z (ap (λ (k : ℕ). done (k ∷ [])) (e .0), e .1)
 
 -- Sources and targets are what wires join.
 module _ (T : Tables) (i : ℕ) (list : List ℕ) (r : Listed) (u : List ℕ) where
-  abbrev Joined : List ℕ → Type 0
-  Joined xs = (r ≡ listAnswer (listNumber T i list) xs) × (u ≡ listAfter (listNumber T i list) xs list)
-
-  pub sources-joined : Joined (met (T .wires) (T .counts .wires) 2 0 i (T .counts .components))
-      → (r ≡ sourcesAnswer T i list) × (u ≡ sourcesList T i list)
-  unfolding sourcesAnswer sourcesList
+  pub sources-joined : Listing (listNumber T i list) (met (T .wires) (T .counts .wires) 2 0 i (T .counts .components)) list r u
+      → AsksSources T i list r u
   sources-joined e = rw (sources-met T i) e
 
-  pub targets-joined : Joined (met (T .wires) (T .counts .wires) 0 2 i (T .counts .components))
-      → (r ≡ targetsAnswer T i list) × (u ≡ targetsList T i list)
-  unfolding targetsAnswer targetsList
+  pub targets-joined : Listing (listNumber T i list) (met (T .wires) (T .counts .wires) 0 2 i (T .counts .components)) list r u
+      → AsksTargets T i list r u
   targets-joined e = rw (targets-met T i) e

@@ -14,7 +14,7 @@ use Rattle.net.specs.Net.{names, netNumber}
 use Rattle.net.proofs.NetLaws.{netNumber-net, netNumber-sizes}
 use Rattle.simulator.specs.declared.rounds.Sizes.{Sizes}
 use Rattle.simulator.specs.Round.{State, leave, turn, evaluated, send, visit, round, roundOf}
-use Rattle.simulator.specs.Steps.{wiring, stateAt, Runs, Listed}
+use Rattle.simulator.specs.Steps.{wiring, stateAt, CanRun, Listed}
 use Rattle.simulator.proofs.Sound.{net-sound, net-within, current-in, following-in, wire-in, output-room, input-room}
 use Rattle.simulator.proofs.StepsLaws.{visits-current}
 
@@ -24,7 +24,7 @@ copy-list n l t t' h e = rw e (overlay-list (take n l) t n (sym (length-take-le 
 
 -- What a net gives.
 module _ (T : Tables) (z : netNumber T ≡ 0) where
-  pub net-runs : Runs (wiring (T .components) (T .wires) (T .counts)) (T .inputs) (T .outputs)
+  pub net-runs : CanRun (wiring (T .components) (T .wires) (T .counts)) (T .inputs) (T .outputs)
   net-runs =
       let g = net-sound T z in
       record {

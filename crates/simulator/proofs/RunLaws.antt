@@ -4,6 +4,7 @@
 -- Assumes nothing.
 use mathlib.Core.Path.{_≡_, refl, sym, ap, _∙_}
 use mathlib.Core.Bool.{Bool, true, false, cond, not, _&&_}
+use mathlib.Core.List.{_∷_}
 use Prim.Native.Nat.{ℕ, suc, _+_, _-_, _≤_, _<_}
 use native.Mathlib.Nat.{sub-zero, zero-add, add-zero}
 use native.Mathlib.Omega.{arith}
@@ -15,16 +16,16 @@ use Rattle.lists.specs.Lists.{every}
 use Rattle.lists.proofs.ListsLaws.{and-left, and-right}
 use Rattle.primitive.specs.declared.kinds.Kind.the-variants.{Clock}
 use Rattle.primitive.specs.Kinds.{is}
-use Rattle.primitive.specs.Evaluate.{refusedBy}
+use Rattle.primitive.specs.Given.{refusedBy, done}
 use Rattle.tables.specs.declared.Counts.{Counts}
-use Rattle.tables.specs.Tables.{Tables, fieldsIn, currentList}
+use Rattle.tables.specs.Tables.{Tables, fieldsIn, currentList, countWords}
 use Rattle.net.specs.Net.{netNumber}
 use Rattle.simulator.specs.declared.Ran.the-variants.{Done as RanOut, Refused as NotRun}
 use Rattle.simulator.specs.Round.{calm, roundOf}
-use Rattle.simulator.specs.Calls.{roundTables, Run, onceMore, run, runTables, runAnswer}
+use Rattle.simulator.specs.Calls.{roundTables, Run, onceMore, run, runTables, Runs}
 use Rattle.simulator.proofs.Kept.{roundTables-done, roundTables-net}
 use Rattle.simulator.proofs.Sound.{current-in}
-use Rattle.simulator.proofs.CallsLaws.{counted, counted-left, call-refused, call-made}
+use Rattle.simulator.proofs.CallsLaws.{counted, call-refused, call-made}
 
 abbrev pub onTop : ℕ → ℕ → Run → Run
 onTop r e x = record { tables = x .tables; rounds = r + x .rounds; evaluations = e + x .evaluations }
@@ -110,24 +111,14 @@ calm-list U = refl
 
 -- The call.
 module _ (T : Tables) (t limit k : ℕ) (number : k ≡ netNumber T) where
-  module _ (refused : k ≡ 0 → ⊥) where
-    pub run-refused : NotRun (refusedBy k) ≡ runAnswer T t limit
-    unfolding runAnswer
-    run-refused = rw (number, call-refused T k number refused)
+  pub run-refused : (k ≡ 0 → ⊥) → Runs t limit T (NotRun (refusedBy k)) T
+  unfolding runTables
+  run-refused refused = rw (number, call-refused T k number refused) (refl, refl)
 
-    pub run-kept : counted T (runTables T t limit .counts) ≡ runTables T t limit
-    unfolding runTables
-    run-kept = rw (call-refused T k number refused)
-
-  module _ (zero : k ≡ 0) (U : Tables) (m : Counts) (rounds evaluations : ℕ)
-      (made : record { tables = counted U m; rounds = rounds; evaluations = evaluations } ≡ run limit t T) where
-    pub run-answered : RanOut m rounds evaluations ≡ runAnswer T t limit
-    unfolding runAnswer
-    run-answered =
-        rw (call-made T k number zero)
-        (ap (λ (x : Run). RanOut (x .tables .counts) (x .rounds) (x .evaluations)) made)
-
-    pub run-left : counted U (runTables T t limit .counts) ≡ runTables T t limit
-    unfolding runTables
-    run-left =
-        rw (call-made T k number zero) (counted-left U (run limit t T .tables) m (ap (λ (x : Run). x .tables) made))
+  pub run-made : k ≡ 0 → (U : Tables) (m : Counts) (rounds evaluations : ℕ)
+      → record { tables = counted U m; rounds = rounds; evaluations = evaluations } ≡ run limit t T
+      → Runs t limit T (RanOut m rounds evaluations) (counted U m)
+  unfolding runTables
+  run-made zero U m rounds evaluations made =
+      rw (call-made T k number zero)
+      (ap (λ (x : Run). done (x .rounds ∷ x .evaluations ∷ countWords m)) made, ap (λ (x : Run). x .tables) made)

@@ -29,7 +29,7 @@ use Rattle.tables.proofs.NamedLaws.{overlay-list, overlay-count}
 use Rattle.net.specs.Net.{names}
 use Rattle.net.proofs.NetLaws.{names-existing}
 use Rattle.simulator.specs.Round.{State, wiresFrom, evaluated, send, visit}
-use Rattle.simulator.specs.Steps.{bare, wiring, stateAt, Evaluates, Sends, Runs, Listed, Step}
+use Rattle.simulator.specs.Steps.{bare, wiring, stateAt, CanEvaluate, CanSend, CanRun, Listed, Step}
 use Rattle.simulator.proofs.Ports.{numbers-length}
 use Rattle.simulator.proofs.Held.{foldl-keeps, carried, received, written, SendCase, agrees, writes, send-case}
 
@@ -86,7 +86,7 @@ part-numbers l a k =
     ap (λ (j : ℕ). take j (drop a l)) e ∙ sym (drop-take a k l)
 
 -- An evaluation of component i, whose fields are f and whose ports start at a and b.
-module _ (T : Tables) (ins outs : List ℕ) (i : ℕ) (v : Evaluates T ins outs i) where
+module _ (T : Tables) (ins outs : List ℕ) (i : ℕ) (v : CanEvaluate T ins outs i) where
   all-own : Own (fieldsAt T i) (inputsAt T ins i) (outputsAt T outs i)
   all-own =
       record {
@@ -222,9 +222,9 @@ module _ (cs ws : List ℕ) (m : Counts) where
   send-bare s w = refl
 
   -- Wire k of a net can be sent along.
-  pub runs-sends : (ins outs fol : List ℕ) (n k : ℕ) → Runs (wiring cs ws m) ins outs → Listed (wiring cs ws m) n fol
+  pub runs-sends : (ins outs fol : List ℕ) (n k : ℕ) → CanRun (wiring cs ws m) ins outs → Listed (wiring cs ws m) n fol
       → k < m .wires
-      → Sends (bare cs ws) ins outs n fol (wireAt (bare cs ws) k)
+      → CanSend (bare cs ws) ins outs n fol (wireAt (bare cs ws) k)
   runs-sends ins outs fol n k g l h =
       record {
         source = g .source k h;
@@ -235,7 +235,7 @@ module _ (cs ws : List ℕ) (m : Counts) where
       }
 
   -- The list stays one of names.
-  pub sent-listed : (ins outs fol ins' fol' : List ℕ) (n k r : ℕ) → Runs (wiring cs ws m) ins outs
+  pub sent-listed : (ins outs fol ins' fol' : List ℕ) (n k r : ℕ) → CanRun (wiring cs ws m) ins outs
       → Listed (wiring cs ws m) n fol → k < m .wires
       → Step r fol' (stateAt ins' outs (take r fol') [])
       (send (bare cs ws) (stateAt ins outs (take n fol) []) (wireAt (bare cs ws) k))
@@ -252,9 +252,9 @@ module _ (cs ws : List ℕ) (m : Counts) where
       }
 
   -- What a net gives depends on the port tables by their lengths only.
-  pub runs-kept : (ins outs ins' outs' : List ℕ) → Runs (wiring cs ws m) ins outs → length ins' ≡ length ins
+  pub runs-kept : (ins outs ins' outs' : List ℕ) → CanRun (wiring cs ws m) ins outs → length ins' ≡ length ins
       → length outs' ≡ length outs
-      → Runs (wiring cs ws m) ins' outs'
+      → CanRun (wiring cs ws m) ins' outs'
   runs-kept ins outs ins' outs' g p q =
       record {
         few = g .few;
@@ -347,8 +347,8 @@ module _ (T : Tables) where
 
 -- What visits need at a turn, and keep.
 module _ (cs ws : List ℕ) (m : Counts) where
-  pub runs-evaluates : (ins outs : List ℕ) (i : ℕ) → Runs (wiring cs ws m) ins outs → i < m .components
-      → Evaluates (bare cs []) ins outs i
+  pub runs-evaluates : (ins outs : List ℕ) (i : ℕ) → CanRun (wiring cs ws m) ins outs → i < m .components
+      → CanEvaluate (bare cs []) ins outs i
   runs-evaluates ins outs i g h =
       record {
         few = omega (arith, g .few);
@@ -362,7 +362,7 @@ module _ (cs ws : List ℕ) (m : Counts) where
   evaluated-bare t i s = refl
 
   pub visited-listed : (ins outs fol std : List ℕ) (s : State) (i t n r : ℕ) (fol' : List ℕ)
-      → Runs (wiring cs ws m) ins outs
+      → CanRun (wiring cs ws m) ins outs
       → Listed (wiring cs ws m) n fol → s .following ≡ take r fol'
       → s ≡ visit (wiring cs ws m) (wiresIn (wiring cs ws m)) t (stateAt ins outs (take n fol) std) i
       → r ≤ length fol' → length fol' ≡ length fol → Listed (wiring cs ws m) r fol'

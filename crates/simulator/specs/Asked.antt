@@ -1,5 +1,5 @@
 -- What questions and edits ask, on the lists of words that a function inside this crate is handed. `sources`,
--- `targetsIn`, `driven`, `valueAnswer` and `editNumber` are these on a net (proofs/EndsLaws, QuestionsLaws, EditsLaws);
+-- `targetsIn`, `driven` and `editNumber` are these on a net (proofs/EndsLaws, QuestionsLaws, EditsLaws);
 -- only contracts of such functions cite them.
 --   isEnd e                  e is an end of a wire: 0 is where it comes from, 2 where it goes to
 --   endOf ws k e             the component at end e of wire k
@@ -8,7 +8,6 @@
 --   ends ws m e i            one of m wires has component i at its end e
 --   marked marks n           the numbers below n that are marked
 --   RowRight cs is os i      component i's words fit its fields, and its ports stand in their tables
---   valueOnNet T side i p    the answer to the question for a value, on a net
 --   editRefusal cs ws m i v  the number of an edit, on a net
 -- Assumes nothing.
 use Prim.Native.Nat.{ℕ, _+_, _*_}
@@ -21,14 +20,9 @@ use Rattle.lists.specs.Lists.{from, keep, any, refusal, _if_}
 use Rattle.value.specs.Value.{below}
 use Rattle.primitive.specs.declared.kinds.Kind.the-variants.{Switch, Input}
 use Rattle.primitive.specs.Kinds.{is, inputWidth, outputWidth}
-use Rattle.primitive.specs.Evaluate.{refusedBy}
 use Rattle.tables.specs.declared.Counts.{Counts}
-use Rattle.tables.specs.Tables.{Tables, fieldsIn, fieldsFit}
+use Rattle.tables.specs.Tables.{fieldsIn, fieldsFit}
 use Rattle.net.specs.Parts.{InputsInside, OutputsInside}
-use Rattle.simulator.specs.declared.Side.{Side}
-use Rattle.simulator.specs.declared.Port.{Port}
-use Rattle.simulator.specs.declared.Port.the-variants.{Is as PortIs, Refused as NoPort}
-use Rattle.simulator.specs.Questions.{portCount, valueAt}
 
 -- The ends of a wire, by the place of their component among its words.
 abbrev pub isEnd : ℕ → Bool
@@ -59,12 +53,6 @@ pub record RowRight (cs is os : List ℕ) (i : ℕ) : Type 0 where
   pub fit : fieldsFit (fieldsIn cs i) ≡ true
   pub inputs-in : InputsInside cs is i
   pub outputs-in : OutputsInside cs os i
-
--- The value of port p of component i on a side, or 17.
-unfoldable pub valueOnNet : Tables → Side → ℕ → ℕ → Port
-valueOnNet T side i p =
-    cond (leb (T .counts .components) i || leb (portCount T side i) p) (NoPort (refusedBy 17))
-    (PortIs (valueAt T side i p))
 
 -- An edit of component i to the number v: 17, 18, 19.
 unfoldable pub editRefusal : List ℕ → List ℕ → Counts → ℕ → ℕ → ℕ

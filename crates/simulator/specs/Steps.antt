@@ -1,8 +1,8 @@
 -- What the steps of a round are handed, and what a net gives them. Only contracts of functions of this crate cite it.
 --   bare, wiring       the components and the wires, which no round writes: without the counts, and with them
 --   stateAt            the ports and the two lists that a round changes as it goes; no step reads the current list
---   Evaluates, Sends   component i can be evaluated; wire w can be sent along, and its target appended
---   Runs               all components and all wires can
+--   CanEvaluate, CanSend   component i can be evaluated; wire w can be sent along, and its target appended
+--   CanRun               all components and all wires can
 --   Listed T n t       the first n entries of the table t name components of T, none twice
 -- Assumes nothing.
 use Prim.Native.Nat.{ℕ, _+_, _≤_, _<_}
@@ -36,21 +36,21 @@ abbrev pub stateAt : List ℕ → List ℕ → List ℕ → List ℕ → State
 stateAt ins outs fol std = record { inputs = ins; outputs = outs; current = []; following = fol; standing = std }
 
 -- Component i obeys the table of kinds, and its ports stand in the tables.
-pub record Evaluates (T : Tables) (is os : List ℕ) (i : ℕ) : Type 0 where
+pub record CanEvaluate (T : Tables) (is os : List ℕ) (i : ℕ) : Type 0 where
   pub few : i < 256
   pub obeyed : (primitive (fieldsAt T i) && obeys (fieldsAt T i)) ≡ true
   pub inputs-in : firstInput T i + fieldsAt T i .inputs ≤ length is
   pub outputs-in : firstOutput T i + fieldsAt T i .outputs ≤ length os
 
 -- The ends of a wire stand in the tables, and the list of n entries in the table t has room for its target.
-pub record Sends (T : Tables) (is os : List ℕ) (n : ℕ) (t : List ℕ) (w : Wire) : Type 0 where
+pub record CanSend (T : Tables) (is os : List ℕ) (n : ℕ) (t : List ℕ) (w : Wire) : Type 0 where
   pub source : outputPlace T (w .src) < length os
   pub target : inputPlace T (w .dst) < length is
   pub count : n ≤ length t
   pub room : length (appendNew (w .dst .comp) (take n t)) ≤ length t
 
 -- What a net gives: components obey the table of kinds, their ports and the ends of wires stand in the tables.
-pub record Runs (T : Tables) (is os : List ℕ) : Type 0 where
+pub record CanRun (T : Tables) (is os : List ℕ) : Type 0 where
   pub few : T .counts .components ≤ 256
   pub few-wires : T .counts .wires ≤ 1024
   pub obeyed : (i : ℕ) → i < T .counts .components → (primitive (fieldsAt T i) && obeys (fieldsAt T i)) ≡ true

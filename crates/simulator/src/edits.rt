@@ -6,8 +6,8 @@ ghost use Prim.Native.Nat.{_<_, _≤_};
 ghost use lib.ListN.{length, set};
 ghost use Rattle.primitive.specs.declared.kinds.Kind.the-variants.{Switch};
 ghost use Rattle.primitive.specs.Kinds.{is};
-ghost use Rattle.tables.specs.Tables.{tablesOf, wordIn, fieldsIn, fieldsFit};
-ghost use Rattle.simulator.specs.Calls.{editNumber, editAnswer, editTables};
+ghost use Rattle.tables.specs.Tables.{tablesOf, wordIn, fieldsIn, fieldsFit, countsAfter};
+ghost use Rattle.simulator.specs.Calls.{editNumber, Edits};
 ghost use Rattle.simulator.specs.Asked.{ends, editRefusal};
 use crate::questions::is_kind;
 use component::FlatIdx;
@@ -59,8 +59,12 @@ fn edit_number(components: &[u64], wires: &[u16], counts: Counts, i: usize, numb
 
 // Sets the output of a Switch, and of any other component the first input.
 fn set_port(components: &[u64], inputs: &mut [u64], outputs: &mut [u64], i: usize, number: u64)
-    requires { ⌜ (i < 65536) × (is Switch (fieldsIn (now components) i) ≡ true → wordIn (now components) i 7 < length (now outputs)) × ((is Switch (fieldsIn (now components) i) ≡ true → ⊥) → wordIn (now components) i 6 < length (now inputs)) ⌝ }
-    ensures { λ _. ⌜ (now (inputs .exit) ≡ cond (is Switch (fieldsIn (now (components .entry)) i)) (now (inputs .entry)) (set (now (inputs .entry)) (wordIn (now (components .entry)) i 6) number)) × (now (outputs .exit) ≡ cond (is Switch (fieldsIn (now (components .entry)) i)) (set (now (outputs .entry)) (wordIn (now (components .entry)) i 7) number) (now (outputs .entry))) ⌝ }
+    requires { ⌜ (i < 65536) × (is Switch (fieldsIn (now components) i) ≡ true → wordIn (now components) i 7 < length (now outputs))
+        × ((is Switch (fieldsIn (now components) i) ≡ true → ⊥) → wordIn (now components) i 6 < length (now inputs)) ⌝ }
+    ensures { λ _. ⌜ (now (inputs .exit) ≡ cond (is Switch (fieldsIn (now (components .entry)) i)) (now (inputs .entry))
+        (set (now (inputs .entry)) (wordIn (now (components .entry)) i 6) number))
+        × (now (outputs .exit) ≡ cond (is Switch (fieldsIn (now (components .entry)) i))
+        (set (now (outputs .entry)) (wordIn (now (components .entry)) i 7) number) (now (outputs .entry))) ⌝ }
 {
     if is_kind(components, i, Kind::Switch) {
         let at = tables::word_of(components, i, 7) as usize;
@@ -84,7 +88,8 @@ fn edit_checks(
     i: usize,
     number: u64,
 ) -> u32
-    ensures { λ r. ⌜ r ≡ editNumber (tablesOf (now (components .entry)) (now (inputs .entry)) (now (outputs .entry)) (now (wires .entry)) (now (current .entry)) (now (following .entry)) (now (standing .entry)) counts) i number ⌝ }
+    ensures { λ r. ⌜ r ≡ editNumber (tablesOf (now (components .entry)) (now (inputs .entry)) (now (outputs .entry)) (now (wires .entry))
+        (now (current .entry)) (now (following .entry)) (now (standing .entry)) counts) i number ⌝ }
 {
     let refused = net::net_number(
         components,
@@ -115,7 +120,12 @@ pub fn edit(
     index: FlatIdx,
     number: u64,
 ) -> Answer
-    ensures { λ r. ⌜ (r ≡ editAnswer (tablesOf (now (components .entry)) (now (inputs .entry)) (now (outputs .entry)) (now (wires .entry)) (now (current .entry)) (now (following .entry)) (now (standing .entry)) counts) (index .0) number) × (tablesOf (now (components .entry)) (now (inputs .exit)) (now (outputs .exit)) (now (wires .entry)) (now (current .entry)) (now (following .entry)) (now (standing .exit)) (editTables (tablesOf (now (components .entry)) (now (inputs .entry)) (now (outputs .entry)) (now (wires .entry)) (now (current .entry)) (now (following .entry)) (now (standing .entry)) counts) (index .0) number .counts) ≡ editTables (tablesOf (now (components .entry)) (now (inputs .entry)) (now (outputs .entry)) (now (wires .entry)) (now (current .entry)) (now (following .entry)) (now (standing .entry)) counts) (index .0) number) ⌝ }
+    ensures { λ r.
+        let before = tablesOf (now (components .entry)) (now (inputs .entry)) (now (outputs .entry)) (now (wires .entry))
+        (now (current .entry)) (now (following .entry)) (now (standing .entry)) counts in
+        let after = tablesOf (now (components .entry)) (now (inputs .exit)) (now (outputs .exit)) (now (wires .entry))
+        (now (current .entry)) (now (following .entry)) (now (standing .exit)) (countsAfter r counts) in
+        ⌜ Edits (index .0) number before r after ⌝ }
 {
     let i = index.0;
     let refused = edit_checks(

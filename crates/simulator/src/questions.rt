@@ -2,19 +2,19 @@
 // Rule: docs/SPECIFICATION.md, "Numbers given back". Source: flatten.rs, `id_to_idx`, `deps`, `inv_deps`; the others are added.
 ghost use mathlib.Core.Path.{_≡_};
 ghost use mathlib.Core.Bool.{true, cond};
-ghost use mathlib.Core.List.{[]};
+ghost use mathlib.Core.List.{[], _∷_};
 ghost use Prim.Native.Nat.{ℕ, _+_, _<_, _≤_};
 ghost use lib.ListN.{length, getD, take};
 ghost use lib.Dec.{eqb, leb};
 ghost use Rattle.lists.specs.Lists.{from, every, first, overlay};
 ghost use Rattle.primitive.specs.declared.kinds.Kind.the-variants.{Clock};
 ghost use Rattle.primitive.specs.Kinds.{is};
-ghost use Rattle.primitive.specs.Evaluate.{refusedBy};
+ghost use Rattle.primitive.specs.Given.{done, declined, refusedBy};
 ghost use Rattle.tables.specs.Tables.{tablesOf, wordIn, fieldsIn};
 ghost use Rattle.net.specs.Net.{lent};
-ghost use Rattle.simulator.specs.declared.Port.the-variants.{Is as PortIs, Refused as NoPort};
-ghost use Rattle.simulator.specs.Questions.{found, calmAnswer, indexAnswer, valueAnswer, listNumber, listAnswer, listAfter, sourcesAnswer, sourcesList, targetsAnswer, targetsList};
-ghost use Rattle.simulator.specs.Asked.{isEnd, endOf, meets, met, marked, RowRight, valueOnNet};
+ghost use Rattle.simulator.specs.Questions.{AsksCalm, indexGives, found, AsksIndex, valueGives, valueOnNet, AsksValue};
+ghost use Rattle.simulator.specs.Questions.{listNumber, Listing, AsksSources, AsksTargets};
+ghost use Rattle.simulator.specs.Asked.{isEnd, endOf, meets, met, marked, RowRight};
 use crate::Calm;
 use crate::Index;
 use crate::Listed;
@@ -62,7 +62,7 @@ pub(crate) fn only_clocks(components: &[u64], list: &[u16], count: usize) -> boo
 // The search by id, among the first `count` components: the sole way from an id to a flat index.
 fn search_id(components: &[u64], count: usize, id: Id) -> Index
     requires { ⌜ count ≤ 256 ⌝ }
-    ensures { λ r. ⌜ r ≡ found (first (λ i. eqb (wordIn (now (components .entry)) i 1) (id .0)) (from 0 count)) ⌝ }
+    ensures { λ r. ⌜ indexGives r ≡ found (first (λ i. eqb (wordIn (now (components .entry)) i 1) (id .0)) (from 0 count)) ⌝ }
 {
     let sought = id.0 as u64;
     let mut i: usize = 0;
@@ -81,7 +81,7 @@ fn search_id(components: &[u64], count: usize, id: Id) -> Index
 // The value of a port out of a component's `count`, which start at `first` of their table and have `width` bits.
 fn port_value(ports: &[u64], first: usize, count: usize, width: u64, port: usize) -> Port
     requires { ⌜ first + count ≤ length (now ports) ⌝ }
-    ensures { λ r. ⌜ r ≡ cond (leb count port) (NoPort (refusedBy 17)) (PortIs (record { number = getD (now (ports .entry)) (first + port) 0; width = width })) ⌝ }
+    ensures { λ r. ⌜ valueGives r ≡ cond (leb count port) (declined (refusedBy 17)) (done (getD (now (ports .entry)) (first + port) 0 ∷ width ∷ [])) ⌝ }
 {
     if count <= port {
         return Port::Refused(Refusal {
@@ -135,8 +135,10 @@ fn list_ends(
     i: usize,
     list: &mut [u16],
 ) -> usize
-    requires { ⌜ (counts .components ≤ 256) × (counts .wires ≤ 1024) × (near < 4) × (far < 4) × (256 ≤ length (now list)) × ((k : ℕ) → k < counts .wires → endOf (now wires) k far < 256) ⌝ }
-    ensures { λ r. ⌜ (r ≡ length (met (now (wires .entry)) (counts .wires) near far i (counts .components))) × (now (list .exit) ≡ overlay (met (now (wires .entry)) (counts .wires) near far i (counts .components)) (now (list .entry))) ⌝ }
+    requires { ⌜ (counts .components ≤ 256) × (counts .wires ≤ 1024) × (near < 4) × (far < 4) × (256 ≤ length (now list))
+        × ((k : ℕ) → k < counts .wires → endOf (now wires) k far < 256) ⌝ }
+    ensures { λ r. ⌜ (r ≡ length (met (now (wires .entry)) (counts .wires) near far i (counts .components)))
+        × (now (list .exit) ≡ overlay (met (now (wires .entry)) (counts .wires) near far i (counts .components)) (now (list .entry))) ⌝ }
 {
     let mut marks = [0u8; 256];
     mark_ends(wires, counts.wires, near, far, i, &mut marks);
@@ -154,7 +156,7 @@ fn value_in(
     port: usize,
 ) -> Port
     requires { ⌜ (counts .components ≤ 256) × (i < counts .components → RowRight (now components) (now inputs) (now outputs) i) ⌝ }
-    ensures { λ r. ⌜ r ≡ valueOnNet (lent (now (components .entry)) (now (inputs .entry)) (now (outputs .entry)) [] counts) side i port ⌝ }
+    ensures { λ r. ⌜ valueGives r ≡ valueOnNet (lent (now (components .entry)) (now (inputs .entry)) (now (outputs .entry)) [] counts) side i port ⌝ }
 {
     if counts.components <= i {
         return Port::Refused(Refusal {
@@ -190,7 +192,8 @@ fn list_number(
     i: usize,
     list: &[u16],
 ) -> u32
-    ensures { λ r. ⌜ r ≡ listNumber (tablesOf (now (components .entry)) (now (inputs .entry)) (now (outputs .entry)) (now (wires .entry)) (now (current .entry)) (now (following .entry)) (now (standing .entry)) counts) i (now (list .entry)) ⌝ }
+    ensures { λ r. ⌜ r ≡ listNumber (tablesOf (now (components .entry)) (now (inputs .entry)) (now (outputs .entry)) (now (wires .entry))
+        (now (current .entry)) (now (following .entry)) (now (standing .entry)) counts) i (now (list .entry)) ⌝ }
 {
     if list.len() < NAMES {
         return 2;
@@ -230,7 +233,11 @@ fn list_joined(
     list: &mut [u16],
 ) -> Listed
     requires { ⌜ (isEnd near ≡ true) × (isEnd far ≡ true) ⌝ }
-    ensures { λ r. ⌜ (r ≡ listAnswer (listNumber (tablesOf (now (components .entry)) (now (inputs .entry)) (now (outputs .entry)) (now (wires .entry)) (now (current .entry)) (now (following .entry)) (now (standing .entry)) counts) i (now (list .entry))) (met (now (wires .entry)) (counts .wires) near far i (counts .components))) × (now (list .exit) ≡ listAfter (listNumber (tablesOf (now (components .entry)) (now (inputs .entry)) (now (outputs .entry)) (now (wires .entry)) (now (current .entry)) (now (following .entry)) (now (standing .entry)) counts) i (now (list .entry))) (met (now (wires .entry)) (counts .wires) near far i (counts .components)) (now (list .entry))) ⌝ }
+    ensures { λ r.
+        let before = tablesOf (now (components .entry)) (now (inputs .entry)) (now (outputs .entry)) (now (wires .entry))
+        (now (current .entry)) (now (following .entry)) (now (standing .entry)) counts in
+        ⌜ Listing (listNumber before i (now (list .entry))) (met (now (wires .entry)) (counts .wires) near far i (counts .components))
+        (now (list .entry)) r (now (list .exit)) ⌝ }
 {
     let number = list_number(
         components,
@@ -264,7 +271,10 @@ pub fn is_calm(
     standing: &[u16],
     counts: Counts,
 ) -> Calm
-    ensures { λ r. ⌜ r ≡ calmAnswer (tablesOf (now (components .entry)) (now (inputs .entry)) (now (outputs .entry)) (now (wires .entry)) (now (current .entry)) (now (following .entry)) (now (standing .entry)) counts) ⌝ }
+    ensures { λ r.
+        let before = tablesOf (now (components .entry)) (now (inputs .entry)) (now (outputs .entry)) (now (wires .entry))
+        (now (current .entry)) (now (following .entry)) (now (standing .entry)) counts in
+        ⌜ AsksCalm before r ⌝ }
 {
     let number = net::net_number(
         components,
@@ -297,7 +307,10 @@ pub fn index_of(
     counts: Counts,
     id: Id,
 ) -> Index
-    ensures { λ r. ⌜ r ≡ indexAnswer (tablesOf (now (components .entry)) (now (inputs .entry)) (now (outputs .entry)) (now (wires .entry)) (now (current .entry)) (now (following .entry)) (now (standing .entry)) counts) (id .0) ⌝ }
+    ensures { λ r.
+        let before = tablesOf (now (components .entry)) (now (inputs .entry)) (now (outputs .entry)) (now (wires .entry))
+        (now (current .entry)) (now (following .entry)) (now (standing .entry)) counts in
+        ⌜ AsksIndex before (id .0) r ⌝ }
 {
     let number = net::net_number(
         components,
@@ -332,7 +345,10 @@ pub fn value_of(
     index: FlatIdx,
     port: usize,
 ) -> Port
-    ensures { λ r. ⌜ r ≡ valueAnswer (tablesOf (now (components .entry)) (now (inputs .entry)) (now (outputs .entry)) (now (wires .entry)) (now (current .entry)) (now (following .entry)) (now (standing .entry)) counts) side (index .0) port ⌝ }
+    ensures { λ r.
+        let before = tablesOf (now (components .entry)) (now (inputs .entry)) (now (outputs .entry)) (now (wires .entry))
+        (now (current .entry)) (now (following .entry)) (now (standing .entry)) counts in
+        ⌜ AsksValue before side (index .0) port r ⌝ }
 {
     let number = net::net_number(
         components,
@@ -366,7 +382,10 @@ pub fn sources_of(
     index: FlatIdx,
     list: &mut [u16],
 ) -> Listed
-    ensures { λ r. ⌜ (r ≡ sourcesAnswer (tablesOf (now (components .entry)) (now (inputs .entry)) (now (outputs .entry)) (now (wires .entry)) (now (current .entry)) (now (following .entry)) (now (standing .entry)) counts) (index .0) (now (list .entry))) × (now (list .exit) ≡ sourcesList (tablesOf (now (components .entry)) (now (inputs .entry)) (now (outputs .entry)) (now (wires .entry)) (now (current .entry)) (now (following .entry)) (now (standing .entry)) counts) (index .0) (now (list .entry))) ⌝ }
+    ensures { λ r.
+        let before = tablesOf (now (components .entry)) (now (inputs .entry)) (now (outputs .entry)) (now (wires .entry))
+        (now (current .entry)) (now (following .entry)) (now (standing .entry)) counts in
+        ⌜ AsksSources before (index .0) (now (list .entry)) r (now (list .exit)) ⌝ }
 {
     let near = TARGET;
     let far = SOURCE;
@@ -399,7 +418,10 @@ pub fn targets_of(
     index: FlatIdx,
     list: &mut [u16],
 ) -> Listed
-    ensures { λ r. ⌜ (r ≡ targetsAnswer (tablesOf (now (components .entry)) (now (inputs .entry)) (now (outputs .entry)) (now (wires .entry)) (now (current .entry)) (now (following .entry)) (now (standing .entry)) counts) (index .0) (now (list .entry))) × (now (list .exit) ≡ targetsList (tablesOf (now (components .entry)) (now (inputs .entry)) (now (outputs .entry)) (now (wires .entry)) (now (current .entry)) (now (following .entry)) (now (standing .entry)) counts) (index .0) (now (list .entry))) ⌝ }
+    ensures { λ r.
+        let before = tablesOf (now (components .entry)) (now (inputs .entry)) (now (outputs .entry)) (now (wires .entry))
+        (now (current .entry)) (now (following .entry)) (now (standing .entry)) counts in
+        ⌜ AsksTargets before (index .0) (now (list .entry)) r (now (list .exit)) ⌝ }
 {
     let near = SOURCE;
     let far = TARGET;

@@ -4,11 +4,11 @@ ghost use mathlib.Core.Path.{_≡_};
 ghost use mathlib.Core.List.{[], foldl};
 ghost use Prim.Native.Nat.{_≤_, _<_};
 ghost use lib.ListN.{length, take};
-ghost use Rattle.tables.specs.Tables.{tablesOf, wireAt, wiresIn};
+ghost use Rattle.tables.specs.Tables.{tablesOf, wireAt, wiresIn, countsAfter};
 ghost use Rattle.net.specs.Net.{netNumber};
 ghost use Rattle.simulator.specs.Round.{wiresFrom, turn, leave, send, evaluated, visit, roundOf};
-ghost use Rattle.simulator.specs.Calls.{roundAnswer, roundTables, run, runAnswer, runTables};
-ghost use Rattle.simulator.specs.Steps.{bare, wiring, stateAt, Evaluates, Sends, Runs, Listed, Step, Visited};
+ghost use Rattle.simulator.specs.Calls.{Rounds, run, countsAfterRun, Runs};
+ghost use Rattle.simulator.specs.Steps.{bare, wiring, stateAt, CanEvaluate, CanSend, CanRun, Listed, Step, Visited};
 use crate::Ran;
 use crate::questions::only_clocks;
 use primitive::Refusal;
@@ -32,8 +32,11 @@ fn send_wire(
     count: usize,
     k: usize,
 ) -> usize
-    requires { ⌜ (k < 1024) × Sends (bare (now components) (now wires)) (now inputs) (now outputs) count (now following) (wireAt (bare (now components) (now wires)) k) ⌝ }
-    ensures { λ r. ⌜ Step r (now (following .exit)) (stateAt (now (inputs .exit)) (now (outputs .entry)) (take r (now (following .exit))) []) (send (bare (now (components .entry)) (now (wires .entry))) (stateAt (now (inputs .entry)) (now (outputs .entry)) (take count (now (following .entry))) []) (wireAt (bare (now (components .entry)) (now (wires .entry))) k)) ⌝ }
+    requires { ⌜ (k < 1024) × CanSend (bare (now components) (now wires)) (now inputs) (now outputs) count (now following)
+        (wireAt (bare (now components) (now wires)) k) ⌝ }
+    ensures { λ r. ⌜ Step r (now (following .exit)) (stateAt (now (inputs .exit)) (now (outputs .entry)) (take r (now (following .exit))) [])
+        (send (bare (now (components .entry)) (now (wires .entry))) (stateAt (now (inputs .entry)) (now (outputs .entry))
+        (take count (now (following .entry))) []) (wireAt (bare (now (components .entry)) (now (wires .entry))) k)) ⌝ }
 {
     let from = tables::entry(wires, 4 * k);
     let output = tables::entry(wires, 4 * k + 1);
@@ -60,8 +63,12 @@ fn send_wires(
     counts: Counts,
     i: usize,
 ) -> usize
-    requires { ⌜ Runs (wiring (now components) (now wires) counts) (now inputs) (now outputs) × Listed (wiring (now components) (now wires) counts) count (now following) ⌝ }
-    ensures { λ r. ⌜ Step r (now (following .exit)) (stateAt (now (inputs .exit)) (now (outputs .entry)) (take r (now (following .exit))) []) (foldl (send (wiring (now (components .entry)) (now (wires .entry)) counts)) (stateAt (now (inputs .entry)) (now (outputs .entry)) (take count (now (following .entry))) []) (wiresFrom i (wiresIn (wiring (now (components .entry)) (now (wires .entry)) counts)))) ⌝ }
+    requires { ⌜ CanRun (wiring (now components) (now wires) counts) (now inputs) (now outputs)
+        × Listed (wiring (now components) (now wires) counts) count (now following) ⌝ }
+    ensures { λ r. ⌜ Step r (now (following .exit)) (stateAt (now (inputs .exit)) (now (outputs .entry)) (take r (now (following .exit))) [])
+        (foldl (send (wiring (now (components .entry)) (now (wires .entry)) counts))
+        (stateAt (now (inputs .entry)) (now (outputs .entry)) (take count (now (following .entry))) [])
+        (wiresFrom i (wiresIn (wiring (now (components .entry)) (now (wires .entry)) counts)))) ⌝ }
 {
     let mut filled = count;
     let mut k: usize = 0;
@@ -74,7 +81,7 @@ fn send_wires(
     filled
 }
 
-// Evaluates component i in the tables of ports and, unless it is a Clock, strikes it from the standing list. The answer is that
+// CanEvaluate component i in the tables of ports and, unless it is a Clock, strikes it from the standing list. The answer is that
 // list's new count.
 fn evaluate_at(
     components: &[u64],
@@ -85,8 +92,10 @@ fn evaluate_at(
     i: usize,
     time: u64,
 ) -> usize
-    requires { ⌜ (count ≤ length (now standing)) × Evaluates (bare (now components) []) (now inputs) (now outputs) i ⌝ }
-    ensures { λ r. ⌜ Step r (now (standing .exit)) (stateAt (now (inputs .entry)) (now (outputs .exit)) [] (take r (now (standing .exit)))) (evaluated (bare (now (components .entry)) []) time i (stateAt (now (inputs .entry)) (now (outputs .entry)) [] (take count (now (standing .entry))))) ⌝ }
+    requires { ⌜ (count ≤ length (now standing)) × CanEvaluate (bare (now components) []) (now inputs) (now outputs) i ⌝ }
+    ensures { λ r. ⌜ Step r (now (standing .exit)) (stateAt (now (inputs .entry)) (now (outputs .exit)) [] (take r (now (standing .exit))))
+        (evaluated (bare (now (components .entry)) []) time i (stateAt (now (inputs .entry)) (now (outputs .entry)) []
+        (take count (now (standing .entry))))) ⌝ }
 {
     let f = tables::fields_at(components, i);
     let input = tables::word_of(components, i, 6) as usize;
@@ -118,8 +127,14 @@ fn visit(
     i: usize,
     time: u64,
 ) -> Sizes
-    requires { ⌜ Runs (wiring (now components) (now wires) counts) (now inputs) (now outputs) × Listed (wiring (now components) (now wires) counts) (sizes .following) (now following) × (sizes .standing ≤ length (now standing)) × (i < counts .components) ⌝ }
-    ensures { λ r. ⌜ Visited r (now (following .exit)) (now (standing .exit)) (stateAt (now (inputs .exit)) (now (outputs .exit)) (take (r .following) (now (following .exit))) (take (r .standing) (now (standing .exit)))) (visit (wiring (now (components .entry)) (now (wires .entry)) counts) (wiresIn (wiring (now (components .entry)) (now (wires .entry)) counts)) time (stateAt (now (inputs .entry)) (now (outputs .entry)) (take (sizes .following) (now (following .entry))) (take (sizes .standing) (now (standing .entry)))) i) ⌝ }
+    requires { ⌜ CanRun (wiring (now components) (now wires) counts) (now inputs) (now outputs)
+        × Listed (wiring (now components) (now wires) counts) (sizes .following) (now following) × (sizes .standing ≤ length (now standing))
+        × (i < counts .components) ⌝ }
+    ensures { λ r. ⌜ Visited r (now (following .exit)) (now (standing .exit))
+        (stateAt (now (inputs .exit)) (now (outputs .exit)) (take (r .following) (now (following .exit))) (take (r .standing) (now (standing .exit))))
+        (visit (wiring (now (components .entry)) (now (wires .entry)) counts) (wiresIn (wiring (now (components .entry)) (now (wires .entry)) counts))
+        time (stateAt (now (inputs .entry)) (now (outputs .entry)) (take (sizes .following) (now (following .entry)))
+        (take (sizes .standing) (now (standing .entry)))) i) ⌝ }
 {
     let left = evaluate_at(
         components,
@@ -159,8 +174,15 @@ fn visit_all(
     sizes: Sizes,
     time: u64,
 ) -> Sizes
-    requires { ⌜ Runs (wiring (now components) (now wires) counts) (now inputs) (now outputs) × Listed (wiring (now components) (now wires) counts) (counts .current) (now current) × Listed (wiring (now components) (now wires) counts) (sizes .following) (now following) × (sizes .standing ≤ length (now standing)) ⌝ }
-    ensures { λ r. ⌜ Visited r (now (following .exit)) (now (standing .exit)) (stateAt (now (inputs .exit)) (now (outputs .exit)) (take (r .following) (now (following .exit))) (take (r .standing) (now (standing .exit)))) (foldl (visit (wiring (now (components .entry)) (now (wires .entry)) counts) (wiresIn (wiring (now (components .entry)) (now (wires .entry)) counts)) time) (stateAt (now (inputs .entry)) (now (outputs .entry)) (take (sizes .following) (now (following .entry))) (take (sizes .standing) (now (standing .entry)))) (take (counts .current) (now (current .entry)))) ⌝ }
+    requires { ⌜ CanRun (wiring (now components) (now wires) counts) (now inputs) (now outputs)
+        × Listed (wiring (now components) (now wires) counts) (counts .current) (now current)
+        × Listed (wiring (now components) (now wires) counts) (sizes .following) (now following) × (sizes .standing ≤ length (now standing)) ⌝ }
+    ensures { λ r. ⌜ Visited r (now (following .exit)) (now (standing .exit))
+        (stateAt (now (inputs .exit)) (now (outputs .exit)) (take (r .following) (now (following .exit))) (take (r .standing) (now (standing .exit))))
+        (foldl (visit (wiring (now (components .entry)) (now (wires .entry)) counts)
+        (wiresIn (wiring (now (components .entry)) (now (wires .entry)) counts)) time)
+        (stateAt (now (inputs .entry)) (now (outputs .entry)) (take (sizes .following) (now (following .entry)))
+        (take (sizes .standing) (now (standing .entry)))) (take (counts .current) (now (current .entry)))) ⌝ }
 {
     let mut reached = sizes;
     let mut k: usize = 0;
@@ -194,8 +216,11 @@ fn end_round(
     counts: Counts,
     sizes: Sizes,
 ) -> Counts
-    requires { ⌜ (sizes .following ≤ length (now next)) × (sizes .standing ≤ length (now left)) × (sizes .following ≤ length (now current)) × (sizes .standing ≤ length (now following)) × (sizes .standing ≤ length (now standing)) ⌝ }
-    ensures { λ r. ⌜ tablesOf [] [] [] [] (now (current .exit)) (now (following .exit)) (now (standing .exit)) r ≡ leave (tablesOf [] [] [] [] (now (current .entry)) (now (following .entry)) (now (standing .entry)) counts) (turn (stateAt [] [] (take (sizes .following) (now (next .entry))) (take (sizes .standing) (now (left .entry))))) ⌝ }
+    requires { ⌜ (sizes .following ≤ length (now next)) × (sizes .standing ≤ length (now left)) × (sizes .following ≤ length (now current))
+        × (sizes .standing ≤ length (now following)) × (sizes .standing ≤ length (now standing)) ⌝ }
+    ensures { λ r. ⌜ tablesOf [] [] [] [] (now (current .exit)) (now (following .exit)) (now (standing .exit)) r
+        ≡ leave (tablesOf [] [] [] [] (now (current .entry)) (now (following .entry)) (now (standing .entry)) counts)
+        (turn (stateAt [] [] (take (sizes .following) (now (next .entry))) (take (sizes .standing) (now (left .entry))))) ⌝ }
 {
     tables::copy(next, sizes.following, current);
     tables::copy(left, sizes.standing, following);
@@ -224,7 +249,10 @@ fn net_round(
     time: u64,
 ) -> Counts
     requires { ⌜ netNumber (tablesOf (now components) (now inputs) (now outputs) (now wires) (now current) (now following) (now standing) counts) ≡ 0 ⌝ }
-    ensures { λ r. ⌜ tablesOf (now (components .entry)) (now (inputs .exit)) (now (outputs .exit)) (now (wires .entry)) (now (current .exit)) (now (following .exit)) (now (standing .exit)) r ≡ roundOf time (tablesOf (now (components .entry)) (now (inputs .entry)) (now (outputs .entry)) (now (wires .entry)) (now (current .entry)) (now (following .entry)) (now (standing .entry)) counts) ⌝ }
+    ensures { λ r. ⌜ tablesOf (now (components .entry)) (now (inputs .exit)) (now (outputs .exit)) (now (wires .entry)) (now (current .exit))
+        (now (following .exit)) (now (standing .exit)) r ≡ roundOf time
+        (tablesOf (now (components .entry)) (now (inputs .entry)) (now (outputs .entry)) (now (wires .entry)) (now (current .entry))
+        (now (following .entry)) (now (standing .entry)) counts) ⌝ }
 {
     let mut next = [0u16; 256];
     let mut left = [0u16; 256];
@@ -261,7 +289,12 @@ pub fn round(
     counts: Counts,
     time: u64,
 ) -> Answer
-    ensures { λ r. ⌜ (r ≡ roundAnswer (tablesOf (now (components .entry)) (now (inputs .entry)) (now (outputs .entry)) (now (wires .entry)) (now (current .entry)) (now (following .entry)) (now (standing .entry)) counts) time) × (tablesOf (now (components .entry)) (now (inputs .exit)) (now (outputs .exit)) (now (wires .entry)) (now (current .exit)) (now (following .exit)) (now (standing .exit)) (roundTables (tablesOf (now (components .entry)) (now (inputs .entry)) (now (outputs .entry)) (now (wires .entry)) (now (current .entry)) (now (following .entry)) (now (standing .entry)) counts) time .counts) ≡ roundTables (tablesOf (now (components .entry)) (now (inputs .entry)) (now (outputs .entry)) (now (wires .entry)) (now (current .entry)) (now (following .entry)) (now (standing .entry)) counts) time) ⌝ }
+    ensures { λ r.
+        let before = tablesOf (now (components .entry)) (now (inputs .entry)) (now (outputs .entry)) (now (wires .entry))
+        (now (current .entry)) (now (following .entry)) (now (standing .entry)) counts in
+        let after = tablesOf (now (components .entry)) (now (inputs .exit)) (now (outputs .exit)) (now (wires .entry))
+        (now (current .exit)) (now (following .exit)) (now (standing .exit)) (countsAfter r counts) in
+        ⌜ Rounds time before r after ⌝ }
 {
     let number = net::net_number(
         components,
@@ -313,7 +346,14 @@ fn net_run(
     limit: u16,
 ) -> Run
     requires { ⌜ netNumber (tablesOf (now components) (now inputs) (now outputs) (now wires) (now current) (now following) (now standing) counts) ≡ 0 ⌝ }
-    ensures { λ r. ⌜ record { tables = tablesOf (now (components .entry)) (now (inputs .exit)) (now (outputs .exit)) (now (wires .entry)) (now (current .exit)) (now (following .exit)) (now (standing .exit)) (r .counts); rounds = r .rounds; evaluations = r .evaluations } ≡ run limit time (tablesOf (now (components .entry)) (now (inputs .entry)) (now (outputs .entry)) (now (wires .entry)) (now (current .entry)) (now (following .entry)) (now (standing .entry)) counts) ⌝ }
+    ensures { λ r. ⌜ record {
+      tables = tablesOf (now (components .entry)) (now (inputs .exit)) (now (outputs .exit)) (now (wires .entry))
+          (now (current .exit)) (now (following .exit)) (now (standing .exit)) (r .counts);
+      rounds = r .rounds;
+      evaluations = r .evaluations;
+    }
+        ≡ run limit time (tablesOf (now (components .entry)) (now (inputs .entry)) (now (outputs .entry)) (now (wires .entry)) (now (current .entry))
+        (now (following .entry)) (now (standing .entry)) counts) ⌝ }
 {
     let mut reached = counts;
     let mut rounds: u16 = 0;
@@ -355,7 +395,12 @@ pub fn run_until_calm(
     time: u64,
     limit: u16,
 ) -> Ran
-    ensures { λ r. ⌜ (r ≡ runAnswer (tablesOf (now (components .entry)) (now (inputs .entry)) (now (outputs .entry)) (now (wires .entry)) (now (current .entry)) (now (following .entry)) (now (standing .entry)) counts) time limit) × (tablesOf (now (components .entry)) (now (inputs .exit)) (now (outputs .exit)) (now (wires .entry)) (now (current .exit)) (now (following .exit)) (now (standing .exit)) (runTables (tablesOf (now (components .entry)) (now (inputs .entry)) (now (outputs .entry)) (now (wires .entry)) (now (current .entry)) (now (following .entry)) (now (standing .entry)) counts) time limit .counts) ≡ runTables (tablesOf (now (components .entry)) (now (inputs .entry)) (now (outputs .entry)) (now (wires .entry)) (now (current .entry)) (now (following .entry)) (now (standing .entry)) counts) time limit) ⌝ }
+    ensures { λ r.
+        let before = tablesOf (now (components .entry)) (now (inputs .entry)) (now (outputs .entry)) (now (wires .entry))
+        (now (current .entry)) (now (following .entry)) (now (standing .entry)) counts in
+        let after = tablesOf (now (components .entry)) (now (inputs .exit)) (now (outputs .exit)) (now (wires .entry))
+        (now (current .exit)) (now (following .exit)) (now (standing .exit)) (countsAfterRun r counts) in
+        ⌜ Runs time limit before r after ⌝ }
 {
     let number = net::net_number(
         components,

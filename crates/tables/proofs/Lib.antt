@@ -3,3 +3,4 @@ pub mod NamedLaws
 pub mod RowsLaws
 pub mod SizesLaws
 pub mod SameLaws
+pub mod AnswerLaws

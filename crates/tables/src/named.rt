@@ -23,7 +23,8 @@ fn contains(list: &[u16], count: usize, x: u16) -> bool
 // component.
 pub fn append_new(list: &mut [u16], count: usize, x: u16) -> usize
     requires { ⌜ (count ≤ length (now list)) × (length (appendNew x (take count (now list))) ≤ length (now list)) ⌝ }
-    ensures { λ r. ⌜ (r ≡ length (appendNew x (take count (now (list .entry))))) × (now (list .exit) ≡ overlay (appendNew x (take count (now (list .entry)))) (now (list .entry))) ⌝ }
+    ensures { λ r. ⌜ (r ≡ length (appendNew x (take count (now (list .entry)))))
+        × (now (list .exit) ≡ overlay (appendNew x (take count (now (list .entry)))) (now (list .entry))) ⌝ }
 {
     if contains(list, count, x) {
         return count;

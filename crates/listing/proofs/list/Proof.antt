@@ -1,9 +1,54 @@
--- `list`: every table and the buffer keep their lengths through the load and the rounds.
+-- `list`: an accepted file leaves a net, whose parts are put one after the other; a refused one its line.
 -- Assumes nothing.
-use mathlib.Core.Path.{_∙_}
+use mathlib.Core.Path.{_≡_}
+use Prim.Native.Nat.{_<_}
+use native.Mathlib.Omega.{arith}
+use Rattle.component.specs.Record.{IsBytes}
+use Rattle.tables.specs.Tables.{Tables, tablesOf}
+use Rattle.net.specs.Net.{netNumber}
+use Rattle.simulator.proofs.Sound.{net-within}
+use Rattle.lines.proofs.LinesLaws.{both, named-as}
+use Rattle.listing.specs.Listing.{fresh, rounds}
+use Rattle.listing.proofs.LoadedLaws.{inside, listed-refused, listed-net, listed-done}
 use borrow.Author.Needs.{needs}
 use Rattle.listing.proofs.list.Statement.{statement}
 use Rattle.listing.proofs.list.Tie as tie
+
+-- The tables that an accepted load leaves, and that they are a net.
+abbrev left : (c : tie.After-answer) → Tables
+left c =
+    let r = c .before .before .before .before .before .before .before .before .before .load in
+    tablesOf (r .last .1 .0) (r .last .1 .1 .0) (r .last .1 .1 .1 .0) (r .last .1 .1 .1 .1 .0) (r .last .1 .1 .1 .1 .1 .0)
+    (r .last .1 .1 .1 .1 .1 .1 .0) (r .last .1 .1 .1 .1 .1 .1 .1 .0) (c .answer .given .0 .0)
+
+left-net : (c : tie.After-answer) → netNumber (left c) ≡ 0
+left-net c =
+    let file = c .before .before .before .before .before .before .before .before .before .before .before .before .before .before .before .before .before .before .before .args .file .now in
+    let r = c .before .before .before .before .before .before .before .before .before .load in
+    let loads = r .ensures (fresh .counts) in
+    let bytes : IsBytes file = λ i. omega (arith, c .before .before .before .before .before .before .before .before .before .before .before .before .before .before .before .before .before .before .shared-slice-known .given i) in
+    listed-net file (r .result) (left c) loads _ (c .answer .given .1) bytes
+
+slice-aggregate-load : tie.Need-slice-aggregate-load
+slice-aggregate-load c = search needs
+
+slice-aggregate-load-2 : tie.Need-slice-aggregate-load-2
+slice-aggregate-load-2 c = search needs
+
+slice-aggregate-load-3 : tie.Need-slice-aggregate-load-3
+slice-aggregate-load-3 c = search needs
+
+slice-aggregate-load-4 : tie.Need-slice-aggregate-load-4
+slice-aggregate-load-4 c = search needs
+
+slice-aggregate-load-5 : tie.Need-slice-aggregate-load-5
+slice-aggregate-load-5 c = search needs
+
+slice-aggregate-load-6 : tie.Need-slice-aggregate-load-6
+slice-aggregate-load-6 c = search needs
+
+slice-aggregate-load-7 : tie.Need-slice-aggregate-load-7
+slice-aggregate-load-7 c = search needs
 
 load-requires : tie.Need-load-requires
 load-requires c κs = search needs
@@ -11,117 +56,104 @@ load-requires c κs = search needs
 enum-known-answer : tie.Need-enum-known-answer
 enum-known-answer c = search needs
 
-show-net-requires : tie.Need-show-net-requires
-show-net-requires c κs = search needs
+slice-aggregate-put-net : tie.Need-slice-aggregate-put-net
+slice-aggregate-put-net c = search needs
 
-run-requires : tie.Need-run-requires
-run-requires c κs = search needs
+slice-aggregate-put-net-2 : tie.Need-slice-aggregate-put-net-2
+slice-aggregate-put-net-2 c = search needs
+
+put-net-requires : tie.Need-put-net-requires
+put-net-requires c κs =
+    let d = c .before .before .before .before in
+    let w = net-within (left d) (left-net d) in
+    (w .components, w .wires)
+
+slice-aggregate-put-rounds : tie.Need-slice-aggregate-put-rounds
+slice-aggregate-put-rounds c = search needs
+
+slice-aggregate-put-rounds-2 : tie.Need-slice-aggregate-put-rounds-2
+slice-aggregate-put-rounds-2 c = search needs
+
+slice-aggregate-put-rounds-3 : tie.Need-slice-aggregate-put-rounds-3
+slice-aggregate-put-rounds-3 c = search needs
+
+slice-aggregate-put-rounds-4 : tie.Need-slice-aggregate-put-rounds-4
+slice-aggregate-put-rounds-4 c = search needs
+
+slice-aggregate-put-rounds-5 : tie.Need-slice-aggregate-put-rounds-5
+slice-aggregate-put-rounds-5 c = search needs
+
+slice-aggregate-put-rounds-6 : tie.Need-slice-aggregate-put-rounds-6
+slice-aggregate-put-rounds-6 c = search needs
+
+slice-aggregate-put-rounds-7 : tie.Need-slice-aggregate-put-rounds-7
+slice-aggregate-put-rounds-7 c = search needs
+
+put-rounds-requires : tie.Need-put-rounds-requires
+put-rounds-requires c κs =
+    let w = c .before .before .before .before .before .before .before .before .before .before .put-net in
+    (inside (w .ensures), left-net (c .before .before .before .before .before .before .before .before .before .before .before .before .before .before .before))
 
 enum-known-answer-2 : tie.Need-enum-known-answer-2
 enum-known-answer-2 c = search needs
 
-refused-requires : tie.Need-refused-requires
-refused-requires c κs = search needs
+put-refused-requires : tie.Need-put-refused-requires
+put-refused-requires c κs = search needs
 
 same-length : tie.Need-same-length
-same-length c =
-    let rounds = c .before .before .before .before .before .before .before .before .before .before .before .before in
-    let shown = rounds .before .before .before .before .before .before .before .before .before .before .before in
-    let answered = shown .before .before .before .before .before .before .before .before .before .before .before in
-    let loaded = answered .before .before .before .before .before .before .before .before .before .before in
-    loaded .load .kept .1 .0
-
-same-length-2 : tie.Need-same-length-2
-same-length-2 c =
-    let rounds = c .before .before .before .before .before .before .before .before .before .before .before .before in
-    let shown = rounds .before .before .before .before .before .before .before .before .before .before .before in
-    let answered = shown .before .before .before .before .before .before .before .before .before .before .before in
-    let loaded = answered .before .before .before .before .before .before .before .before .before .before in
-    rounds .run .kept .1 .0 ∙ loaded .load .kept .1 .1 .0
-
-same-length-3 : tie.Need-same-length-3
-same-length-3 c =
-    let rounds = c .before .before .before .before .before .before .before .before .before .before .before .before in
-    let shown = rounds .before .before .before .before .before .before .before .before .before .before .before in
-    let answered = shown .before .before .before .before .before .before .before .before .before .before .before in
-    let loaded = answered .before .before .before .before .before .before .before .before .before .before in
-    rounds .run .kept .1 .1 .0 ∙ loaded .load .kept .1 .1 .1 .0
-
-same-length-4 : tie.Need-same-length-4
-same-length-4 c =
-    let rounds = c .before .before .before .before .before .before .before .before .before .before .before .before in
-    let shown = rounds .before .before .before .before .before .before .before .before .before .before .before in
-    let answered = shown .before .before .before .before .before .before .before .before .before .before .before in
-    let loaded = answered .before .before .before .before .before .before .before .before .before .before in
-    loaded .load .kept .1 .1 .1 .1 .0
-
-same-length-5 : tie.Need-same-length-5
-same-length-5 c = search needs
-
-same-length-6 : tie.Need-same-length-6
-same-length-6 c = search needs
-
-same-length-7 : tie.Need-same-length-7
-same-length-7 c = search needs
-
-same-length-8 : tie.Need-same-length-8
-same-length-8 c = search needs
+same-length c = search needs
 
 returns : tie.Need-returns
-returns c = search needs
+returns c =
+    let d = c .before .before .before .before .before .before .before .before .before .before .before .before .before .before .before .before .before .before .before .before .before .before .before in
+    let r = c .before .before .before .before .before .before .before .before .before .before .before .before .before .before .before .before .before .before .before .before .before .before .before .before .before .before .before .before .before .before .before .before .load in
+    let loads = r .ensures (fresh .counts) in
+    let w = c .before .before .before .before .before .before .before .before .before .before .before .before .before .before .before .before .before .before .put-net in
+    let t = c .before .before .before .before .before .before .before .put-rounds in
+    named-as (listed-done (c .before .before .before .before .before .before .before .before .before .before .before .before .before .before .before .before .before .before .before .before .before .before .before .before .before .before .before .before .before .before .before .before .before .before .before .before .before .before .before .before .before .before .args .file .now) (r .result) (left d) loads _ (d .answer .given .1))
+    (both {ys = rounds 16 1 (left d)} (w .ensures) (t .ensures))
 
-same-length-9 : tie.Need-same-length-9
-same-length-9 c = search needs
-
-same-length-10 : tie.Need-same-length-10
-same-length-10 c = search needs
-
-same-length-11 : tie.Need-same-length-11
-same-length-11 c = search needs
-
-same-length-12 : tie.Need-same-length-12
-same-length-12 c = search needs
-
-same-length-13 : tie.Need-same-length-13
-same-length-13 c = search needs
-
-same-length-14 : tie.Need-same-length-14
-same-length-14 c = search needs
-
-same-length-15 : tie.Need-same-length-15
-same-length-15 c = search needs
-
-same-length-16 : tie.Need-same-length-16
-same-length-16 c = search needs
+same-length-2 : tie.Need-same-length-2
+same-length-2 c = search needs
 
 returns-2 : tie.Need-returns-2
-returns-2 c = search needs
+returns-2 c =
+    let a = c .before .before .before .before .before .before .before .before .before .before .before .before .before .before .before .before .before .before .before .before .before .before .before .before .args in
+    let r = c .before .before .before .before .before .before .before .before .before .before .before .before .before .before .load in
+    let loads = r .ensures (fresh .counts) in
+    let p = c .before .before .put-refused in
+    let U =
+    tablesOf (r .last .1 .0) (r .last .1 .1 .0) (r .last .1 .1 .1 .0) (r .last .1 .1 .1 .1 .0) (r .last .1 .1 .1 .1 .1 .0)
+    (r .last .1 .1 .1 .1 .1 .1 .0) (r .last .1 .1 .1 .1 .1 .1 .1 .0) (fresh .counts) in
+    named-as (listed-refused (a .file .now) (r .result) U loads _ (c .before .before .before .before .before .answer2 .given .1)) (p .ensures)
 
 pub list-spec : {M : Type 1} → statement M
 list-spec =
     tie.close
     (tie.spec
+    slice-aggregate-load
+    slice-aggregate-load-2
+    slice-aggregate-load-3
+    slice-aggregate-load-4
+    slice-aggregate-load-5
+    slice-aggregate-load-6
+    slice-aggregate-load-7
     load-requires
     enum-known-answer
-    show-net-requires
-    run-requires
+    slice-aggregate-put-net
+    slice-aggregate-put-net-2
+    put-net-requires
+    slice-aggregate-put-rounds
+    slice-aggregate-put-rounds-2
+    slice-aggregate-put-rounds-3
+    slice-aggregate-put-rounds-4
+    slice-aggregate-put-rounds-5
+    slice-aggregate-put-rounds-6
+    slice-aggregate-put-rounds-7
+    put-rounds-requires
     enum-known-answer-2
-    refused-requires
+    put-refused-requires
     same-length
-    same-length-2
-    same-length-3
-    same-length-4
-    same-length-5
-    same-length-6
-    same-length-7
-    same-length-8
     returns
-    same-length-9
-    same-length-10
-    same-length-11
-    same-length-12
-    same-length-13
-    same-length-14
-    same-length-15
-    same-length-16
+    same-length-2
     returns-2)

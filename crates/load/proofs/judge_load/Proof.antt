@@ -2,6 +2,7 @@
 -- Assumes nothing.
 use mathlib.Core.Path.{sym, _∙_}
 use borrow.Author.Tests.{not-true, not-false}
+use Rattle.flatten.proofs.JudgementLaws.{judges-verdict}
 use Rattle.load.proofs.LoadLaws.{judge-unsized, judge-short, judge-file}
 use borrow.Author.Needs.{needs}
 use Rattle.load.proofs.judge_load.Statement.{statement}
@@ -17,32 +18,29 @@ returns c =
     (a .current .now) (a .following .now)
     (a .standing .now) (sym (c .before .is-sized .ensures) ∙ not-true _ (c .if1 .taken))
 
-unused-requires : tie.Need-unused-requires
-unused-requires c κs = search needs
-
 full-size-requires : tie.Need-full-size-requires
 full-size-requires c κs = search needs
 
 returns-2 : tie.Need-returns-2
 returns-2 c =
-    let d = c .before .before .before in
+    let d = c .before .before in
     let a = d .before .before .before .before .before .before .before .before .before .before .args in
     judge-short (a .file .now) (a .components .now) (a .inputs .now) (a .outputs .now) (a .wires .now) (a .current .now)
     (a .following .now)
-    (a .standing .now) (sym (d .before .is-sized .ensures) ∙ not-false _ (d .if1 .left)) _
-    (sym (c .before .full-size .ensures) ∙ not-true _ (c .if2 .taken))
+    (a .standing .now) (sym (d .before .is-sized .ensures) ∙ not-false _ (d .if1 .left))
+    (λ m. sym (c .before .full-size .ensures m) ∙ not-true _ (c .if2 .taken))
 
 judge-requires : tie.Need-judge-requires
 judge-requires c κs = search needs
 
 returns-3 : tie.Need-returns-3
 returns-3 c =
-    let d = c .before .before .before .before in
+    let d = c .before .before .before in
     let a = d .before .before .before .before .before .before .before .before .before .before .args in
     judge-file (a .file .now) (a .components .now) (a .inputs .now) (a .outputs .now) (a .wires .now) (a .current .now)
     (a .following .now)
-    (a .standing .now) (sym (d .before .is-sized .ensures) ∙ not-false _ (d .if1 .left)) _
-    (sym (c .before .before .full-size .ensures) ∙ not-false _ (c .before .if2 .left)) _ (c .judge .ensures)
+    (a .standing .now) (sym (d .before .is-sized .ensures) ∙ not-false _ (d .if1 .left))
+    (λ m. sym (c .before .before .full-size .ensures m) ∙ not-false _ (c .before .if2 .left)) _ (judges-verdict _ _ (c .judge .ensures))
 
 pub judge-load-spec : {M : Type 1} → statement M
 judge-load-spec =
@@ -50,7 +48,6 @@ judge-load-spec =
     (tie.spec
     is-sized-requires
     returns
-    unused-requires
     full-size-requires
     returns-2
     judge-requires

@@ -5,13 +5,15 @@ use borrow.Author.Needs.{needs}
 use Rattle.component.proofs.checks.check11.Statement.{statement}
 use Rattle.component.proofs.checks.check11.Tie as tie
 
-record-at-requires : tie.Need-record-at-requires
-record-at-requires c κs = search needs
+component-at-requires : tie.Need-component-at-requires
+component-at-requires c κs = search needs
 
-form-of-requires : tie.Need-form-of-requires
-form-of-requires c κs = search needs
+enum-told : tie.Need-enum-told
+enum-told c = search needs
 
--- no component
+enum-told-2 : tie.Need-enum-told-2
+enum-told-2 c = search needs
+
 returns : tie.Need-returns
 returns c = search (fails11-other)
 
@@ -21,9 +23,17 @@ add-ports-before c = search needs
 ports-before-requires : tie.Need-ports-before-requires
 ports-before-requires c κs = search needs
 
--- a component
 returns-2 : tie.Need-returns-2
 returns-2 c = search (fails11-component)
 
 pub check11-spec : {M : Type 1} → statement M
-check11-spec = tie.close (tie.spec record-at-requires form-of-requires returns add-ports-before ports-before-requires returns-2)
+check11-spec =
+    tie.close
+    (tie.spec
+    component-at-requires
+    enum-told
+    enum-told-2
+    returns
+    add-ports-before
+    ports-before-requires
+    returns-2)

@@ -1,6 +1,6 @@
--- `check12`: the kind of the record says which ports must exist.
+-- `check12`: what the record says names the ports that must exist.
 -- Assumes nothing.
-use Rattle.component.proofs.ChecksLaws.{fails12-connection, fails12-input-map, fails12-output-map, fails12-other}
+use Rattle.component.proofs.ChecksLaws.{fails12-refused, fails12-component, fails12-connection, fails12-input-map, fails12-output-map}
 use borrow.Author.Needs.{needs}
 use Rattle.component.proofs.checks.check12.Statement.{statement}
 use Rattle.component.proofs.checks.check12.Tie as tie
@@ -8,52 +8,92 @@ use Rattle.component.proofs.checks.check12.Tie as tie
 record-at-requires : tie.Need-record-at-requires
 record-at-requires c κs = search needs
 
-form-of-requires : tie.Need-form-of-requires
-form-of-requires c κs = search needs
+enum-known-owner : tie.Need-enum-known-owner
+enum-known-owner c = search needs
 
-has-from-requires : tie.Need-has-from-requires
-has-from-requires c κs = search needs
+enum-told : tie.Need-enum-told
+enum-told c = search needs
 
-has-to-requires : tie.Need-has-to-requires
-has-to-requires c κs = search needs
-
--- kind 2
 returns : tie.Need-returns
-returns c = search (fails12-connection)
+returns c = search (fails12-refused)
 
-has-port-requires : tie.Need-has-port-requires
-has-port-requires c κs = search needs
+cast-o : tie.Need-cast-o
+cast-o c = search needs
 
-has-to-requires-2 : tie.Need-has-to-requires-2
-has-to-requires-2 c κs = search needs
+enum-told-2 : tie.Need-enum-told-2
+enum-told-2 c = search needs
 
--- kind 3
+enum-known-says : tie.Need-enum-known-says
+enum-known-says c = search needs
+
+child-of-requires : tie.Need-child-of-requires
+child-of-requires c κs = search needs
+
+has-output-requires : tie.Need-has-output-requires
+has-output-requires c κs = search needs
+
+child-of-requires-2 : tie.Need-child-of-requires-2
+child-of-requires-2 c κs = search needs
+
+has-input-requires : tie.Need-has-input-requires
+has-input-requires c κs = search needs
+
+enum-known-says-2 : tie.Need-enum-known-says-2
+enum-known-says-2 c = search needs
+
+has-input-requires-2 : tie.Need-has-input-requires-2
+has-input-requires-2 c κs = search needs
+
+child-of-requires-3 : tie.Need-child-of-requires-3
+child-of-requires-3 c κs = search needs
+
+has-input-requires-3 : tie.Need-has-input-requires-3
+has-input-requires-3 c κs = search needs
+
+enum-known-says-3 : tie.Need-enum-known-says-3
+enum-known-says-3 c = search needs
+
+child-of-requires-4 : tie.Need-child-of-requires-4
+child-of-requires-4 c κs = search needs
+
+has-output-requires-2 : tie.Need-has-output-requires-2
+has-output-requires-2 c κs = search needs
+
 returns-2 : tie.Need-returns-2
-returns-2 c = search (fails12-input-map)
+returns-2 c = search (fails12-component)
 
-has-from-requires-2 : tie.Need-has-from-requires-2
-has-from-requires-2 c κs = search needs
-
--- kind 4
 returns-3 : tie.Need-returns-3
-returns-3 c = search (fails12-output-map)
+returns-3 c = search (fails12-connection)
 
--- any other kind
 returns-4 : tie.Need-returns-4
-returns-4 c = search (fails12-other)
+returns-4 c = search (fails12-input-map)
+
+returns-5 : tie.Need-returns-5
+returns-5 c = search (fails12-output-map)
 
 pub check12-spec : {M : Type 1} → statement M
 check12-spec =
     tie.close
     (tie.spec
     record-at-requires
-    form-of-requires
-    has-from-requires
-    has-to-requires
+    enum-known-owner
+    enum-told
     returns
-    has-port-requires
-    has-to-requires-2
+    cast-o
+    enum-told-2
+    enum-known-says
+    child-of-requires
+    has-output-requires
+    child-of-requires-2
+    has-input-requires
+    enum-known-says-2
+    has-input-requires-2
+    child-of-requires-3
+    has-input-requires-3
+    enum-known-says-3
+    child-of-requires-4
+    has-output-requires-2
     returns-2
-    has-from-requires-2
     returns-3
-    returns-4)
+    returns-4
+    returns-5)

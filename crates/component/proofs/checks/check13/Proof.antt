@@ -3,8 +3,7 @@
 use mathlib.Core.Path.{_≡_}
 use Prim.Native.Nat.{_-_}
 use Rattle.lists.specs.Lists.{from, any}
-use Rattle.component.specs.Record.{recordAt}
-use Rattle.component.specs.Record.{enteringAs}
+use Rattle.component.specs.Record.{recordAt, enters}
 use Rattle.component.specs.Drawing.{fails13}
 use Rattle.component.proofs.ChecksLaws.{fails13-other, fails13-start}
 use Rattle.component.proofs.ScanLaws.{tested, scan-any-here, scan-any-next, scan-any-none}
@@ -13,35 +12,35 @@ use Rattle.component.proofs.checks.check13.Statement.{statement}
 use Rattle.component.proofs.checks.check13.Tie as tie
 
 abbrev Inv-loop : tie.InvT-loop
-Inv-loop file n p here q₀ q = any (tested file (enteringAs here)) (from q (p - q)) ≡ fails13 (recordAt file) n p
+Inv-loop file p owner to input q₀ q =
+    any (tested file (enters owner (to .0) input)) (from q (p - q)) ≡ fails13 (recordAt file) p
 
 abbrev μ-loop : tie.MeasureT-loop
-μ-loop file n p here q₀ q = p - q
+μ-loop file p owner to input q₀ q = p - q
 
-record-at-requires : tie.Need-record-at-requires Inv-loop μ-loop
-record-at-requires c κs = search needs
+entry-at-requires : tie.Need-entry-at-requires Inv-loop μ-loop
+entry-at-requires c κs = search needs
 
-enters-requires : tie.Need-enters-requires Inv-loop μ-loop
-enters-requires c κs = search needs
+enum-known-owner : tie.Need-enum-known-owner Inv-loop μ-loop
+enum-known-owner c = search needs
 
--- it enters no input
+enum-told : tie.Need-enum-told Inv-loop μ-loop
+enum-told c = search needs
+
 returns : tie.Need-returns Inv-loop μ-loop
 returns c = search (fails13-other)
 
 loop-holds : tie.Need-loop-holds Inv-loop μ-loop
 loop-holds c = search (fails13-start)
 
-record-at-requires-2 : tie.Need-record-at-requires-2 Inv-loop μ-loop
-record-at-requires-2 c κs = search needs
-
 same-entry-requires : tie.Need-same-entry-requires Inv-loop μ-loop
 same-entry-requires c κs = search needs
 
--- this one
 returns-2 : tie.Need-returns-2 Inv-loop μ-loop
 returns-2 c =
-    let b = c .before .before .before .before .before .before .before in
-    search (scan-any-here (b .before .before .args .file .now) (enteringAs (b .record-at .result)))
+    let b = c .before .before .before .before .before in
+    let k = b .owner .given .0 in
+    search (scan-any-here (b .before .before .before .before .args .file .now) (enters (k .0) (k .1 .0 .0) (k .1 .1 .0)))
 
 add-q : tie.Need-add-q Inv-loop μ-loop
 add-q c = search needs
@@ -51,14 +50,15 @@ loop-less c = search needs
 
 loop-again : tie.Need-loop-again Inv-loop μ-loop
 loop-again c =
-    let b = c .before .before .before .before .before .before .before in
-    search (scan-any-next (b .before .before .args .file .now) (enteringAs (b .record-at .result)))
+    let b = c .before .before .before .before .before in
+    let k = b .owner .given .0 in
+    search (scan-any-next (b .before .before .before .before .args .file .now) (enters (k .0) (k .1 .0 .0) (k .1 .1 .0)))
 
--- none
 returns-3 : tie.Need-returns-3 Inv-loop μ-loop
 returns-3 c =
-    let b = c .before .before .before .before in
-    search (scan-any-none (b .before .before .args .file .now) (enteringAs (b .record-at .result)))
+    let b = c .before .before .before in
+    let k = b .owner .given .0 in
+    search (scan-any-none (b .before .before .before .before .args .file .now) (enters (k .0) (k .1 .0 .0) (k .1 .1 .0)))
 
 pub check13-spec : {M : Type 1} → statement M
 check13-spec =
@@ -66,11 +66,11 @@ check13-spec =
     (tie.spec
     Inv-loop
     μ-loop
-    record-at-requires
-    enters-requires
+    entry-at-requires
+    enum-known-owner
+    enum-told
     returns
     loop-holds
-    record-at-requires-2
     same-entry-requires
     returns-2
     add-q

@@ -1,6 +1,6 @@
 -- `check5`: the tests stand in the order of the definition, and each decides it at its way out.
 -- Assumes nothing.
-use Rattle.component.proofs.ChecksLaws.{fails5-root, fails5-owner, fails5-line, fails5-before, fails5-held}
+use Rattle.component.proofs.ChecksLaws.{fails5-refused, fails5-root, fails5-owner, fails5-line, fails5-before, fails5-held}
 use borrow.Author.Needs.{needs}
 use Rattle.component.proofs.checks.check5.Statement.{statement}
 use Rattle.component.proofs.checks.check5.Tie as tie
@@ -8,36 +8,38 @@ use Rattle.component.proofs.checks.check5.Tie as tie
 record-at-requires : tie.Need-record-at-requires
 record-at-requires c κs = search needs
 
-owner-of-requires : tie.Need-owner-of-requires
-owner-of-requires c κs = search needs
+enum-known-owner : tie.Need-enum-known-owner
+enum-known-owner c = search needs
 
--- the root
+enum-told : tie.Need-enum-told
+enum-told c = search needs
+
 returns : tie.Need-returns
-returns c = search (fails5-root)
+returns c = search (fails5-refused)
 
-record-at-requires-2 : tie.Need-record-at-requires-2
-record-at-requires-2 c κs = search needs
+cast-o : tie.Need-cast-o
+cast-o c = search needs
 
-is-composite-requires : tie.Need-is-composite-requires
-is-composite-requires c κs = search needs
-
--- the owner is no composite
 returns-2 : tie.Need-returns-2
-returns-2 c = search (fails5-owner)
+returns-2 c = search (fails5-root)
 
-form-of-requires : tie.Need-form-of-requires
-form-of-requires c κs = search needs
+is-composite-at-requires : tie.Need-is-composite-at-requires
+is-composite-at-requires c κs = search needs
 
--- no component
 returns-3 : tie.Need-returns-3
-returns-3 c = search (fails5-line)
+returns-3 c = search (fails5-owner)
 
-sub-if4 : tie.Need-sub-if4
-sub-if4 c = search needs
+enum-told-2 : tie.Need-enum-told-2
+enum-told-2 c = search needs
 
--- owned by the component before
 returns-4 : tie.Need-returns-4
-returns-4 c = search (fails5-before)
+returns-4 c = search (fails5-line)
+
+sub-if3 : tie.Need-sub-if3
+sub-if3 c = search needs
+
+returns-5 : tie.Need-returns-5
+returns-5 c = search (fails5-before)
 
 sub-holds : tie.Need-sub-holds
 sub-holds c = search needs
@@ -48,25 +50,26 @@ sub-holds-2 c = search needs
 holds-requires : tie.Need-holds-requires
 holds-requires c κs = search needs
 
--- owned by another
-returns-5 : tie.Need-returns-5
-returns-5 c = search (fails5-held)
+returns-6 : tie.Need-returns-6
+returns-6 c = search (fails5-held)
 
 pub check5-spec : {M : Type 1} → statement M
 check5-spec =
     tie.close
     (tie.spec
     record-at-requires
-    owner-of-requires
+    enum-known-owner
+    enum-told
     returns
-    record-at-requires-2
-    is-composite-requires
+    cast-o
     returns-2
-    form-of-requires
+    is-composite-at-requires
     returns-3
-    sub-if4
+    enum-told-2
     returns-4
+    sub-if3
+    returns-5
     sub-holds
     sub-holds-2
     holds-requires
-    returns-5)
+    returns-6)

@@ -5,17 +5,18 @@ use borrow.Author.Needs.{needs}
 use Rattle.component.proofs.checks.check6.Statement.{statement}
 use Rattle.component.proofs.checks.check6.Tie as tie
 
-record-at-requires : tie.Need-record-at-requires
-record-at-requires c κs = search needs
+component-at-requires : tie.Need-component-at-requires
+component-at-requires c κs = search needs
 
-form-of-requires : tie.Need-form-of-requires
-form-of-requires c κs = search needs
+enum-told : tie.Need-enum-told
+enum-told c = search needs
 
--- no component
+enum-told-2 : tie.Need-enum-told-2
+enum-told-2 c = search needs
+
 returns : tie.Need-returns
 returns c = search (fails6-other)
 
--- a number past 255
 returns-2 : tie.Need-returns-2
 returns-2 c = search (fails6-number)
 
@@ -25,7 +26,6 @@ deepest-requires c κs = search needs
 deeper-requires : tie.Need-deeper-requires
 deeper-requires c κs = search needs
 
--- the depth decides
 returns-3 : tie.Need-returns-3
 returns-3 c = search (fails6-depth)
 
@@ -33,8 +33,9 @@ pub check6-spec : {M : Type 1} → statement M
 check6-spec =
     tie.close
     (tie.spec
-    record-at-requires
-    form-of-requires
+    component-at-requires
+    enum-told
+    enum-told-2
     returns
     returns-2
     deepest-requires

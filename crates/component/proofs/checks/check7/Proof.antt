@@ -5,19 +5,21 @@ use borrow.Author.Needs.{needs}
 use Rattle.component.proofs.checks.check7.Statement.{statement}
 use Rattle.component.proofs.checks.check7.Tie as tie
 
-record-at-requires : tie.Need-record-at-requires
-record-at-requires c κs = search needs
+component-at-requires : tie.Need-component-at-requires
+component-at-requires c κs = search needs
 
 enum-known-fields : tie.Need-enum-known-fields
 enum-known-fields c = search needs
 
--- no component
+enum-told : tie.Need-enum-told
+enum-told c = search needs
+
 returns : tie.Need-returns
 returns c = search (fails7-other)
 
--- a component
 returns-2 : tie.Need-returns-2
 returns-2 c = search (fails7-component)
 
 pub check7-spec : {M : Type 1} → statement M
-check7-spec = tie.close (tie.spec record-at-requires enum-known-fields returns returns-2)
+check7-spec =
+    tie.close (tie.spec component-at-requires enum-known-fields enum-told returns returns-2)

@@ -5,23 +5,25 @@ use borrow.Author.Needs.{needs}
 use Rattle.component.proofs.checks.check9.Statement.{statement}
 use Rattle.component.proofs.checks.check9.Tie as tie
 
-record-at-requires : tie.Need-record-at-requires
-record-at-requires c κs = search needs
+component-at-requires : tie.Need-component-at-requires
+component-at-requires c κs = search needs
 
 enum-known-fields : tie.Need-enum-known-fields
 enum-known-fields c = search needs
 
--- no component
+enum-told : tie.Need-enum-told
+enum-told c = search needs
+
 returns : tie.Need-returns
 returns c = search (fails9-other)
 
 obeys-requires : tie.Need-obeys-requires
 obeys-requires c κs = search needs
 
--- a component
 returns-2 : tie.Need-returns-2
 returns-2 c = search (fails9-component)
 
 pub check9-spec : {M : Type 1} → statement M
 check9-spec =
-    tie.close (tie.spec record-at-requires enum-known-fields returns obeys-requires returns-2)
+    tie.close
+    (tie.spec component-at-requires enum-known-fields enum-told returns obeys-requires returns-2)

@@ -1,14 +1,25 @@
--- `has_id`: the test of the definition, at the id read.
+-- `has_id`: a record is tested only where it is a component.
 -- Assumes nothing.
+use Rattle.component.proofs.ChecksLaws.{hasId-other, hasId-component}
 use borrow.Author.Needs.{needs}
 use Rattle.component.proofs.checks.has_id.Statement.{statement}
 use Rattle.component.proofs.checks.has_id.Tie as tie
 
-id-of-requires : tie.Need-id-of-requires
-id-of-requires c κs = search needs
+component-at-requires : tie.Need-component-at-requires
+component-at-requires c κs = search needs
+
+enum-known-other : tie.Need-enum-known-other
+enum-known-other c = search needs
+
+enum-told : tie.Need-enum-told
+enum-told c = search needs
 
 returns : tie.Need-returns
-returns c = rw (c .before .before .id-of .ensures)
+returns c = search (hasId-other)
+
+returns-2 : tie.Need-returns-2
+returns-2 c = search (hasId-component)
 
 pub has-id-spec : {M : Type 1} → statement M
-has-id-spec = tie.close (tie.spec id-of-requires returns)
+has-id-spec =
+    tie.close (tie.spec component-at-requires enum-known-other enum-told returns returns-2)

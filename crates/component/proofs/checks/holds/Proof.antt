@@ -4,16 +4,16 @@ use mathlib.Core.Path.{_≡_, refl}
 use borrow.Author.Needs.{needs}
 use Rattle.component.specs.Record.{recordAt}
 use Rattle.component.specs.Drawing.{holds}
-use Rattle.component.proofs.ChecksLaws.{holds-root, holds-owner, holds-outer, holds-none}
+use Rattle.component.proofs.ChecksLaws.{holds-root, holds-unseen, holds-owner, holds-outer, holds-none}
 use Rattle.component.proofs.checks.holds.Statement.{statement}
 use Rattle.component.proofs.checks.holds.Tie as tie
 
 abbrev Inv-loop : tie.InvT-loop
-Inv-loop file n f o q left₀ inner₀ left inner =
-    holds (recordAt file) n left o inner ≡ holds (recordAt file) n f o q
+Inv-loop file f o q left₀ inner₀ left inner =
+    holds (recordAt file) left o inner ≡ holds (recordAt file) f o q
 
 abbrev μ-loop : tie.MeasureT-loop
-μ-loop file n f o q left₀ inner₀ left inner = left
+μ-loop file f o q left₀ inner₀ left inner = left
 
 loop-holds : tie.Need-loop-holds Inv-loop μ-loop
 loop-holds c = refl
@@ -22,15 +22,25 @@ loop-holds c = refl
 returns : tie.Need-returns Inv-loop μ-loop
 returns c = search (holds-root (c .before .before .before .before .args .file .now))
 
-record-at-requires : tie.Need-record-at-requires Inv-loop μ-loop
-record-at-requires c κs = search needs
+component-at-requires : tie.Need-component-at-requires Inv-loop μ-loop
+component-at-requires c κs = search needs
 
-owner-of-requires : tie.Need-owner-of-requires Inv-loop μ-loop
-owner-of-requires c κs = search needs
+enum-known-owner : tie.Need-enum-known-owner Inv-loop μ-loop
+enum-known-owner c = search needs
+
+enum-told : tie.Need-enum-told Inv-loop μ-loop
+enum-told c = search needs
+
+-- no component
+returns-2 : tie.Need-returns-2 Inv-loop μ-loop
+returns-2 c = search (holds-unseen)
+
+cast-outer : tie.Need-cast-outer Inv-loop μ-loop
+cast-outer c = search needs
 
 -- its owner is the one asked for
-returns-2 : tie.Need-returns-2 Inv-loop μ-loop
-returns-2 c = search (holds-owner)
+returns-3 : tie.Need-returns-3 Inv-loop μ-loop
+returns-3 c = search (holds-owner)
 
 sub-left : tie.Need-sub-left Inv-loop μ-loop
 sub-left c = search needs
@@ -42,8 +52,8 @@ loop-again : tie.Need-loop-again Inv-loop μ-loop
 loop-again c = search (holds-outer)
 
 -- no owner left to look at
-returns-3 : tie.Need-returns-3 Inv-loop μ-loop
-returns-3 c = search (holds-none (c .before .before .before .args .file .now))
+returns-4 : tie.Need-returns-4 Inv-loop μ-loop
+returns-4 c = search (holds-none (c .before .before .before .args .file .now))
 
 pub holds-spec : {M : Type 1} → statement M
 holds-spec =
@@ -53,10 +63,13 @@ holds-spec =
     μ-loop
     loop-holds
     returns
-    record-at-requires
-    owner-of-requires
+    component-at-requires
+    enum-known-owner
+    enum-told
     returns-2
+    cast-outer
+    returns-3
     sub-left
     loop-less
     loop-again
-    returns-3)
+    returns-4)

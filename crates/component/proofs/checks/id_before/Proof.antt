@@ -20,16 +20,13 @@ abbrev μ-loop : tie.MeasureT-loop
 loop-holds : tie.Need-loop-holds Inv-loop μ-loop
 loop-holds c = rw (sub-zero)
 
-record-at-requires : tie.Need-record-at-requires Inv-loop μ-loop
-record-at-requires c κs = search needs
-
 has-id-requires : tie.Need-has-id-requires Inv-loop μ-loop
 has-id-requires c κs = search needs
 
 -- this one
 returns : tie.Need-returns Inv-loop μ-loop
 returns c =
-    let a = c .before .before .before .before .before .before .args in
+    let a = c .before .before .before .before .before .args in
     search (scan-any-here (a .file .now) (hasId (a .id .0)))
 
 add-q : tie.Need-add-q Inv-loop μ-loop
@@ -40,7 +37,7 @@ loop-less c = search needs
 
 loop-again : tie.Need-loop-again Inv-loop μ-loop
 loop-again c =
-    let a = c .before .before .before .before .before .before .args in
+    let a = c .before .before .before .before .before .args in
     search (scan-any-next (a .file .now) (hasId (a .id .0)))
 
 -- none
@@ -56,7 +53,6 @@ id-before-spec =
     Inv-loop
     μ-loop
     loop-holds
-    record-at-requires
     has-id-requires
     returns
     add-q

@@ -26,9 +26,6 @@ abbrev μ-loop : tie.MeasureT-loop
 loop-holds : tie.Need-loop-holds Inv-loop μ-loop
 loop-holds c = (rw (zero-add, sub-zero), search needs)
 
-record-at-requires : tie.Need-record-at-requires Inv-loop μ-loop
-record-at-requires c κs = search needs
-
 is-owned-requires : tie.Need-is-owned-requires Inv-loop μ-loop
 is-owned-requires c κs = search needs
 
@@ -43,7 +40,7 @@ loop-less c = search needs
 
 loop-again : tie.Need-loop-again Inv-loop μ-loop
 loop-again c =
-    let s = c .before .before .before .before in
+    let s = c .before .before .before in
     let a = s .before .before .args in
     ⊎-elim
     (λ w. (rw (w .1) (search (scan-length-here (a .file .now) (ownedAs 4 (a .c)))), omega arith))
@@ -61,7 +58,6 @@ out-map-count-spec =
     Inv-loop
     μ-loop
     loop-holds
-    record-at-requires
     is-owned-requires
     add-count
     add-q

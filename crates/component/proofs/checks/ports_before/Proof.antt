@@ -19,37 +19,25 @@ abbrev toCome : List ℕ → (Record → ℕ) → ℕ → ℕ → ℕ
 toCome file g q p = total (λ m. g (recordAt file m)) (keep (tested file isPrimitive) (from q (p - q)))
 
 abbrev Inv-loop : tie.InvT-loop
-Inv-loop file n p inputs₀ outputs₀ q₀ inputs outputs q =
-    (inputs + toCome file inputsOf q p ≡ inputsBefore (recordAt file) n p)
-    × (outputs + toCome file outputsOf q p ≡ outputsBefore (recordAt file) n p)
+Inv-loop file p inputs₀ outputs₀ q₀ inputs outputs q =
+    (inputs + toCome file inputsOf q p ≡ inputsBefore (recordAt file) p)
+    × (outputs + toCome file outputsOf q p ≡ outputsBefore (recordAt file) p)
     × (inputs ≤ 65535 * q) × (outputs ≤ 65535 * q) × (q ≤ p)
 
 abbrev μ-loop : tie.MeasureT-loop
-μ-loop file n p inputs₀ outputs₀ q₀ inputs outputs q = p - q
+μ-loop file p inputs₀ outputs₀ q₀ inputs outputs q = p - q
 
 loop-holds : tie.Need-loop-holds Inv-loop μ-loop
 loop-holds c = (rw (zero-add, sub-zero), rw (zero-add, sub-zero), search needs, search needs, search needs)
 
-record-at-requires : tie.Need-record-at-requires Inv-loop μ-loop
-record-at-requires c κs = search needs
-
-inputs-of-requires : tie.Need-inputs-of-requires Inv-loop μ-loop
-inputs-of-requires c κs = search needs
-
-counted-requires : tie.Need-counted-requires Inv-loop μ-loop
-counted-requires c κs = search needs
+ports-at-requires : tie.Need-ports-at-requires Inv-loop μ-loop
+ports-at-requires c κs = search needs
 
 add-inputs : tie.Need-add-inputs Inv-loop μ-loop
-add-inputs c = omega (arith, c .counted .ensures .1, c .before .before .before .before .loop .inv .2)
-
-outputs-of-requires : tie.Need-outputs-of-requires Inv-loop μ-loop
-outputs-of-requires c κs = search needs
-
-counted-requires-2 : tie.Need-counted-requires-2 Inv-loop μ-loop
-counted-requires-2 c κs = search needs
+add-inputs c = omega (arith, c .before .ports-at .ensures .1, c .before .before .before .loop .inv .2)
 
 add-outputs : tie.Need-add-outputs Inv-loop μ-loop
-add-outputs c = omega (arith, c .counted2 .ensures .1, c .before .before .before .before .before .before .loop .inv .3)
+add-outputs c = omega (arith, c .before .before .ports-at .ensures .3, c .before .before .before .before .loop .inv .3)
 
 add-q : tie.Need-add-q Inv-loop μ-loop
 add-q c = search needs
@@ -59,16 +47,14 @@ loop-less c = search needs
 
 loop-again : tie.Need-loop-again Inv-loop μ-loop
 loop-again c =
-    let first = c .before .before in
-    let s = first .before .before .before .before in
+    let read = c .before .before .ports-at .ensures in
+    let s = c .before .before .before .before in
     let a = s .before .before .args in
-    let read = first .before .before .record-at .ensures in (
-      scan-total-next (a .file .now) isPrimitive (s .loop .q) (a .p) inputsOf _ _ _ _ _ (s .loop .inv .0)
-          (first .before .before .before .loop-test .taken) read (first .before .inputs-of .ensures) (first .counted .ensures .0),
-      scan-total-next (a .file .now) isPrimitive (s .loop .q) (a .p) outputsOf _ _ _ _ _ (s .loop .inv .1)
-          (first .before .before .before .loop-test .taken) read (c .before .outputs-of .ensures) (c .counted2 .ensures .0),
-      omega (arith, first .counted .ensures .1, s .loop .inv .2),
-      omega (arith, c .counted2 .ensures .1, s .loop .inv .3),
+    let l = c .before .before .before .loop-test .taken in (
+      scan-total-next (a .file .now) isPrimitive (s .loop .q) (a .p) inputsOf _ _ _ (s .loop .inv .0) l (read .0),
+      scan-total-next (a .file .now) isPrimitive (s .loop .q) (a .p) outputsOf _ _ _ (s .loop .inv .1) l (read .2),
+      omega (arith, read .1, s .loop .inv .2),
+      omega (arith, read .3, s .loop .inv .3),
       search needs,
     )
 
@@ -87,12 +73,8 @@ ports-before-spec =
     Inv-loop
     μ-loop
     loop-holds
-    record-at-requires
-    inputs-of-requires
-    counted-requires
+    ports-at-requires
     add-inputs
-    outputs-of-requires
-    counted-requires-2
     add-outputs
     add-q
     loop-less

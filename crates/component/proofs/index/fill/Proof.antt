@@ -27,7 +27,7 @@ loop-holds c =
     let a = b .before .before .before .before in
     filling-start (a .args .file .now) (a .args .n) (a .args .w) (a .args .form) (a .args .first) (b .clear .last .0)
     (replicate 256 0)
-    (b .clear .ensures .size ∙ a .pre .2) (b .clear .ensures .word) refl (λ o h. getD-replicate 256 o 0 0 h)
+    (b .clear .ensures .size ∙ a .pre .3) (b .clear .ensures .word) refl (λ o h. getD-replicate 256 o 0 0 h)
 
 record-at-requires : tie.Need-record-at-requires Inv-loop μ-loop
 record-at-requires c κs = search needs
@@ -42,6 +42,7 @@ put-requires c κs =
     let a = c .before .before .before .before .before .before .before .before .before .before .before in (
       l .inv .size,
       a .pre .1,
+      a .pre .2,
       filling-counts (a .args .file .now) (a .args .n) (a .args .w) (a .args .form) (a .args .first) (l .q) (l .counts)
           (l .table) (l .inv)
           (a .pre .0),
@@ -59,13 +60,13 @@ loop-again c =
     let l = b .before .before .before .before .loop in
     let a = b .before .before .before .before .before .before .before .before .before .before .before .args in
     filling-step (a .file .now) (a .n) (a .w) (a .form) (a .first) (l .q) (l .counts) (l .table) (l .inv) _
-    (b .record-at .ensures) _ _
+    (b .record-at .ensures .0) _ _
     (b .before .before .before .loop-test .taken) (c .before .before .put .ensures .0)
     (c .before .before .put .ensures .1)
 
 same-length : tie.Need-same-length Inv-loop μ-loop
 same-length c =
-    c .before .loop .inv .size ∙ sym (c .before .before .before .before .before .before .before .before .pre .2)
+    c .before .loop .inv .size ∙ sym (c .before .before .before .before .before .before .before .before .pre .3)
 
 returns : tie.Need-returns Inv-loop μ-loop
 returns c =

@@ -61,7 +61,7 @@ loop-again c =
     let b6 = l .before .before .before .before .before .before in
     let a = b6 .before .before .before .before .before .before .args in
     widening-step (a .file .now) (a .n) (l .loop .q) (l .loop .lo)
-    (l .loop .hi) (l .loop .inv) _ (b .before .record-at .ensures) _ _ (d .loop-test .taken) (b .widen .ensures .0)
+    (l .loop .hi) (l .loop .inv) _ (b .before .record-at .ensures .0) _ _ (d .loop-test .taken) (b .widen .ensures .0)
     (b .widen .ensures .1)
 
 same-length : tie.Need-same-length Inv-loop μ-loop

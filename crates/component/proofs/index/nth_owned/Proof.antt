@@ -22,16 +22,13 @@ abbrev μ-loop : tie.MeasureT-loop
 loop-holds : tie.Need-loop-holds Inv-loop μ-loop
 loop-holds c = refl
 
-record-at-requires : tie.Need-record-at-requires Inv-loop μ-loop
-record-at-requires c κs = search needs
-
 is-owned-requires : tie.Need-is-owned-requires Inv-loop μ-loop
 is-owned-requires c κs = search needs
 
 -- this one
 returns : tie.Need-returns Inv-loop μ-loop
 returns c =
-    let a = c .before .before .before .before .before .before .before .args in
+    let a = c .before .before .before .before .before .before .args in
     search (scan-kth-here (a .file .now) (ownedAs (a .form) (a .o)))
 
 sub-left : tie.Need-sub-left Inv-loop μ-loop
@@ -45,7 +42,7 @@ loop-less c = search needs
 
 loop-again : tie.Need-loop-again Inv-loop μ-loop
 loop-again c =
-    let a = c .before .before .before .before .before .before .args in
+    let a = c .before .before .before .before .before .args in
     ⊎-elim (λ w. rw (w .2) (search (scan-kth-counts (a .file .now) (ownedAs (a .form) (a .o)))))
     (λ w. rw (w .1) (search (scan-kth-next (a .file .now) (ownedAs (a .form) (a .o))))) (c .if1 .came)
 
@@ -62,7 +59,6 @@ nth-owned-spec =
     Inv-loop
     μ-loop
     loop-holds
-    record-at-requires
     is-owned-requires
     returns
     sub-left

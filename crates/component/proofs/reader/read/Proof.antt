@@ -1,27 +1,21 @@
--- `read`: the first byte tells a component from the other kinds.
+-- `read`: check 3 alone decides.
 -- Assumes nothing.
-use Rattle.component.proofs.ReaderLaws.{read-component, read-line}
+use Rattle.component.proofs.RecordLaws.{read-refused, read-well, read-taken}
 use borrow.Author.Needs.{needs}
 use Rattle.component.proofs.reader.read.Statement.{statement}
 use Rattle.component.proofs.reader.read.Tie as tie
 
-shared-slice-read-if1 : tie.Need-shared-slice-read-if1
-shared-slice-read-if1 c = search needs
+is-well-formed-requires : tie.Need-is-well-formed-requires
+is-well-formed-requires c κs = search needs
 
-component-requires : tie.Need-component-requires
-component-requires c κs = search needs
-
--- kind 1
 returns : tie.Need-returns
-returns c = search (read-component)
+returns c = read-refused (c .before .before .args .r) _ (c .before .is-well-formed .ensures) (c .if1 .taken)
 
-line-requires : tie.Need-line-requires
-line-requires c κs = search needs
+take-requires : tie.Need-take-requires
+take-requires c κs = search (read-well)
 
--- any other
 returns-2 : tie.Need-returns-2
-returns-2 c = search (read-line)
+returns-2 c = read-taken (c .before .before .before .args .r) _ (c .before .before .is-well-formed .ensures) (c .take .result) (c .before .if1 .left) (c .take .ensures)
 
 pub read-spec : {M : Type 1} → statement M
-read-spec =
-    tie.close (tie.spec shared-slice-read-if1 component-requires returns line-requires returns-2)
+read-spec = tie.close (tie.spec is-well-formed-requires returns take-requires returns-2)

@@ -1,6 +1,6 @@
 -- `record_at`: the part handed on is the one of 24 bytes that starts at 24 times the position.
 -- Assumes nothing.
-use Rattle.component.proofs.ReaderLaws.{recordAt-read, recordAt-past}
+use Rattle.component.proofs.RecordLaws.{recordAt-read, recordAt-past}
 use borrow.Author.Needs.{needs}
 use Rattle.component.proofs.reader.record_at.Statement.{statement}
 use Rattle.component.proofs.reader.record_at.Tie as tie
@@ -11,27 +11,40 @@ mul-a c = search needs
 add-e : tie.Need-add-e
 add-e c = search needs
 
-sub-read : tie.Need-sub-read
-sub-read c = search needs
+sub-numbers : tie.Need-sub-numbers
+sub-numbers c = search needs
 
-part-read-start : tie.Need-part-read-start
-part-read-start c = search needs
+part-numbers-start : tie.Need-part-numbers-start
+part-numbers-start c = search needs
 
-part-read-end : tie.Need-part-read-end
-part-read-end c = search needs
+part-numbers-end : tie.Need-part-numbers-end
+part-numbers-end c = search needs
+
+numbers-requires : tie.Need-numbers-requires
+numbers-requires c κs = search needs
 
 read-requires : tie.Need-read-requires
 read-requires c κs = search needs
 
--- in the file
 returns : tie.Need-returns
-returns c = search (recordAt-read)
+returns c =
+    let b = c .before .before .before in
+    let a = b .before .before .args in
+    recordAt-read (a .file .now) (a .p) (c .read .result) (c .before .numbers .result) (b .if1 .taken) (c .before .numbers .ensures) (c .read .ensures .0) (c .read .ensures .1)
 
--- past its end
 returns-2 : tie.Need-returns-2
-returns-2 c = search (recordAt-past)
+returns-2 c = recordAt-past (c .before .before .args .file .now) (c .before .before .args .p) (c .if1 .left)
 
 pub record-at-spec : {M : Type 1} → statement M
 record-at-spec =
     tie.close
-    (tie.spec mul-a add-e sub-read part-read-start part-read-end read-requires returns returns-2)
+    (tie.spec
+    mul-a
+    add-e
+    sub-numbers
+    part-numbers-start
+    part-numbers-end
+    numbers-requires
+    read-requires
+    returns
+    returns-2)

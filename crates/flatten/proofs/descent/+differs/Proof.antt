@@ -18,10 +18,9 @@ use borrow.Fn.PlainCycle.{Measures, is, falls, and}
 use Rattle.flatten.proofs.descent.differs.Reads as differs
 use Rattle.flatten.proofs.descent.differs.Kinds as differs-kinds
 use Rattle.flatten.proofs.descent.+differs.Lts-differs as differs-lts
-use Rattle.component.proofs.is_primitive.Reads as is-primitive-reads
-use Rattle.component.proofs.record_at.Reads as record-at-reads
+use Rattle.component.proofs.is_primitive_at.Reads as is-primitive-at-reads
 use Rattle.flatten.proofs.descent.enter.Reads as enter-reads
-use Rattle.flatten.proofs.descent.input_width_of.Reads as input-width-of-reads
+use Rattle.flatten.proofs.descent.input_width_at.Reads as input-width-at-reads
 use Rattle.flatten.proofs.descent.stretch_of.Reads as stretch-of-reads
 use Rattle.flatten.proofs.descent.+differs.{statement}
 use Rattle.flatten.proofs.descent.+differs.Tie.{close}
@@ -37,12 +36,10 @@ differs-below t = and 4 differs-kinds.ps (falls 4 differs-kinds.ps _<_ μ-differ
 
 abbrev differs-claims : ℕ → differs-lts.Claims
 differs-claims t = (
-  record-at-reads.Asked,
-  record-at-reads.Learnt,
-  is-primitive-reads.Asked,
-  is-primitive-reads.Learnt,
-  input-width-of-reads.Asked,
-  input-width-of-reads.Learnt,
+  is-primitive-at-reads.Asked,
+  is-primitive-at-reads.Learnt,
+  input-width-at-reads.Asked,
+  input-width-at-reads.Learnt,
   stretch-of-reads.Asked,
   stretch-of-reads.Learnt,
   enter-reads.Asked,
@@ -62,14 +59,11 @@ differs-μ-loop file n children lo hi depth c i width end q₀ q = end - q
 differs-returns : (t : ℕ) → differs-lts.Need-returns (differs-claims t) (differs-at t) differs.Post differs-Inv-loop differs-μ-loop
 differs-returns t c = search (differs-bottom)
 
-differs-record-at-requires : (t : ℕ) → differs-lts.Need-record-at-requires (differs-claims t) (differs-at t) differs.Post differs-Inv-loop differs-μ-loop
-differs-record-at-requires t c κs = search needs
+differs-is-primitive-at-requires : (t : ℕ) → differs-lts.Need-is-primitive-at-requires (differs-claims t) (differs-at t) differs.Post differs-Inv-loop differs-μ-loop
+differs-is-primitive-at-requires t c κs = search needs
 
-differs-is-primitive-requires : (t : ℕ) → differs-lts.Need-is-primitive-requires (differs-claims t) (differs-at t) differs.Post differs-Inv-loop differs-μ-loop
-differs-is-primitive-requires t c κs = search needs
-
-differs-input-width-of-requires : (t : ℕ) → differs-lts.Need-input-width-of-requires (differs-claims t) (differs-at t) differs.Post differs-Inv-loop differs-μ-loop
-differs-input-width-of-requires t c κs = search needs
+differs-input-width-at-requires : (t : ℕ) → differs-lts.Need-input-width-at-requires (differs-claims t) (differs-at t) differs.Post differs-Inv-loop differs-μ-loop
+differs-input-width-at-requires t c κs = search needs
 
 differs-returns-2 : (t : ℕ) → differs-lts.Need-returns-2 (differs-claims t) (differs-at t) differs.Post differs-Inv-loop differs-μ-loop
 differs-returns-2 t c = search (differs-here)
@@ -91,7 +85,7 @@ differs-sub-differs t c = search needs
 
 differs-differs-requires : (t : ℕ) → differs-lts.Need-differs-requires (differs-claims t) (differs-at t) differs.Post differs-Inv-loop differs-μ-loop
 differs-differs-requires t c κs =
-    let e = c .before .before .before .before .before .before .before .before .before .before in
+    let e = c .before .before .before .before .before .before .before .before .before in
     let s = e .before .before .before .before .before in
     (omega (arith, s .pre .0, e .if1 .left), s .pre .1)
 
@@ -120,9 +114,8 @@ pub +differs-spec : {M : Type 1} → statement M
     differs-Inv-loop
     differs-μ-loop
     (differs-returns t)
-    (differs-record-at-requires t)
-    (differs-is-primitive-requires t)
-    (differs-input-width-of-requires t)
+    (differs-is-primitive-at-requires t)
+    (differs-input-width-at-requires t)
     (differs-returns-2 t)
     (differs-stretch-of-requires t)
     (differs-loop-holds t)

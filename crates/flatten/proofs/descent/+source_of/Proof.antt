@@ -1,7 +1,7 @@
 -- `source_of`: the depth left falls at every call, and a composite's output is what its output map says.
 -- Assumes nothing.
 use native.Mathlib.Omega.{arith}
-use Rattle.flatten.proofs.DescentLaws.{source-bottom, source-here, source-below}
+use Rattle.flatten.proofs.DescentLaws.{source-bottom, source-here, source-refused, source-unmapped, source-below}
 use borrow.Author.Needs.{needs}
 use Prim.Native.Nat.{ℕ, _<_}
 use borrow.Fn.Kinds.{In}
@@ -9,9 +9,7 @@ use borrow.Fn.PlainCycle.{Measures, is, falls, and}
 use Rattle.flatten.proofs.descent.source_of.Reads as source-of
 use Rattle.flatten.proofs.descent.source_of.Kinds as source-of-kinds
 use Rattle.flatten.proofs.descent.+source_of.Lts-source_of as source-of-lts
-use Rattle.component.proofs.from_of.Reads as from-of-reads
-use Rattle.component.proofs.is_primitive.Reads as is-primitive-reads
-use Rattle.component.proofs.output_of.Reads as output-of-reads
+use Rattle.component.proofs.is_primitive_at.Reads as is-primitive-at-reads
 use Rattle.component.proofs.child_of.Reads as child-of-reads
 use Rattle.component.proofs.out_map_of.Reads as out-map-of-reads
 use Rattle.component.proofs.record_at.Reads as record-at-reads
@@ -30,18 +28,14 @@ source-of-below t =
 
 abbrev source-of-claims : ℕ → source-of-lts.Claims
 source-of-claims t = (
-  record-at-reads.Asked,
-  record-at-reads.Learnt,
-  is-primitive-reads.Asked,
-  is-primitive-reads.Learnt,
+  is-primitive-at-reads.Asked,
+  is-primitive-at-reads.Learnt,
   out-map-of-reads.Asked,
   out-map-of-reads.Learnt,
-  from-of-reads.Asked,
-  from-of-reads.Learnt,
+  record-at-reads.Asked,
+  record-at-reads.Learnt,
   child-of-reads.Asked,
   child-of-reads.Learnt,
-  output-of-reads.Asked,
-  output-of-reads.Learnt,
   source-of-below t,
   source-of.Post,
 )
@@ -49,11 +43,8 @@ source-of-claims t = (
 source-of-returns : (t : ℕ) → source-of-lts.Need-returns (source-of-claims t) (source-of-at t) source-of.Post
 source-of-returns t c = search (source-bottom)
 
-source-of-record-at-requires : (t : ℕ) → source-of-lts.Need-record-at-requires (source-of-claims t) (source-of-at t) source-of.Post
-source-of-record-at-requires t c κs = search needs
-
-source-of-is-primitive-requires : (t : ℕ) → source-of-lts.Need-is-primitive-requires (source-of-claims t) (source-of-at t) source-of.Post
-source-of-is-primitive-requires t c κs = search needs
+source-of-is-primitive-at-requires : (t : ℕ) → source-of-lts.Need-is-primitive-at-requires (source-of-claims t) (source-of-at t) source-of.Post
+source-of-is-primitive-at-requires t c κs = search needs
 
 source-of-returns-2 : (t : ℕ) → source-of-lts.Need-returns-2 (source-of-claims t) (source-of-at t) source-of.Post
 source-of-returns-2 t c = search (source-here)
@@ -61,11 +52,23 @@ source-of-returns-2 t c = search (source-here)
 source-of-out-map-of-requires : (t : ℕ) → source-of-lts.Need-out-map-of-requires (source-of-claims t) (source-of-at t) source-of.Post
 source-of-out-map-of-requires t c κs = search needs
 
-source-of-record-at-requires-2 : (t : ℕ) → source-of-lts.Need-record-at-requires-2 (source-of-claims t) (source-of-at t) source-of.Post
-source-of-record-at-requires-2 t c κs = search needs
+source-of-record-at-requires : (t : ℕ) → source-of-lts.Need-record-at-requires (source-of-claims t) (source-of-at t) source-of.Post
+source-of-record-at-requires t c κs = search needs
 
-source-of-from-of-requires : (t : ℕ) → source-of-lts.Need-from-of-requires (source-of-claims t) (source-of-at t) source-of.Post
-source-of-from-of-requires t c κs = search needs
+source-of-enum-known-says : (t : ℕ) → source-of-lts.Need-enum-known-says (source-of-claims t) (source-of-at t) source-of.Post
+source-of-enum-known-says t c = search needs
+
+source-of-enum-told : (t : ℕ) → source-of-lts.Need-enum-told (source-of-claims t) (source-of-at t) source-of.Post
+source-of-enum-told t c = search needs
+
+source-of-returns-3 : (t : ℕ) → source-of-lts.Need-returns-3 (source-of-claims t) (source-of-at t) source-of.Post
+source-of-returns-3 t c = search (source-refused)
+
+source-of-enum-known-says-2 : (t : ℕ) → source-of-lts.Need-enum-known-says-2 (source-of-claims t) (source-of-at t) source-of.Post
+source-of-enum-known-says-2 t c = search needs
+
+source-of-returns-4 : (t : ℕ) → source-of-lts.Need-returns-4 (source-of-claims t) (source-of-at t) source-of.Post
+source-of-returns-4 t c = search (source-unmapped)
 
 source-of-child-of-requires : (t : ℕ) → source-of-lts.Need-child-of-requires (source-of-claims t) (source-of-at t) source-of.Post
 source-of-child-of-requires t c κs = search needs
@@ -73,31 +76,30 @@ source-of-child-of-requires t c κs = search needs
 source-of-sub-source-of : (t : ℕ) → source-of-lts.Need-sub-source-of (source-of-claims t) (source-of-at t) source-of.Post
 source-of-sub-source-of t c = search needs
 
-source-of-output-of-requires : (t : ℕ) → source-of-lts.Need-output-of-requires (source-of-claims t) (source-of-at t) source-of.Post
-source-of-output-of-requires t c κs = search needs
-
 source-of-source-of-requires : (t : ℕ) → source-of-lts.Need-source-of-requires (source-of-claims t) (source-of-at t) source-of.Post
 source-of-source-of-requires t c κs =
-    let e = c .before .before .before .before .before .before .before .before in
+    let e = c .before .before .before .before .before .before .before .before .before .before .before in
     let s = e .before .before .before .before in
     (omega (arith, s .pre .0, e .if1 .left), s .pre .1)
 
-source-of-returns-3 : (t : ℕ) → source-of-lts.Need-returns-3 (source-of-claims t) (source-of-at t) source-of.Post
-source-of-returns-3 t c = search (source-below)
+source-of-returns-5 : (t : ℕ) → source-of-lts.Need-returns-5 (source-of-claims t) (source-of-at t) source-of.Post
+source-of-returns-5 t c = search (source-below)
 
 pub +source-of-spec : {M : Type 1} → statement M
 +source-of-spec = close μ-source-of λ t. source-of-lts.spec (source-of-claims t)
     (source-of-at t)
     source-of.Post
     (source-of-returns t)
-    (source-of-record-at-requires t)
-    (source-of-is-primitive-requires t)
+    (source-of-is-primitive-at-requires t)
     (source-of-returns-2 t)
     (source-of-out-map-of-requires t)
-    (source-of-record-at-requires-2 t)
-    (source-of-from-of-requires t)
+    (source-of-record-at-requires t)
+    (source-of-enum-known-says t)
+    (source-of-enum-told t)
+    (source-of-returns-3 t)
+    (source-of-enum-known-says-2 t)
+    (source-of-returns-4 t)
     (source-of-child-of-requires t)
     (source-of-sub-source-of t)
-    (source-of-output-of-requires t)
     (source-of-source-of-requires t)
-    (source-of-returns-3 t)
+    (source-of-returns-5 t)

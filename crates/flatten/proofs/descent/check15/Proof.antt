@@ -1,6 +1,6 @@
 -- `check15`: a connection's source has the width that no target may differ from.
 -- Assumes nothing.
-use Rattle.flatten.proofs.DescentLaws.{fails15-other, fails15-connection}
+use Rattle.flatten.proofs.DescentLaws.{fails15-refused, fails15-other, fails15-connection}
 use borrow.Author.Needs.{needs}
 use Rattle.flatten.proofs.descent.check15.Statement.{statement}
 use Rattle.flatten.proofs.descent.check15.Tie as tie
@@ -11,9 +11,19 @@ record-at-requires c κs = search needs
 enum-known-owner : tie.Need-enum-known-owner
 enum-known-owner c = search needs
 
--- no connection
+enum-told : tie.Need-enum-told
+enum-told c = search needs
+
+-- refused
 returns : tie.Need-returns
-returns c = search (fails15-other)
+returns c = search (fails15-refused)
+
+enum-known-says : tie.Need-enum-known-says
+enum-known-says c = search needs
+
+-- no connection
+returns-2 : tie.Need-returns-2
+returns-2 c = search (fails15-other)
 
 cast-child-of : tie.Need-cast-child-of
 cast-child-of c = search needs
@@ -27,11 +37,8 @@ deepest-requires c κs = search needs
 source-of-requires : tie.Need-source-of-requires
 source-of-requires c κs = search needs
 
-record-at-requires-2 : tie.Need-record-at-requires-2
-record-at-requires-2 c κs = search needs
-
-output-width-of-requires : tie.Need-output-width-of-requires
-output-width-of-requires c κs = search needs
+output-width-at-requires : tie.Need-output-width-at-requires
+output-width-at-requires c κs = search needs
 
 cast-child-of-2 : tie.Need-cast-child-of-2
 cast-child-of-2 c = search needs
@@ -44,12 +51,17 @@ deepest-requires-2 c κs = search needs
 
 differs-requires : tie.Need-differs-requires
 differs-requires c κs =
-    let s = c .before .before .before .before .before .before .before .before .before .before .before .before .before .before .before .before in
+    let s = c .before .before .before .before .before .before .before .before .before .before .before .before .before .before .before .before .before .before in
     (s .pre .0, s .pre .1 .1)
 
 -- a connection
-returns-2 : tie.Need-returns-2
-returns-2 c = search (fails15-connection)
+returns-3 : tie.Need-returns-3
+returns-3 c =
+    let b = c .before .before .before .before .before .before .before .before .before .before .before .before .before in
+    let a = b .before .before .before .before .before .before .args in
+    let d = c .before .before .before .before .before .before .before .before .before .before .before .owner .given .1 in
+    let e = c .before .before .before .before .before .before .before .before .says .given .1 in
+    search (fails15-connection (a .file .now) (a .n) (a .p) (b .record-at .result) (b .record-at .ensures .0) _ _ _ _ _ _ d e)
 
 pub check15-spec : {M : Type 1} → statement M
 check15-spec =
@@ -57,15 +69,17 @@ check15-spec =
     (tie.spec
     record-at-requires
     enum-known-owner
+    enum-told
     returns
+    enum-known-says
+    returns-2
     cast-child-of
     child-of-requires
     deepest-requires
     source-of-requires
-    record-at-requires-2
-    output-width-of-requires
+    output-width-at-requires
     cast-child-of-2
     child-of-requires-2
     deepest-requires-2
     differs-requires
-    returns-2)
+    returns-3)

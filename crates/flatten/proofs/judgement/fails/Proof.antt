@@ -1,6 +1,7 @@
 -- `fails`: the check of each number stands at its place in the list.
 -- Assumes nothing.
 use mathlib.Core.Path.{_≡_}
+use Rattle.component.proofs.RecordLaws.{number3-fails}
 use Rattle.flatten.specs.Steps.{failsBy}
 use Rattle.flatten.proofs.JudgementLaws.{number-last}
 use borrow.Author.Needs.{needs}
@@ -48,7 +49,7 @@ check15-requires c κs = search needs
 
 returns : tie.Need-returns
 unfolding failsBy
-returns c = rw (c .before .match .keys1) (c .check3 .ensures)
+returns c = rw (c .before .match .keys1) (search (number3-fails))
 
 returns-2 : tie.Need-returns-2
 unfolding failsBy

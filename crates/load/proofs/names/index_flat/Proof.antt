@@ -29,16 +29,13 @@ mul-flat c = omega arith
 slice-write-flat : tie.Need-slice-write-flat Inv-loop μ-loop
 slice-write-flat c = omega arith
 
-record-at-requires : tie.Need-record-at-requires Inv-loop μ-loop
-record-at-requires c κs = search needs
-
-is-primitive-requires : tie.Need-is-primitive-requires Inv-loop μ-loop
-is-primitive-requires c κs = search needs
+is-primitive-at-requires : tie.Need-is-primitive-at-requires Inv-loop μ-loop
+is-primitive-at-requires c κs = search needs
 
 add-count : tie.Need-add-count Inv-loop μ-loop
 add-count c =
-    let l = c .before .before .before .before .loop in
-    let file = c .before .before .before .before .before .before .before .args .file .now in
+    let l = c .before .before .before .loop in
+    let file = c .before .before .before .before .before .before .args .file .now in
     omega (arith, l .inv .2, flat-few (recordAt file) (recordCount file) (l .c))
 
 add-c : tie.Need-add-c Inv-loop μ-loop
@@ -49,10 +46,10 @@ loop-less c = omega arith
 
 loop-again : tie.Need-loop-again Inv-loop μ-loop
 loop-again c =
-    let l = c .before .before .before .before .loop in
-    let file = c .before .before .before .before .before .before .before .args .file .now in
-    let e : isPrimitive (recordAt file (l .c)) ≡ c .before .is-primitive .result =
-    sym (c .before .is-primitive .ensures ∙ ap isPrimitive (c .before .before .record-at .ensures)) in
+    let l = c .before .before .before .loop in
+    let file = c .before .before .before .before .before .before .args .file .now in
+    let e : isPrimitive (recordAt file (l .c)) ≡ c .before .is-primitive-at .result =
+    sym (c .before .is-primitive-at .ensures) in
     let words = flat-word (recordAt file) (recordCount file) (l .flat) (l .c) (l .count) (omega arith) (l .inv .2)
     (l .inv .3) in
     ⊎-elim
@@ -89,8 +86,7 @@ index-flat-spec =
     loop-holds
     mul-flat
     slice-write-flat
-    record-at-requires
-    is-primitive-requires
+    is-primitive-at-requires
     add-count
     add-c
     loop-less

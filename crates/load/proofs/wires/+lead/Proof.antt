@@ -12,8 +12,7 @@ use borrow.Fn.PlainCycle.{Measures, is, falls, and}
 use Rattle.load.proofs.wires.lead.Reads as lead
 use Rattle.load.proofs.wires.lead.Kinds as lead-kinds
 use Rattle.load.proofs.wires.+lead.Lts-lead as lead-lts
-use Rattle.component.proofs.is_primitive.Reads as is-primitive-reads
-use Rattle.component.proofs.record_at.Reads as record-at-reads
+use Rattle.component.proofs.is_primitive_at.Reads as is-primitive-at-reads
 use Rattle.flatten.proofs.enter.Reads as enter-reads
 use Rattle.flatten.proofs.stretch_of.Reads as stretch-of-reads
 use Rattle.load.proofs.wires.flat_pin.Reads as flat-pin-reads
@@ -32,10 +31,8 @@ lead-below t = and 6 lead-kinds.ps (falls 6 lead-kinds.ps _<_ μ-lead t) lead.Pr
 
 abbrev lead-claims : ℕ → lead-lts.Claims
 lead-claims t = (
-  record-at-reads.Asked,
-  record-at-reads.Learnt,
-  is-primitive-reads.Asked,
-  is-primitive-reads.Learnt,
+  is-primitive-at-reads.Asked,
+  is-primitive-at-reads.Learnt,
   flat-pin-reads.Asked,
   flat-pin-reads.Learnt,
   write-wire-reads.Asked,
@@ -59,34 +56,30 @@ lead-μ-loop file n children lo hi indexes from goal wires₀ at end depth place
 lead-returns : (t : ℕ) → lead-lts.Need-returns (lead-claims t) (lead-at t) lead.Post lead-Inv-loop lead-μ-loop
 lead-returns t c = search (lead-bottom)
 
-lead-record-at-requires : (t : ℕ)
-    → lead-lts.Need-record-at-requires (lead-claims t) (lead-at t) lead.Post lead-Inv-loop lead-μ-loop
-lead-record-at-requires t c κs = search needs
-
-lead-is-primitive-requires : (t : ℕ)
-    → lead-lts.Need-is-primitive-requires (lead-claims t) (lead-at t) lead.Post lead-Inv-loop lead-μ-loop
-lead-is-primitive-requires t c κs = search needs
+lead-is-primitive-at-requires : (t : ℕ)
+    → lead-lts.Need-is-primitive-at-requires (lead-claims t) (lead-at t) lead.Post lead-Inv-loop lead-μ-loop
+lead-is-primitive-at-requires t c κs = search needs
 
 lead-flat-pin-requires : (t : ℕ)
     → lead-lts.Need-flat-pin-requires (lead-claims t) (lead-at t) lead.Post lead-Inv-loop lead-μ-loop
 lead-flat-pin-requires t c κs =
-    let s = c .before .before .before .before .before .before .before .before .before .before .before in (
+    let s = c .before .before .before .before .before .before .before .before .before .before in (
       s .pre .1 .0 .indexes,
-      primitive-number _ _ _ _ _ _ _ _ _ (s .pre .1 .0) (c .before .before .record-at .ensures)
-          (c .before .is-primitive .ensures)
+      primitive-number _ _ _ _ _ _ _ _ (s .pre .1 .0)
+          (c .before .is-primitive-at .ensures)
           (c .if2 .taken),
     )
 
 lead-write-wire-requires : (t : ℕ)
     → lead-lts.Need-write-wire-requires (lead-claims t) (lead-at t) lead.Post lead-Inv-loop lead-μ-loop
 lead-write-wire-requires t c κs =
-    let d = c .before .before .before .before .before in
+    let d = c .before .before .before .before in
     let s = d .before .before .before .before .before .before .before .before in
     let a = s .args in (
       lead-room (a .file .now) (a .n) (a .goal .depth) (a .goal .comp) (a .goal .port) (a .from) (a .wires .now) (a .at)
-          _ _
-          (d .if1 .left) (c .before .before .before .before .record-at .ensures)
-          (c .before .before .before .is-primitive .ensures)
+          _
+          (d .if1 .left)
+          (c .before .before .before .is-primitive-at .ensures)
           (c .before .before .if2 .taken) (s .pre .1 .1 .1),
       s .pre .1 .1 .0,
       c .before .flat-pin .ensures .1,
@@ -95,14 +88,14 @@ lead-write-wire-requires t c κs =
 lead-add-result : (t : ℕ) → lead-lts.Need-add-result (lead-claims t) (lead-at t) lead.Post lead-Inv-loop lead-μ-loop
 lead-add-result t c =
     let w = c .before .before .before .before .before in
-    let d = w .before .before .before in
+    let d = w .before .before in
     let s = d .before .before .before .before .before .before .before .before in
     let a = s .args in
     omega (
       arith,
       lead-room (a .file .now) (a .n) (a .goal .depth) (a .goal .comp) (a .goal .port) (a .from) (a .wires .now) (a .at)
-          _ _
-          (d .if1 .left) (w .before .before .record-at .ensures) (w .before .is-primitive .ensures) (w .if2 .taken)
+          _
+          (d .if1 .left) (w .before .is-primitive-at .ensures) (w .if2 .taken)
           (s .pre .1 .1 .1),
       s .good .1 .1 .1 .1 .1 .1 .1 .1 .0,
     )
@@ -135,7 +128,7 @@ lead-lead-requires : (t : ℕ)
     → lead-lts.Need-lead-requires (lead-claims t) (lead-at t) lead.Post lead-Inv-loop lead-μ-loop
 lead-lead-requires t c κs =
     let l = c .before .before .before .before .before .before in
-    let d = l .before .before .before .before .before .before in
+    let d = l .before .before .before .before .before in
     let s = d .before .before .before .before .before .before .before .before in
     let a = s .args in (
       omega (arith, s .pre .0, d .if1 .left),
@@ -164,7 +157,7 @@ lead-loop-less t c = omega arith
 lead-loop-again : (t : ℕ) → lead-lts.Need-loop-again (lead-claims t) (lead-at t) lead.Post lead-Inv-loop lead-μ-loop
 lead-loop-again t c =
     let l = c .before .before .before .loop in
-    let d = c .before .before .before .before .before .before .before .before .before in
+    let d = c .before .before .before .before .before .before .before .before in
     let a = d .before .before .before .before .before .before .before .before .args in
     let taken = c .before .before .loop-test .taken in
     let entered = c .before .enter .ensures in
@@ -193,8 +186,7 @@ pub +lead-spec : {M : Type 1} → statement M
     lead-Inv-loop
     lead-μ-loop
     (lead-returns t)
-    (lead-record-at-requires t)
-    (lead-is-primitive-requires t)
+    (lead-is-primitive-at-requires t)
     (lead-flat-pin-requires t)
     (lead-write-wire-requires t)
     (lead-add-result t)

@@ -1,6 +1,6 @@
 -- `connect`: a connection's wires lead from its source to its targets; any other record has none.
 -- Assumes nothing.
-use Rattle.load.proofs.WiresLaws.{connect-other, source-number, connect-room, connect-written}
+use Rattle.load.proofs.WiresLaws.{connect-refused, connect-other, source-number, connect-room, connect-written}
 use borrow.Author.Needs.{needs}
 use Rattle.load.proofs.wires.connect.Statement.{statement}
 use Rattle.load.proofs.wires.connect.Tie as tie
@@ -11,8 +11,17 @@ record-at-requires c κs = search needs
 enum-known-owner : tie.Need-enum-known-owner
 enum-known-owner c = search needs
 
+enum-told : tie.Need-enum-told
+enum-told c = search needs
+
 returns : tie.Need-returns
-returns c = search (connect-other)
+returns c = search (connect-refused)
+
+enum-known-says : tie.Need-enum-known-says
+enum-known-says c = search needs
+
+returns-2 : tie.Need-returns-2
+returns-2 c = search (connect-other)
 
 cast-child-of : tie.Need-cast-child-of
 cast-child-of c = search needs
@@ -28,11 +37,11 @@ source-of-requires c κs = search needs
 
 flat-pin-requires : tie.Need-flat-pin-requires
 flat-pin-requires c κs =
-    let r = c .before .before .before .before .before .before in
+    let r = c .before .before .before .before .before .before .before .before .before in
     let s = r .before .before .before .before .before .before .before .before in (
       s .pre .0 .indexes,
-      source-number (s .args .file .now) (s .args .n) (s .args .p) _ _ _ _ _ _ (r .record-at .ensures)
-          (c .before .before .before .before .owner .given .1)
+      source-number (s .args .file .now) (s .args .n) (s .args .p) _ (r .record-at .ensures .0) _ _ _ _ _ _ (c .before .before .before .before .before .before .before .owner .given .1)
+          (c .before .before .before .before .says .given .1)
           _ _ _ (c .before .deepest .ensures) (c .before .before .child-of .ensures) (c .source-of .ensures)
           _ _ _ _ (s .pre .0) (s .pre .1 .1 .0),
     )
@@ -42,7 +51,7 @@ cast-child-of-2 c = search needs
 
 child-of-requires-2 : tie.Need-child-of-requires-2
 child-of-requires-2 c κs =
-    let r = c .before .before .before .before .before .before .before in
+    let r = c .before .before .before .before .before .before .before .before .before .before in
     r .before .before .before .before .before .before .before .before .pre .0 .children
 
 deepest-requires-2 : tie.Need-deepest-requires-2
@@ -51,13 +60,13 @@ deepest-requires-2 c κs = search needs
 lead-requires : tie.Need-lead-requires
 lead-requires c κs =
     let f = c .before .before .before in
-    let r = f .before .before .before .before .before .before .before in
+    let r = f .before .before .before .before .before .before .before .before .before .before in
     let s = r .before .before .before .before .before .before .before .before in (
       s .pre .0,
       (
         f .flat-pin .ensures .1,
-        connect-room (s .args .file .now) (s .args .n) (s .args .p) _ _ _ _ _ _ (r .record-at .ensures)
-            (f .before .before .before .before .before .owner .given .1)
+        connect-room (s .args .file .now) (s .args .n) (s .args .p) _ (r .record-at .ensures .0) _ _ _ _ _ _ (f .before .before .before .before .before .before .before .before .owner .given .1)
+            (f .before .before .before .before .before .says .given .1)
             _ _ _ (f .before .before .deepest .ensures) (f .before .before .before .child-of .ensures)
             (f .before .source-of .ensures)
             _ _ _ (c .before .deepest2 .ensures) (c .before .before .child-of2 .ensures) (f .flat-pin .ensures .0)
@@ -68,13 +77,13 @@ lead-requires c κs =
 same-length : tie.Need-same-length
 same-length c = search needs
 
-returns-2 : tie.Need-returns-2
-returns-2 c =
+returns-3 : tie.Need-returns-3
+returns-3 c =
     let f = c .before .before .before .before .before .before in
-    let r = f .before .before .before .before .before .before .before in
+    let r = f .before .before .before .before .before .before .before .before .before .before in
     let s = r .before .before .before .before .before .before .before .before in
-    connect-written (s .args .file .now) (s .args .n) (s .args .p) _ _ _ _ _ _ (r .record-at .ensures)
-    (f .before .before .before .before .before .owner .given .1)
+    connect-written (s .args .file .now) (s .args .n) (s .args .p) _ (r .record-at .ensures .0) _ _ _ _ _ _ (f .before .before .before .before .before .before .before .before .owner .given .1)
+    (f .before .before .before .before .before .says .given .1)
     _ _ _ (f .before .before .deepest .ensures) (f .before .before .before .child-of .ensures)
     (f .before .source-of .ensures)
     _ _ _ (c .before .before .before .before .deepest2 .ensures)
@@ -87,7 +96,10 @@ connect-spec =
     (tie.spec
     record-at-requires
     enum-known-owner
+    enum-told
     returns
+    enum-known-says
+    returns-2
     cast-child-of
     child-of-requires
     deepest-requires
@@ -98,4 +110,4 @@ connect-spec =
     deepest-requires-2
     lead-requires
     same-length
-    returns-2)
+    returns-3)

@@ -19,15 +19,16 @@ abbrev entry : tie.Else1 → tie.Start
 entry c = c .before .before .before .before .before .before .before .before .before
 
 full : (c : tie.Else1) → fullSize (came (entry c)) ≡ true
-full c = sym (c .before .full-size .ensures) ∙ not-false _ (c .if1 .left)
+full c = sym (c .before .full-size .ensures (entry c .args .counts)) ∙ not-false _ (c .if1 .left)
 
 full-size-requires : tie.Need-full-size-requires
 full-size-requires c κs = search needs
 
 returns : tie.Need-returns
 returns c =
-    netNumber-2 (came (c .before .before .before .before .before .before .before .before .before))
-    (sym (c .before .full-size .ensures) ∙ not-true _ (c .if1 .taken))
+    let s = c .before .before .before .before .before .before .before .before .before in
+    netNumber-2 (came s)
+    (sym (c .before .full-size .ensures (s .args .counts)) ∙ not-true _ (c .if1 .taken))
 
 is-net-requires : tie.Need-is-net-requires
 is-net-requires c κs = full c

@@ -38,7 +38,7 @@ search-id-requires c κs =
 returns-2 : tie.Need-returns-2
 returns-2 c =
     let s = c .before .before .before .before .before .before .before .before .before .before in
-    index-found (came s) (s .args .id .0) _ (is-net (c .before)) (c .search-id .ensures)
+    index-found (came s) (s .args .id .0) (c .search-id .result) (is-net (c .before)) (c .search-id .ensures)
 
 pub index-of-spec : {M : Type 1} → statement M
 index-of-spec = tie.close (tie.spec net-number-requires returns search-id-requires returns-2)

@@ -22,7 +22,8 @@ same-length c = search needs
 returns : tie.Need-returns
 returns c =
     let s = c .before .before .before .before .before .before .before .before .before .before .before .before in
-    targets-joined (came s) (s .args .index .0) (s .args .list .now) _ _ (c .before .before .list-joined .ensures)
+    targets-joined (came s) (s .args .index .0) (s .args .list .now) (c .before .before .list-joined .result) _
+    (c .before .before .list-joined .ensures)
 
 pub targets-of-spec : {M : Type 1} → statement M
 targets-of-spec = tie.close (tie.spec list-joined-requires same-length returns)

@@ -73,7 +73,7 @@ returns-2 c =
     let w = c .before .before .before in
     let f = w .before .before .before in
     let s = start (f .before) in
-    value-input (came s) (s .args .side) (s .args .i) (s .args .port) _ _ _ _ (f .before .if1 .left)
+    value-input (came s) (s .args .side) (s .args .i) (s .args .port) (c .port-value .result) _ _ _ (f .before .if1 .left)
     (f .fields-at .ensures)
     (w .before .enum-told .given .1) (w .word-of .ensures) (c .before .before .input-width .ensures)
     (c .port-value .ensures)
@@ -83,7 +83,7 @@ returns-3 c =
     let w = c .before .before .before in
     let f = w .before .before .before in
     let s = start (f .before) in
-    value-output (came s) (s .args .side) (s .args .i) (s .args .port) _ _ _ _ (f .before .if1 .left)
+    value-output (came s) (s .args .side) (s .args .i) (s .args .port) (c .port-value2 .result) _ _ _ (f .before .if1 .left)
     (f .fields-at .ensures)
     (w .before .enum-told2 .given .1) (w .word-of2 .ensures) (c .before .before .output-width .ensures)
     (c .port-value2 .ensures)

@@ -40,7 +40,7 @@ returns-2 : tie.Need-returns-2
 returns-2 c =
     let s = c .before .before .before .before .before .before .before .before .before .before in
     let a = s .args in
-    value-there (came s) (a .side) (a .index .0) (a .port) _ (is-net (c .before)) (c .value-in .ensures)
+    value-there (came s) (a .side) (a .index .0) (a .port) (c .value-in .result) (is-net (c .before)) (c .value-in .ensures)
 
 pub value-of-spec : {M : Type 1} → statement M
 value-of-spec = tie.close (tie.spec net-number-requires returns value-in-requires returns-2)

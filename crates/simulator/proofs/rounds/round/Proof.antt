@@ -2,7 +2,7 @@
 -- Assumes nothing.
 use mathlib.Core.Path.{sym, _∙_}
 use Rattle.tables.specs.Tables.{Tables, tablesOf}
-use Rattle.simulator.proofs.CallsLaws.{round-refused, round-kept, round-answered, round-left}
+use Rattle.simulator.proofs.CallsLaws.{round-refused, round-made}
 use borrow.Author.Needs.{needs}
 use Rattle.simulator.proofs.rounds.round.Statement.{statement}
 use Rattle.simulator.proofs.rounds.round.Tie as tie
@@ -36,11 +36,7 @@ returns : tie.Need-returns
 returns c =
     let p = c .before .before .before .before .before .before .before .before .before .before in
     let s = p .before .before .before .before in
-    let e = c .before .net-number .ensures in (
-      round-refused (came s) (s .args .time) _ e (c .if1 .taken),
-      round-kept (came s) (s .args .time) _ e
-          (c .if1 .taken),
-    )
+    round-refused (came s) (s .args .time) _ (c .before .net-number .ensures) (c .if1 .taken)
 
 net-round-requires : tie.Need-net-round-requires
 net-round-requires c κs =
@@ -75,11 +71,8 @@ returns-2 c =
     let r = at-net-round .net-round in
     let U =
     tablesOf (s .args .components .now) (r .last .1 .0) (r .last .1 .1 .0) (s .args .wires .now)
-    (r .last .1 .1 .1 .1 .0) (r .last .1 .1 .1 .1 .1 .0) (r .last .1 .1 .1 .1 .1 .1 .0) (r .result) in (
-      round-answered (came s) (s .args .time) _ e z U (r .result) (r .ensures),
-      round-left (came s)
-          (s .args .time) _ e z U (r .result) (r .ensures),
-    )
+    (r .last .1 .1 .1 .1 .0) (r .last .1 .1 .1 .1 .1 .0) (r .last .1 .1 .1 .1 .1 .1 .0) (r .result) in
+    round-made (came s) (s .args .time) _ e z U (r .result) (r .ensures)
 
 pub round-spec : {M : Type 1} → statement M
 round-spec =

@@ -2,7 +2,7 @@
 -- Assumes nothing.
 use mathlib.Core.Path.{sym, _∙_}
 use Rattle.tables.specs.Tables.{Tables, tablesOf}
-use Rattle.simulator.proofs.RunLaws.{run-refused, run-kept, run-answered, run-left}
+use Rattle.simulator.proofs.RunLaws.{run-refused, run-made}
 use borrow.Author.Needs.{needs}
 use Rattle.simulator.proofs.rounds.run_until_calm.Statement.{statement}
 use Rattle.simulator.proofs.rounds.run_until_calm.Tie as tie
@@ -36,11 +36,7 @@ returns : tie.Need-returns
 returns c =
     let p = c .before .before .before .before .before .before .before .before .before .before in
     let s = p .before .before .before .before in
-    let e = c .before .net-number .ensures in (
-      run-refused (came s) (s .args .time) (s .args .limit) _ e (c .if1 .taken),
-      run-kept (came s) (s .args .time)
-          (s .args .limit) _ e (c .if1 .taken),
-    )
+    run-refused (came s) (s .args .time) (s .args .limit) _ (c .before .net-number .ensures) (c .if1 .taken)
 
 net-run-requires : tie.Need-net-run-requires
 net-run-requires c κs =
@@ -75,12 +71,9 @@ returns-2 c =
     let r = at-net-run .net-run in
     let U =
     tablesOf (s .args .components .now) (r .last .1 .0) (r .last .1 .1 .0) (s .args .wires .now)
-    (r .last .1 .1 .1 .1 .0) (r .last .1 .1 .1 .1 .1 .0) (r .last .1 .1 .1 .1 .1 .1 .0) (r .result .counts) in (
-      run-answered (came s) (s .args .time) (s .args .limit) _ e z U (r .result .counts) (r .result .rounds)
-          (r .result .evaluations) (r .ensures),
-      run-left (came s) (s .args .time) (s .args .limit) _ e z U (r .result .counts) (r .result .rounds)
-          (r .result .evaluations) (r .ensures),
-    )
+    (r .last .1 .1 .1 .1 .0) (r .last .1 .1 .1 .1 .1 .0) (r .last .1 .1 .1 .1 .1 .1 .0) (r .result .counts) in
+    run-made (came s) (s .args .time) (s .args .limit) _ e z U (r .result .counts) (r .result .rounds) (r .result .evaluations)
+    (r .ensures)
 
 pub run-until-calm-spec : {M : Type 1} → statement M
 run-until-calm-spec =

@@ -7,7 +7,7 @@ use Rattle.tables.proofs.sizes.full_size.Tie as tie
 
 returns : tie.Need-returns
 unfolding fullSize
-returns c = refl
+returns c = λ m. refl
 
 pub full-size-spec : {M : Type 1} → statement M
 full-size-spec = tie.close (tie.spec returns)

@@ -1,0 +1,39 @@
+-- `component_at`: the record is refused, no component, or one.
+-- Assumes nothing.
+use Rattle.component.proofs.RecordLaws.{sees-refused, sees-line, sees-component}
+use borrow.Author.Needs.{needs}
+use Rattle.component.proofs.reader.component_at.Statement.{statement}
+use Rattle.component.proofs.reader.component_at.Tie as tie
+
+record-at-requires : tie.Need-record-at-requires
+record-at-requires c κs = search needs
+
+enum-known-owner : tie.Need-enum-known-owner
+enum-known-owner c = search needs
+
+enum-told : tie.Need-enum-told
+enum-told c = search needs
+
+returns : tie.Need-returns
+returns c = search (sees-refused)
+
+enum-known-says : tie.Need-enum-known-says
+enum-known-says c = search needs
+
+returns-2 : tie.Need-returns-2
+returns-2 c = search (sees-line)
+
+returns-3 : tie.Need-returns-3
+returns-3 c = search (sees-component)
+
+pub component-at-spec : {M : Type 1} → statement M
+component-at-spec =
+    tie.close
+    (tie.spec
+    record-at-requires
+    enum-known-owner
+    enum-told
+    returns
+    enum-known-says
+    returns-2
+    returns-3)

@@ -1,0 +1,67 @@
+-- What reading a record answers, and what is seen of one, as its nine numbers.
+-- Nobody has to believe anything here: each word ties an enum of the code to the nine numbers of specs/Record.antt, of which the checks speak.
+-- Assumes nothing.
+use mathlib.Core.Path.{_≡_}
+use Prim.Native.Nat.{ℕ}
+use mathlib.Core.Bool.{true, false, cond}
+use lib.Dec.{eqb}
+use Rattle.component.specs.declared.Record.{Record}
+use Rattle.component.specs.declared.Says.{Says}
+use Rattle.component.specs.declared.Says.the-variants.{Component, Connection, InputMap, OutputMap}
+use Rattle.component.specs.declared.Reading.{Reading}
+use Rattle.component.specs.declared.Reading.the-variants.{Taken, Refused}
+use Rattle.component.specs.declared.Seen.{Seen}
+use Rattle.component.specs.declared.Seen.the-variants.{Component as SeenComponent, Nothing}
+use Rattle.component.specs.declared.checks.Entry.{Entry}
+use Rattle.component.specs.declared.checks.Entry.the-variants.{Of, Nothing as NoEntry}
+use Rattle.component.specs.Record.{noRecord, formOf, ownerOf, toOf, inputOf, entering}
+
+-- The nine numbers of a record of owner o that is taken apart.
+abbrev pub apart : ℕ → Says → Record
+apart o (Component i f) =
+    record {
+      form = 1;
+      kind = f .kind;
+      owner = o;
+      a = f .inputs;
+      b = f .outputs;
+      c = f .width;
+      d = 0;
+      id = i .0;
+      parameter = f .parameter;
+    }
+apart o (Connection a b c d) =
+    record { form = 2; kind = 0; owner = o; a = a .0; b = b; c = c .0; d = d; id = 0; parameter = 0 }
+apart o (InputMap a c d) = record { form = 3; kind = 0; owner = o; a = a; b = 0; c = c .0; d = d; id = 0; parameter = 0 }
+apart o (OutputMap a b) = record { form = 4; kind = 0; owner = o; a = a .0; b = b; c = 0; d = 0; id = 0; parameter = 0 }
+
+-- Its record kind.
+abbrev pub formBy : Says → ℕ
+formBy (Component i f) = 1
+formBy (Connection a b c d) = 2
+formBy (InputMap a c d) = 3
+formBy (OutputMap a b) = 4
+
+-- What reading answers, as nine numbers.
+abbrev pub said : Reading → Record
+said (Taken o s) = apart o s
+said (Refused k) = noRecord
+
+-- Its number; 0 where the record is taken apart.
+abbrev pub number : Reading → ℕ
+number (Taken o s) = 0
+number (Refused k) = k
+
+-- The number that check 3 gives.
+abbrev pub number3 : Record → ℕ
+number3 r = cond (eqb (r .form) 0) 3 0
+
+-- What is seen of a record: the component, taken apart, or that it is none.
+abbrev pub SeenAs : Seen → Record → Type 0
+SeenAs (SeenComponent o i f) r = r ≡ apart o (Component i f)
+SeenAs Nothing r = formOf r ≡ 1 → ⊥
+
+-- What is seen of an entry: the input that a record enters, or that it enters none.
+abbrev pub EntryAs : Entry → Record → Type 0
+EntryAs (Of o c d) r = (entering r ≡ true) × (ownerOf r ≡ o) × (toOf r ≡ c .0) × (inputOf r ≡ d)
+EntryAs NoEntry r = entering r ≡ false

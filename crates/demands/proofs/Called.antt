@@ -1,0 +1,78 @@
+-- What every call keeps, one clause a call, and what is known of all tables that calls reach: they are a net with the components and wires of the
+-- load, and the invariant holds of them. A new call adds a clause to `call-kept`; nothing after it changes.
+--   Kept ran t T U   U is a net with T's wiring, and the invariant holds of it
+--   Origin file T    the load that reached tables started from
+-- Assumes nothing.
+use mathlib.Core.Path.{_≡_, sym, subst}
+use mathlib.Core.Bool.{Bool, true, false, cond, _&&_, _||_, or-false}
+use mathlib.Core.List.{List}
+use Prim.Native.Nat.{ℕ}
+use borrow.Author.Tests.{eq-eqb}
+use lib.Dec.{eqb, ltb}
+use Rattle.component.specs.declared.Verdict.the-variants.{Accepted}
+use Rattle.component.specs.Record.{IsBytes}
+use Rattle.tables.specs.Tables.{Tables}
+use Rattle.tables.proofs.SameLaws.{SameWiring, sameWiring-none, sameWiring-more}
+use Rattle.net.specs.Net.{netNumber}
+use Rattle.load.specs.Load.{loadVerdict, loadTables}
+use Rattle.simulator.proofs.Kept.{roundTables-wiring, roundTables-net}
+use Rattle.quiet.proofs.Kept.{editTables-wiring, editTables-net}
+use Rattle.quiet.proofs.Since.{Fresh, Unbroken, fresh-unbroken, roundTables-unbroken, editTables-unbroken}
+use Rattle.quiet.proofs.Runs.{runTables-net, runTables-wiring, runTables-unbroken}
+use Rattle.demands.specs.Reached.{Call, callTables, callTime, runs, Reached, loaded, called}
+use Rattle.demands.specs.Reached as calls
+
+pub record Kept (ran : Bool) (t : ℕ) (T U : Tables) : Type 0 where
+  pub net : netNumber U ≡ 0
+  pub wiring : SameWiring T U
+  pub unbroken : Unbroken U ran t
+
+and-true : (a b : Bool) → b ≡ true → a ≡ (a && b)
+and-true true b e = sym e
+and-true false b e = λ i. false
+
+-- What each call keeps of a net.
+pub call-kept : (c : Call) (T : Tables) (ran : Bool) (t : ℕ) → netNumber T ≡ 0 → Unbroken T ran t
+    → Kept (ran || runs c T) (cond (runs c T) (callTime c) t) T (callTables c T)
+call-kept (calls.rounded u) T ran t z a =
+    record { net = roundTables-net T u z; wiring = roundTables-wiring T u; unbroken = roundTables-unbroken T ran t u a }
+call-kept (calls.edited i v) T ran t z a =
+    record {
+      net = editTables-net T i v z;
+      wiring = editTables-wiring T i v;
+      unbroken = subst (λ (b : Bool). Unbroken (callTables (calls.edited i v) T) b t) (sym (or-false ran)) (editTables-unbroken T ran t i v a);
+    }
+call-kept (calls.untilCalm u limit) T ran t z a =
+    record {
+      net = runTables-net T u limit z;
+      wiring = runTables-wiring T u limit;
+      unbroken = subst (λ (b : Bool). Unbroken (callTables (calls.untilCalm u limit) T) (ran || b) (cond b u t))
+          (and-true (ltb 0 limit) (eqb (netNumber T) 0) (eq-eqb (netNumber T) 0 z)) (runTables-unbroken T ran t u limit z a);
+    }
+
+pub record Origin (file : List ℕ) (T : Tables) : Type 0 where
+  pub lent : Tables
+  pub bytes : IsBytes file
+  pub accepted : loadVerdict file lent ≡ Accepted
+  pub wiring : SameWiring (loadTables file lent) T
+
+-- The load that reached tables started from; and, where a load leaves a net in which every call starts afresh, what holds of them.
+module _ (file : List ℕ) (fresh : (T : Tables) → IsBytes file → loadVerdict file T ≡ Accepted → Fresh (loadTables file T)) where
+  pub reached-kept : {ran : Bool} {t : ℕ} {T : Tables} → Reached file ran t T → Origin file T × Kept ran t T T
+  reached-kept (loaded T b a) =
+      let f = fresh T b a in (
+        record { lent = T; bytes = b; accepted = a; wiring = sameWiring-none (loadTables file T) },
+        record { net = f .net; wiring = sameWiring-none (loadTables file T); unbroken = fresh-unbroken (loadTables file T) f },
+      )
+  reached-kept (called {ran = ran} {t = t} {T = T} c r) =
+      let p = reached-kept r in
+      let o = p .0 in
+      let k = call-kept c T ran t (p .1 .net) (p .1 .unbroken) in (
+        record {
+          lent = o .lent;
+          bytes = o .bytes;
+          accepted = o .accepted;
+          wiring = sameWiring-more (loadTables file (o .lent)) T (callTables c T) (o .wiring) (k .wiring);
+        },
+        record { net = k .net; wiring = sameWiring-none (callTables c T); unbroken = k .unbroken },
+      )

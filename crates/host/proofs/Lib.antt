@@ -1,0 +1,4 @@
+pub mod WordsLaws
+pub mod NumbersLaws
+pub mod CallsLaws
+pub mod Determinacy

@@ -1,0 +1,151 @@
+-- Every number that a call gives back is at most 19.
+-- Assumes nothing.
+use mathlib.Core.Path.{_≡_, refl, sym, ap, _∙_, subst}
+use mathlib.Core.Bool.{Bool, true, false, cond, not, _&&_, _||_}
+use mathlib.Core.List.{List, [], _∷_}
+use mathlib.Core.Option.{Option, none, some}
+use Prim.Native.Nat.{ℕ, _≤_, _<_}
+use native.Mathlib.Omega.{arith}
+use lib.ListN.{length}
+use lib.Dec.{eqb, leb, ltb}
+use Rattle.lists.specs.Lists.{refusal, _if_}
+use Rattle.primitive.specs.declared.table.Fields.{Fields}
+use Rattle.value.specs.Value.{below, level}
+use Rattle.primitive.specs.declared.kinds.Kind.the-variants.{Switch, Input}
+use Rattle.primitive.specs.Kinds.{is, kept, unknown, primitive, obeys, inputWidth, outputWidth}
+use Rattle.primitive.specs.Given.{Given, done, declined, refusedBy, giving}
+use Rattle.primitive.specs.Evaluate.{fitting, evaluateNumber}
+use Rattle.component.specs.declared.Verdict.{Verdict}
+use Rattle.component.specs.declared.Verdict.the-variants.{Accepted, Refused as Judged}
+use Rattle.flatten.specs.Verdict.{sized, spoken, refused, verdict, verdictGives}
+use Rattle.flatten.proofs.JudgementLaws.{verdict-bound}
+use Rattle.tables.specs.Tables.{Tables, fullSize, fieldsAt, indexOf}
+use Rattle.load.specs.Load.{loadVerdict}
+use Rattle.net.specs.Net.{isNet, netNumber}
+use Rattle.simulator.specs.declared.Side.{Side}
+use Rattle.simulator.specs.declared.Port.the-variants.{Is as PortIs}
+use Rattle.simulator.specs.Round.{calm}
+use Rattle.simulator.specs.Calls.{driven, editNumber}
+use Rattle.simulator.specs.Questions.{ofNet, found, portCount, valueAt, valueGives, valueOnNet, listNumber}
+use Rattle.host.specs.Host.{saying}
+
+-- What is chosen by a test is small where both choices are.
+pick : (b : Bool) (x y : ℕ) → x ≤ 19 → y ≤ 19 → cond b x y ≤ 19
+pick true x y h k = h
+pick false x y h k = k
+
+either : {A : Type 0} (f : A → ℕ) (b : Bool) (x y : A) → f x ≤ 19 → f y ≤ 19 → f (cond b x y) ≤ 19
+either f true x y h k = h
+either f false x y h k = k
+
+-- The first number whose test holds.
+abbrev small : List (ℕ × Bool) → Type 0
+small [] = 0 ≤ 19
+small (c ∷ cs) = (c .0 ≤ 19) × small cs
+
+refusal-small : (cs : List (ℕ × Bool)) → small cs → refusal cs ≤ 19
+refusal-small [] h = h
+refusal-small (c ∷ cs) h = pick (c .1) (c .0) (refusal cs) (h .0) (refusal-small cs (h .1))
+
+pub net-small : (T : Tables) → netNumber T ≤ 19
+unfolding netNumber
+net-small T =
+    refusal-small
+    ((2 if not (fullSize T)) ∷ (16 if not (isNet T)) ∷ [])
+    (omega arith, (omega arith, omega arith))
+
+edit-number-small : (T : Tables) (i v : ℕ) → editNumber T i v ≤ 19
+unfolding editNumber
+edit-number-small T i v =
+    refusal-small
+    ((2 if not (fullSize T)) ∷ (16 if not (isNet T)) ∷ (17 if leb (T .counts .components) i)
+    ∷ (18 if not (is Switch (fieldsAt T i) || (is Input (fieldsAt T i) && not (driven T i))))
+    ∷ (19 if not (below v (cond (is Switch (fieldsAt T i)) (outputWidth (fieldsAt T i)) (inputWidth (fieldsAt T i))))) ∷ [])
+    (omega arith, (omega arith, (omega arith, (omega arith, (omega arith, omega arith)))))
+
+list-number-small : (T : Tables) (i : ℕ) (ls : List ℕ) → listNumber T i ls ≤ 19
+unfolding listNumber
+list-number-small T i ls =
+    refusal-small
+    ((2 if not (fullSize T) || ltb (length ls) 256) ∷ (16 if not (isNet T)) ∷ (17 if leb (T .counts .components) i) ∷ [])
+    (omega arith, (omega arith, (omega arith, omega arith)))
+
+evaluate-number-small : (f : Fields) (xs vs ys ws : List ℕ) → evaluateNumber f xs vs ys ws ≤ 19
+unfolding evaluateNumber
+evaluate-number-small f xs vs ys ws =
+    refusal-small
+    ((7 if kept (f .kind)) ∷ (8 if unknown (f .kind)) ∷ (9 if not (primitive f && obeys f))
+    ∷ (2 if ltb (length xs) (f .inputs) || ltb (length vs) (f .inputs) || ltb (length ys) (f .outputs) || ltb (length ws) (f .outputs))
+    ∷ (19 if not (fitting (inputWidth f) (f .inputs) xs vs && fitting (outputWidth f) (f .outputs) ys ws)) ∷ [])
+    (omega arith, (omega arith, (omega arith, (omega arith, (omega arith, omega arith)))))
+
+-- So is what a call of such a number gives, and what a question gives of any tables.
+giving-small : (k : ℕ) (xs : List ℕ) → k ≤ 19 → giving k xs .number ≤ 19
+giving-small k xs h = either (λ (g : Given). g .number) (eqb k 0) (done xs) (declined (refusedBy k)) (omega arith) h
+
+ofNet-small : (T : Tables) (g : Given) → g .number ≤ 19 → ofNet T g .number ≤ 19
+ofNet-small T g h = either (λ (x : Given). x .number) (eqb (netNumber T) 0) g (declined (refusedBy (netNumber T))) h (net-small T)
+
+found-small : (o : Option ℕ) → found o .number ≤ 19
+found-small (some i) = omega arith
+found-small none = omega arith
+
+value-on-net-small : (T : Tables) (side : Side) (i p : ℕ) → valueOnNet T side i p .number ≤ 19
+unfolding valueOnNet
+value-on-net-small T side i p =
+    either (λ (g : Given). g .number) (leb (T .counts .components) i || leb (portCount T side i) p) (declined (refusedBy 17))
+    (valueGives (PortIs (valueAt T side i p))) (omega arith) (omega arith)
+
+fits : (g h : Given) → g ≡ h → h .number ≤ 19 → g .number < 65536
+fits g h e l =
+    let same : g .number ≡ h .number = ap (λ (x : Given). x .number) e in
+    omega arith
+
+pub changed-small : (T : Tables) (g : Given) (xs : List ℕ) → g ≡ giving (netNumber T) xs → g .number < 65536
+changed-small T g xs e = fits g (giving (netNumber T) xs) e (giving-small (netNumber T) xs (net-small T))
+
+pub edited-small : (T : Tables) (i v : ℕ) (g : Given) (xs : List ℕ) → g ≡ giving (editNumber T i v) xs → g .number < 65536
+edited-small T i v g xs e = fits g (giving (editNumber T i v) xs) e (giving-small (editNumber T i v) xs (edit-number-small T i v))
+
+pub calm-small : (T : Tables) (g : Given) → g ≡ ofNet T (done (level (calm T) ∷ [])) → g .number < 65536
+calm-small T g e = fits g (ofNet T (done (level (calm T) ∷ []))) e (ofNet-small T (done (level (calm T) ∷ [])) (omega arith))
+
+pub index-small : (T : Tables) (id : ℕ) (g : Given) → g ≡ ofNet T (found (indexOf T id)) → g .number < 65536
+index-small T id g e = fits g (ofNet T (found (indexOf T id))) e (ofNet-small T (found (indexOf T id)) (found-small (indexOf T id)))
+
+pub value-small : (T : Tables) (side : Side) (i p : ℕ) (g : Given) → g ≡ ofNet T (valueOnNet T side i p) → g .number < 65536
+value-small T side i p g e =
+    fits g (ofNet T (valueOnNet T side i p)) e (ofNet-small T (valueOnNet T side i p) (value-on-net-small T side i p))
+
+pub listed-small : (T : Tables) (i : ℕ) (ls : List ℕ) (g : Given) (xs : List ℕ) → g ≡ giving (listNumber T i ls) xs → g .number < 65536
+listed-small T i ls g xs e = fits g (giving (listNumber T i ls) xs) e (giving-small (listNumber T i ls) xs (list-number-small T i ls))
+
+pub evaluate-small : (f : Fields) (xs vs ys ws : List ℕ) (g : Given) → g ≡ giving (evaluateNumber f xs vs ys ws) [] → g .number < 65536
+evaluate-small f xs vs ys ws g e =
+    fits g (giving (evaluateNumber f xs vs ys ws) []) e
+    (giving-small (evaluateNumber f xs vs ys ws) [] (evaluate-number-small f xs vs ys ws))
+
+-- A load's number and position fit the answer.
+spoken-small : (file : List ℕ) (v : Verdict) → verdict file ≡ v → spoken v < 4294967296
+spoken-small file Accepted e = omega arith
+spoken-small file (Judged r) e = let b = verdict-bound file r e in omega arith
+
+cond-small : (b : Bool) (x y : Verdict) → spoken x < 4294967296 → spoken y < 4294967296 → spoken (cond b x y) < 4294967296
+cond-small true x y h k = h
+cond-small false x y h k = k
+
+load-verdict-small : (file : List ℕ) (T : Tables) → spoken (loadVerdict file T) < 4294967296
+unfolding loadVerdict
+load-verdict-small file T =
+    cond-small (sized file) (cond (fullSize T) (verdict file) (refused 2 0)) (refused 1 0)
+    (cond-small (fullSize T) (verdict file) (refused 2 0) (spoken-small file (verdict file) refl) (omega arith)) (omega arith)
+
+by-verdict : (v : Verdict) (xs : List ℕ) → saying (verdictGives v xs) ≡ spoken v
+by-verdict Accepted xs = refl
+by-verdict (Judged r) xs = refl
+
+pub load-small : (file : List ℕ) (T : Tables) (g : Given) (xs : List ℕ) → g ≡ verdictGives (loadVerdict file T) xs → saying g < 4294967296
+load-small file T g xs e =
+    let same : saying g ≡ spoken (loadVerdict file T) = ap saying e ∙ by-verdict (loadVerdict file T) xs in
+    let small = load-verdict-small file T in
+    subst (λ (k : ℕ). k < 4294967296) (sym same) small

@@ -1,0 +1,51 @@
+-- `berxundar_calm`: too few words, or what the engine answers.
+-- Assumes nothing.
+use Rattle.tables.specs.declared.Counts.{Counts}
+use Rattle.tables.specs.Tables.{Tables, tablesOf}
+use Rattle.simulator.specs.Questions.{calmGives}
+use Rattle.host.proofs.NumbersLaws.{calm-small}
+use Rattle.host.proofs.CallsLaws.{enough-found, ask-short, ask-made}
+use borrow.Author.Needs.{needs}
+use Rattle.host.proofs.calm.berxundar_calm.Statement.{statement}
+use Rattle.host.proofs.calm.berxundar_calm.Tie as tie
+
+-- The tables that came in, by their counts.
+abbrev came : tie.Start → Counts → Tables
+came s =
+    tablesOf (s .args .components .now) (s .args .inputs .now) (s .args .outputs .now) (s .args .wires .now)
+    (s .args .current .now)
+    (s .args .following .now) (s .args .standing .now)
+
+returns : tie.Need-returns
+returns c =
+    ask-short _ _ _ _ _ (c .if1 .taken)
+
+counts-in-requires : tie.Need-counts-in-requires
+counts-in-requires c κs = search needs
+
+is-calm-requires : tie.Need-is-calm-requires
+is-calm-requires c κs = search needs
+
+lay-calm-requires : tie.Need-lay-calm-requires
+lay-calm-requires c κs =
+    let s = c .before .before .before .before .before .before .before .before .before .before .before .before .before in (
+      enough-found (s .args .counts .now) (s .args .found .now) 1 (c .before .before .before .if1 .left),
+      calm-small (came s (c .before .before .counts-in .result)) (calmGives (c .before .is-calm .result)) (c .before .is-calm .ensures),
+    )
+
+same-length : tie.Need-same-length
+same-length c = search needs
+
+returns-2 : tie.Need-returns-2
+returns-2 c =
+    let s = c .before .before .before .before .before .before .before .before .before .before .before .before .before .before .before .before in
+    let m = c .before .before .before .before .before .counts-in in
+    let r = c .before .before .before .before .is-calm in
+    let k = c .before .before .lay-calm in
+    ask-made _ 1 (s .args .counts .now) (s .args .found .now) (came s) (m .result) (k .last .0) (k .result) (calmGives (r .result)) (c .before .before .before .before .before .before .if1 .left) (m .ensures)
+    (r .ensures) (k .ensures .0) (k .ensures .1)
+
+pub berxundar-calm-spec : {M : Type 1} → statement M
+berxundar-calm-spec =
+    tie.close
+    (tie.spec returns counts-in-requires is-calm-requires lay-calm-requires same-length returns-2)

@@ -1,0 +1,41 @@
+-- `berxundar_judge`: the judgement, spoken; a refusal's number and position are small enough for the sum.
+-- Assumes nothing.
+use mathlib.Core.Path.{sym, ap, _∙_}
+use native.Mathlib.Omega.{arith}
+use Rattle.flatten.specs.Verdict.{spoken}
+use Rattle.flatten.proofs.JudgementLaws.{verdict-bound, judges-verdict}
+use borrow.Author.Needs.{needs}
+use Rattle.host.proofs.judge.berxundar_judge.Statement.{statement}
+use Rattle.host.proofs.judge.berxundar_judge.Tie as tie
+
+judge-requires : tie.Need-judge-requires
+judge-requires c κs = search needs
+
+enum-told : tie.Need-enum-told
+enum-told c = search needs
+
+enum-known-refusal : tie.Need-enum-known-refusal
+enum-known-refusal c = search needs
+
+mul-result : tie.Need-mul-result
+mul-result c =
+    let r = c .before .before in
+    let j = r .before .before in
+    omega (arith, verdict-bound (j .before .before .args .file .now) (r .refusal .given .0 .0) (sym (judges-verdict _ _ (j .judge .ensures)) ∙ r .refusal .given .1))
+
+add-result : tie.Need-add-result
+add-result c =
+    let r = c .before .before .before in
+    let j = r .before .before in
+    omega (arith, verdict-bound (j .before .before .args .file .now) (r .refusal .given .0 .0) (sym (judges-verdict _ _ (j .judge .ensures)) ∙ r .refusal .given .1))
+
+returns : tie.Need-returns
+returns c = ap spoken (sym (c .enum-told .given .1) ∙ judges-verdict _ _ (c .before .before .judge .ensures))
+
+returns-2 : tie.Need-returns-2
+returns-2 c = ap spoken (sym (c .before .before .before .refusal .given .1) ∙ judges-verdict _ _ (c .before .before .before .before .before .judge .ensures))
+
+pub berxundar-judge-spec : {M : Type 1} → statement M
+berxundar-judge-spec =
+    tie.close
+    (tie.spec judge-requires enum-told enum-known-refusal mul-result add-result returns returns-2)

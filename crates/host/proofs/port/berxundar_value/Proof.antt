@@ -1,0 +1,63 @@
+-- `berxundar_value`: too few words, or what the engine answers.
+-- Assumes nothing.
+use mathlib.Core.Path.{ap, _∙_}
+use Rattle.tables.specs.declared.Counts.{Counts}
+use Rattle.tables.specs.Tables.{Tables, tablesOf}
+use Rattle.simulator.specs.declared.Side.{Side}
+use Rattle.simulator.specs.Questions.{valueGives, ofNet, valueOnNet}
+use Rattle.host.proofs.NumbersLaws.{value-small}
+use Rattle.host.proofs.CallsLaws.{enough-found, ask-short, ask-made}
+use borrow.Author.Needs.{needs}
+use Rattle.host.proofs.port.berxundar_value.Statement.{statement}
+use Rattle.host.proofs.port.berxundar_value.Tie as tie
+
+-- The tables that came in, by their counts.
+abbrev came : tie.Start → Counts → Tables
+came s =
+    tablesOf (s .args .components .now) (s .args .inputs .now) (s .args .outputs .now) (s .args .wires .now)
+    (s .args .current .now)
+    (s .args .following .now) (s .args .standing .now)
+
+returns : tie.Need-returns
+returns c =
+    ask-short _ _ _ _ _ (c .if1 .taken)
+
+counts-in-requires : tie.Need-counts-in-requires
+counts-in-requires c κs = search needs
+
+side-of-requires : tie.Need-side-of-requires
+side-of-requires c κs = search needs
+
+value-of-requires : tie.Need-value-of-requires
+value-of-requires c κs = search needs
+
+lay-value-requires : tie.Need-lay-value-requires
+lay-value-requires c κs =
+    let s = c .before .before .before .before .before .before .before .before .before .before .before .before .before .before in (
+      enough-found (s .args .counts .now) (s .args .found .now) 2 (c .before .before .before .before .if1 .left),
+      value-small (came s (c .before .before .before .counts-in .result)) (c .before .before .side-of .result) (s .args .index) (s .args .port) (valueGives (c .before .value-of .result)) (c .before .value-of .ensures),
+    )
+
+same-length : tie.Need-same-length
+same-length c = search needs
+
+returns-2 : tie.Need-returns-2
+returns-2 c =
+    let s = c .before .before .before .before .before .before .before .before .before .before .before .before .before .before .before .before .before in
+    let m = c .before .before .before .before .before .before .counts-in in
+    let r = c .before .before .before .before .value-of in
+    let k = c .before .before .lay-value in
+    ask-made _ 2 (s .args .counts .now) (s .args .found .now) (came s) (m .result) (k .last .0) (k .result) (valueGives (r .result)) (c .before .before .before .before .before .before .before .if1 .left) (m .ensures)
+    (r .ensures ∙ ap (λ (x : Side). ofNet (came s (m .result)) (valueOnNet (came s (m .result)) x (s .args .index) (s .args .port))) (c .before .before .before .before .before .side-of .ensures)) (k .ensures .0) (k .ensures .1)
+
+pub berxundar-value-spec : {M : Type 1} → statement M
+berxundar-value-spec =
+    tie.close
+    (tie.spec
+    returns
+    counts-in-requires
+    side-of-requires
+    value-of-requires
+    lay-value-requires
+    same-length
+    returns-2)

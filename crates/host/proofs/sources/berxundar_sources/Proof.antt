@@ -1,0 +1,61 @@
+-- `berxundar_sources`: too few words, or what the engine answers.
+-- Assumes nothing.
+use Rattle.tables.specs.declared.Counts.{Counts}
+use Rattle.tables.specs.Tables.{Tables, tablesOf}
+use Rattle.simulator.specs.Questions.{listGives}
+use Rattle.host.proofs.NumbersLaws.{listed-small}
+use Rattle.host.proofs.CallsLaws.{enough-found, list-short, list-made}
+use borrow.Author.Needs.{needs}
+use Rattle.host.proofs.sources.berxundar_sources.Statement.{statement}
+use Rattle.host.proofs.sources.berxundar_sources.Tie as tie
+
+-- The tables that came in, by their counts.
+abbrev came : tie.Start → Counts → Tables
+came s =
+    tablesOf (s .args .components .now) (s .args .inputs .now) (s .args .outputs .now) (s .args .wires .now)
+    (s .args .current .now)
+    (s .args .following .now) (s .args .standing .now)
+
+returns : tie.Need-returns
+returns c =
+    list-short _ _ _ _ _ _ (c .if1 .taken)
+
+counts-in-requires : tie.Need-counts-in-requires
+counts-in-requires c κs = search needs
+
+sources-of-requires : tie.Need-sources-of-requires
+sources-of-requires c κs = search needs
+
+lay-listed-requires : tie.Need-lay-listed-requires
+lay-listed-requires c κs =
+    let s = c .before .before .before .before .before .before .before .before .before .before .before .before .before .before .before .before .before in (
+      enough-found (s .args .counts .now) (s .args .found .now) 1 (c .before .before .before .before .before .before .if1 .left),
+      listed-small (came s (c .before .before .before .before .before .counts-in .result)) (s .args .index) (s .args .list .now) (listGives (c .before .before .before .sources-of .result)) _ (c .before .before .before .sources-of .ensures .0),
+    )
+
+same-length : tie.Need-same-length
+same-length c = search needs
+
+same-length-2 : tie.Need-same-length-2
+same-length-2 c = search needs
+
+returns-2 : tie.Need-returns-2
+returns-2 c =
+    let s = c .before .before .before .before .before .before .before .before .before .before .before .before .before .before .before .before .before .before .before .before in
+    let m = c .before .before .before .before .before .before .before .before .counts-in in
+    let r = c .before .before .before .before .before .before .sources-of in
+    let k = c .before .before .lay-listed in
+    list-made _ _ (s .args .counts .now) (s .args .list .now) (s .args .found .now) (came s) (m .result) _ (k .last .0) (k .result) (listGives (r .result)) (c .before .before .before .before .before .before .before .before .before .if1 .left) (m .ensures)
+    (r .ensures .0) (r .ensures .1) (k .ensures .0) (k .ensures .1)
+
+pub berxundar-sources-spec : {M : Type 1} → statement M
+berxundar-sources-spec =
+    tie.close
+    (tie.spec
+    returns
+    counts-in-requires
+    sources-of-requires
+    lay-listed-requires
+    same-length
+    same-length-2
+    returns-2)

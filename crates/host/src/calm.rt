@@ -1,0 +1,41 @@
+// Calm or not, called from C.
+ghost use Rattle.tables.specs.Tables.{tablesOf};
+ghost use mathlib.Core.List.{[], _∷_};
+ghost use Rattle.value.specs.Value.{level};
+ghost use Rattle.primitive.specs.Given.{done};
+ghost use Rattle.simulator.specs.Round.{calm};
+ghost use Rattle.simulator.specs.Questions.{ofNet};
+ghost use Rattle.host.specs.Host.{Answers};
+use crate::answers::lay_calm;
+use crate::counts::counts_in;
+
+// Whether the current list names only Clocks: a word is lent for the answer, 1 or 0.
+#[no_mangle]
+pub extern "C" fn berxundar_calm(
+    components: &[u64],
+    inputs: &[u64],
+    outputs: &[u64],
+    wires: &[u16],
+    current: &[u16],
+    following: &[u16],
+    standing: &[u16],
+    counts: &[u64],
+    found: &mut [u64],
+) -> u32
+    ensures { λ r. ⌜ Answers (λ T. ofNet T (done (level (calm T) ∷ []))) 1 (now (counts .entry)) (now (found .entry)) (now (found .exit)) (tablesOf (now (components .entry)) (now (inputs .entry)) (now (outputs .entry)) (now (wires .entry)) (now (current .entry)) (now (following .entry)) (now (standing .entry))) r ⌝ }
+{
+    if (counts.len() < 7) | (found.len() < 1) {
+        return 131072;
+    }
+    let answer = simulator::is_calm(
+        components,
+        inputs,
+        outputs,
+        wires,
+        current,
+        following,
+        standing,
+        counts_in(counts),
+    );
+    lay_calm(found, answer)
+}

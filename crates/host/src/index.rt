@@ -1,0 +1,40 @@
+// The index of an id, called from C.
+ghost use Rattle.tables.specs.Tables.{tablesOf, indexOf};
+ghost use Rattle.simulator.specs.Questions.{ofNet, found as foundAt};
+ghost use Rattle.host.specs.Host.{Answers};
+use crate::answers::lay_index;
+use crate::counts::counts_in;
+use component::Id;
+
+// The index of the component with an id, into a lent word.
+#[no_mangle]
+pub extern "C" fn berxundar_index(
+    components: &[u64],
+    inputs: &[u64],
+    outputs: &[u64],
+    wires: &[u16],
+    current: &[u16],
+    following: &[u16],
+    standing: &[u16],
+    counts: &[u64],
+    id: u32,
+    found: &mut [u64],
+) -> u32
+    ensures { λ r. ⌜ Answers (λ T. ofNet T (foundAt (indexOf T id))) 1 (now (counts .entry)) (now (found .entry)) (now (found .exit)) (tablesOf (now (components .entry)) (now (inputs .entry)) (now (outputs .entry)) (now (wires .entry)) (now (current .entry)) (now (following .entry)) (now (standing .entry))) r ⌝ }
+{
+    if (counts.len() < 7) | (found.len() < 1) {
+        return 131072;
+    }
+    let answer = simulator::index_of(
+        components,
+        inputs,
+        outputs,
+        wires,
+        current,
+        following,
+        standing,
+        counts_in(counts),
+        Id(id),
+    );
+    lay_index(found, answer)
+}

@@ -1,0 +1,38 @@
+// A load, called from C.
+ghost use Rattle.tables.specs.Tables.{tablesOf};
+ghost use Rattle.host.specs.Host.{LoadsInto};
+use crate::counts::keep_loaded;
+
+// Loads a drawing file into the tables.
+#[no_mangle]
+pub extern "C" fn berxundar_load(
+    file: &[u8],
+    components: &mut [u64],
+    inputs: &mut [u64],
+    outputs: &mut [u64],
+    wires: &mut [u16],
+    current: &mut [u16],
+    following: &mut [u16],
+    standing: &mut [u16],
+    counts: &mut [u64],
+) -> u32
+    ensures { λ r. ⌜ LoadsInto (now (file .entry)) (now (counts .entry)) (now (counts .exit)) (tablesOf (now (components .entry)) (now (inputs .entry)) (now (outputs .entry)) (now (wires .entry)) (now (current .entry)) (now (following .entry)) (now (standing .entry))) (tablesOf (now (components .exit)) (now (inputs .exit)) (now (outputs .exit)) (now (wires .exit)) (now (current .exit)) (now (following .exit)) (now (standing .exit))) r ⌝ }
+{
+    if !flatten::is_sized(file) {
+        return 65536;
+    }
+    if counts.len() < 7 {
+        return 131072;
+    }
+    let answer = load::load(
+        file,
+        components,
+        inputs,
+        outputs,
+        wires,
+        current,
+        following,
+        standing,
+    );
+    keep_loaded(counts, answer)
+}

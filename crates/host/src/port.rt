@@ -1,0 +1,45 @@
+// A port's value, called from C.
+ghost use Rattle.tables.specs.Tables.{tablesOf};
+ghost use Rattle.simulator.specs.Questions.{ofNet, valueOnNet};
+ghost use Rattle.host.specs.Host.{Answers, sideOf};
+use crate::answers::lay_value;
+use crate::answers::side_of;
+use crate::counts::counts_in;
+use component::FlatIdx;
+
+// The value of a port: its number and its width, into two lent words. Side 0 is the component's inputs, any other its outputs.
+#[no_mangle]
+pub extern "C" fn berxundar_value(
+    components: &[u64],
+    inputs: &[u64],
+    outputs: &[u64],
+    wires: &[u16],
+    current: &[u16],
+    following: &[u16],
+    standing: &[u16],
+    counts: &[u64],
+    side: u32,
+    index: usize,
+    port: usize,
+    found: &mut [u64],
+) -> u32
+    ensures { λ r. ⌜ Answers (λ T. ofNet T (valueOnNet T (sideOf side) index port)) 2 (now (counts .entry)) (now (found .entry)) (now (found .exit)) (tablesOf (now (components .entry)) (now (inputs .entry)) (now (outputs .entry)) (now (wires .entry)) (now (current .entry)) (now (following .entry)) (now (standing .entry))) r ⌝ }
+{
+    if (counts.len() < 7) | (found.len() < 2) {
+        return 131072;
+    }
+    let answer = simulator::value_of(
+        components,
+        inputs,
+        outputs,
+        wires,
+        current,
+        following,
+        standing,
+        counts_in(counts),
+        side_of(side),
+        FlatIdx(index),
+        port,
+    );
+    lay_value(found, answer)
+}

@@ -1,0 +1,50 @@
+// A component's targets, called from C.
+ghost use mathlib.Core.Bool.{cond};
+ghost use mathlib.Core.List.{[], _∷_};
+ghost use lib.ListN.{length};
+ghost use lib.Dec.{eqb};
+ghost use Rattle.lists.specs.Lists.{overlay};
+ghost use Rattle.primitive.specs.Given.{giving};
+ghost use Rattle.tables.specs.Tables.{tablesOf, targetsIn};
+ghost use Rattle.simulator.specs.Questions.{listNumber};
+ghost use Rattle.host.specs.Host.{Lists};
+use crate::answers::lay_listed;
+use crate::counts::counts_in;
+use component::FlatIdx;
+
+// The targets of the component at an index, into a list of 256; how many they are, into a lent word.
+#[no_mangle]
+pub extern "C" fn berxundar_targets(
+    components: &[u64],
+    inputs: &[u64],
+    outputs: &[u64],
+    wires: &[u16],
+    current: &[u16],
+    following: &[u16],
+    standing: &[u16],
+    counts: &[u64],
+    index: usize,
+    list: &mut [u16],
+    found: &mut [u64],
+) -> u32
+    ensures { λ r. ⌜ Lists (λ T. giving (listNumber T index (now (list .entry))) (length (targetsIn T index) ∷ []))
+        (λ T. cond (eqb (listNumber T index (now (list .entry))) 0) (overlay (targetsIn T index) (now (list .entry))) (now (list .entry)))
+        (now (counts .entry)) (now (list .entry)) (now (list .exit)) (now (found .entry)) (now (found .exit)) (tablesOf (now (components .entry)) (now (inputs .entry)) (now (outputs .entry)) (now (wires .entry)) (now (current .entry)) (now (following .entry)) (now (standing .entry))) r ⌝ }
+{
+    if (counts.len() < 7) | (found.len() < 1) {
+        return 131072;
+    }
+    let answer = simulator::targets_of(
+        components,
+        inputs,
+        outputs,
+        wires,
+        current,
+        following,
+        standing,
+        counts_in(counts),
+        FlatIdx(index),
+        list,
+    );
+    lay_listed(found, answer)
+}

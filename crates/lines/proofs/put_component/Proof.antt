@@ -1,0 +1,57 @@
+-- `put_component`: the parts of the line, one after the other.
+-- Assumes nothing.
+use mathlib.Core.Path.{sym}
+use mathlib.Core.List.{[], _∷_}
+use Rattle.text.specs.Text.{numeral}
+use Rattle.lines.specs.Lines.{componentLine}
+use Rattle.lines.proofs.LinesLaws.{put, both, both-ended}
+use borrow.Author.Needs.{needs}
+use Rattle.lines.proofs.put_component.Statement.{statement}
+use Rattle.lines.proofs.put_component.Tie as tie
+
+word-of-requires : tie.Need-word-of-requires
+word-of-requires c κs = search needs
+
+word-of-requires-2 : tie.Need-word-of-requires-2
+word-of-requires-2 c κs = search needs
+
+put-ended-requires : tie.Need-put-ended-requires
+put-ended-requires c κs = search needs
+
+put-kind-requires : tie.Need-put-kind-requires
+put-kind-requires c κs = search needs
+
+put-requires : tie.Need-put-requires
+put-requires c κs = search needs
+
+put-ended-requires-2 : tie.Need-put-ended-requires-2
+put-ended-requires-2 c κs = search needs
+
+same-length : tie.Need-same-length
+same-length c = search needs
+
+returns : tie.Need-returns
+unfolding componentLine
+returns c =
+    let kind = c .before .before .before .before .before .before .before .before .before .before .before .before .before .before .before .before .before .word-of in
+    let id = c .before .before .before .before .before .before .before .before .before .before .before .before .before .before .before .before .word-of2 in
+    let index = c .before .before .before .before .before .before .before .before .before .before .before .before .before .before .put-ended in
+    let name = c .before .before .before .before .before .before .before .before .before .before .put-kind in
+    let blank = c .before .before .before .before .before .before .put in
+    let last = c .before .before .put-ended2 in
+    rw (sym (kind .ensures), sym (id .ensures))
+    (both-ended (numeral (id .result)) (10 ∷ []) (both (both (index .ensures) (name .ensures)) (put (32 ∷ []) (blank .ensures)))
+    (last .ensures))
+
+pub put-component-spec : {M : Type 1} → statement M
+put-component-spec =
+    tie.close
+    (tie.spec
+    word-of-requires
+    word-of-requires-2
+    put-ended-requires
+    put-kind-requires
+    put-requires
+    put-ended-requires-2
+    same-length
+    returns)

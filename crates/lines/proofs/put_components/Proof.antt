@@ -1,0 +1,72 @@
+-- `put_components`: the first line, then a line for each.
+-- Assumes nothing.
+use Prim.Native.Nat.{_-_, _≤_}
+use native.Mathlib.Omega.{arith}
+use Rattle.lists.specs.Lists.{from, joined}
+use Rattle.text.proofs.TextLaws.{ToCome}
+use Rattle.lines.specs.Lines.{componentLine}
+use Rattle.lines.proofs.LinesLaws.{both, begun-lines, next-line, no-line}
+use borrow.Author.Needs.{needs}
+use Rattle.lines.proofs.put_components.Statement.{statement}
+use Rattle.lines.proofs.put_components.Tie as tie
+
+abbrev Inv-loop : tie.InvT-loop
+Inv-loop out₀ at components count next₀ i₀ out next i =
+    (i ≤ count) × ToCome out₀ next₀ (joined (componentLine components) (from 0 count)) out next (joined (componentLine components) (from i (count - i)))
+
+abbrev μ-loop : tie.MeasureT-loop
+μ-loop out₀ at components count next₀ i₀ out next i = count - i
+
+slice-aggregate-put-counted : tie.Need-slice-aggregate-put-counted Inv-loop μ-loop
+slice-aggregate-put-counted c = search needs
+
+put-counted-requires : tie.Need-put-counted-requires Inv-loop μ-loop
+put-counted-requires c κs = search needs
+
+loop-holds : tie.Need-loop-holds Inv-loop μ-loop
+loop-holds c =
+    let a = c .before .before .before .before .before .before .before .args in
+    let h = c .before .before .put-counted in
+    (omega arith, begun-lines (componentLine (a .components .now)) (a .count) (h .ensures))
+
+put-component-requires : tie.Need-put-component-requires Inv-loop μ-loop
+put-component-requires c κs = search needs
+
+add-i : tie.Need-add-i Inv-loop μ-loop
+add-i c = search needs
+
+loop-less : tie.Need-loop-less Inv-loop μ-loop
+loop-less c = search needs
+
+loop-again : tie.Need-loop-again Inv-loop μ-loop
+loop-again c =
+    let a = c .before .before .before .before .before .before .before .before .before .before .before .before .before .args in
+    let s = c .before .before .before .before .before .loop in
+    let r = c .before .before .put-component in
+    (omega arith, next-line (componentLine (a .components .now)) (s .i) (a .count) (omega arith) (s .inv .1) (r .ensures))
+
+same-length : tie.Need-same-length Inv-loop μ-loop
+same-length c = search needs
+
+returns : tie.Need-returns Inv-loop μ-loop
+returns c =
+    let a = c .before .before .before .before .before .before .before .before .before .args in
+    let h = c .before .before .before .before .put-counted in
+    let s = c .before .loop in
+    both (h .ensures) (no-line (componentLine (a .components .now)) (s .i) (a .count) (omega arith) (s .inv .1))
+
+pub put-components-spec : {M : Type 1} → statement M
+put-components-spec =
+    tie.close
+    (tie.spec
+    Inv-loop
+    μ-loop
+    slice-aggregate-put-counted
+    put-counted-requires
+    loop-holds
+    put-component-requires
+    add-i
+    loop-less
+    loop-again
+    same-length
+    returns)

@@ -1,0 +1,24 @@
+-- `put_net`: the components, then the wires.
+-- Assumes nothing.
+use Rattle.lines.proofs.LinesLaws.{both}
+use borrow.Author.Needs.{needs}
+use Rattle.lines.proofs.put_net.Statement.{statement}
+use Rattle.lines.proofs.put_net.Tie as tie
+
+put-components-requires : tie.Need-put-components-requires
+put-components-requires c κs = search needs
+
+put-wires-requires : tie.Need-put-wires-requires
+put-wires-requires c κs = search needs
+
+same-length : tie.Need-same-length
+same-length c = search needs
+
+returns : tie.Need-returns
+returns c =
+    let p = c .before .before .before .before .before .before .put-components in
+    let w = c .before .before .put-wires in
+    both (p .ensures) (w .ensures)
+
+pub put-net-spec : {M : Type 1} → statement M
+put-net-spec = tie.close (tie.spec put-components-requires put-wires-requires same-length returns)

@@ -1,0 +1,165 @@
+// The lines of the listing in a lent buffer. Rule: docs/SPECIFICATION.md, "The lamp drawing and marked cases".
+ghost use mathlib.Core.Path.{_≡_};
+ghost use mathlib.Core.List.{[], _∷_, _++_};
+ghost use Prim.Native.Nat.{_≤_, _<_};
+ghost use lib.ListN.{length, getD, take};
+ghost use Rattle.primitive.specs.Kinds.{kindOf};
+ghost use Rattle.text.specs.Text.{numeral};
+ghost use Rattle.lines.specs.Lines.{nameOf, componentLine, componentsText, wireLine, wiresText, roundLine, refusedLine, Puts};
+use primitive::Refusal;
+use tables::Counts;
+
+// A number and a byte.
+fn put_ended(out: &mut [u8], at: usize, number: u64, byte: u8) -> usize
+    ensures { λ r. ⌜ Puts (now (out .entry)) at (numeral number ++ (byte ∷ [])) (now (out .exit)) r ⌝ }
+{
+    let next = text::put_number(out, at, number);
+    text::put(out, next, byte)
+}
+
+// The name of a kind below 7. The kind 0 is never listed.
+fn put_gate(out: &mut [u8], at: usize, kind: u64) -> usize
+    requires { ⌜ kind < 7 ⌝ }
+    ensures { λ r. ⌜ Puts (now (out .entry)) at (nameOf (kindOf kind)) (now (out .exit)) r ⌝ }
+{
+    match kind {
+        1 => text::put_bytes(out, at, b"And"),
+        2 => text::put_bytes(out, at, b"Or"),
+        3 => text::put_bytes(out, at, b"Not"),
+        4 => text::put_bytes(out, at, b"Nand"),
+        5 => text::put_bytes(out, at, b"Nor"),
+        6 => text::put_bytes(out, at, b"Xor"),
+        _ => text::put_bytes(out, at, b""),
+    }
+}
+
+// The name of a kind from 7 on. Past 13 there is none.
+fn put_device(out: &mut [u8], at: usize, kind: u64) -> usize
+    requires { ⌜ 7 ≤ kind ⌝ }
+    ensures { λ r. ⌜ Puts (now (out .entry)) at (nameOf (kindOf kind)) (now (out .exit)) r ⌝ }
+{
+    match kind {
+        7 => text::put_bytes(out, at, b"Switch"),
+        8 => text::put_bytes(out, at, b"Input"),
+        9 => text::put_bytes(out, at, b"Output"),
+        10 => text::put_bytes(out, at, b"Splitter"),
+        11 => text::put_bytes(out, at, b"Joiner"),
+        12 => text::put_bytes(out, at, b"Clock"),
+        13 => text::put_bytes(out, at, b"Const"),
+        _ => text::put_bytes(out, at, b""),
+    }
+}
+
+// The name of a kind.
+fn put_kind(out: &mut [u8], at: usize, kind: u64) -> usize
+    ensures { λ r. ⌜ Puts (now (out .entry)) at (nameOf (kindOf kind)) (now (out .exit)) r ⌝ }
+{
+    if kind < 7 {
+        return put_gate(out, at, kind);
+    }
+    put_device(out, at, kind)
+}
+
+// A component: its index, its kind and its id.
+fn put_component(out: &mut [u8], at: usize, components: &[u64], i: usize) -> usize
+    requires { ⌜ i < 65536 ⌝ }
+    ensures { λ r. ⌜ Puts (now (out .entry)) at (componentLine (now (components .entry)) i) (now (out .exit)) r ⌝ }
+{
+    let kind = tables::word_of(components, i, 0);
+    let id = tables::word_of(components, i, 1);
+    let index = put_ended(out, at, i as u64, b' ');
+    let named = put_kind(out, index, kind);
+    let blank = text::put(out, named, b' ');
+    put_ended(out, blank, id, b'\n')
+}
+
+// A word of a table of wires.
+fn wire_word(wires: &[u16], place: usize) -> u64
+    ensures { λ r. ⌜ r ≡ getD (now (wires .entry)) place 0 ⌝ }
+{
+    tables::entry(wires, place) as u64
+}
+
+// A wire: the port it leaves and the port it enters.
+fn put_wire(out: &mut [u8], at: usize, wires: &[u16], k: usize) -> usize
+    requires { ⌜ k < 65536 ⌝ }
+    ensures { λ r. ⌜ Puts (now (out .entry)) at (wireLine (now (wires .entry)) k) (now (out .exit)) r ⌝ }
+{
+    let left = put_ended(out, at, wire_word(wires, 4 * k), b'.');
+    let port = put_ended(out, left, wire_word(wires, 4 * k + 1), b' ');
+    let entered = put_ended(out, port, wire_word(wires, 4 * k + 2), b'.');
+    put_ended(out, entered, wire_word(wires, 4 * k + 3), b'\n')
+}
+
+// A word and how many.
+fn put_counted(out: &mut [u8], at: usize, word: &[u8], count: usize) -> usize
+    ensures { λ r. ⌜ Puts (now (out .entry)) at (now (word .entry) ++ numeral count ++ (10 ∷ [])) (now (out .exit)) r ⌝ }
+{
+    let named = text::put_bytes(out, at, word);
+    put_ended(out, named, count as u64, b'\n')
+}
+
+// The components: how many, and a line for each.
+fn put_components(out: &mut [u8], at: usize, components: &[u64], count: usize) -> usize
+    requires { ⌜ count ≤ 256 ⌝ }
+    ensures { λ r. ⌜ Puts (now (out .entry)) at (componentsText (now (components .entry)) count) (now (out .exit)) r ⌝ }
+{
+    let mut next = put_counted(out, at, b"components ", count);
+    let mut i: usize = 0;
+    while i < count {
+        next = put_component(out, next, components, i);
+        i += 1;
+    }
+    next
+}
+
+// The wires: how many, and a line for each.
+fn put_wires(out: &mut [u8], at: usize, wires: &[u16], count: usize) -> usize
+    requires { ⌜ count ≤ 1024 ⌝ }
+    ensures { λ r. ⌜ Puts (now (out .entry)) at (wiresText (now (wires .entry)) count) (now (out .exit)) r ⌝ }
+{
+    let mut next = put_counted(out, at, b"wires ", count);
+    let mut k: usize = 0;
+    while k < count {
+        next = put_wire(out, next, wires, k);
+        k += 1;
+    }
+    next
+}
+
+// The components and the wires of a net, whose counts are within the limits.
+pub fn put_net(
+    out: &mut [u8],
+    at: usize,
+    components: &[u64],
+    wires: &[u16],
+    counts: Counts,
+) -> usize
+    requires { ⌜ (counts .components ≤ 256) × (counts .wires ≤ 1024) ⌝ }
+    ensures { λ r. ⌜ Puts (now (out .entry)) at (componentsText (now (components .entry)) (counts .components) ++ wiresText (now (wires .entry)) (counts .wires)) (now (out .exit)) r ⌝ }
+{
+    let next = put_components(out, at, components, counts.components);
+    put_wires(out, next, wires, counts.wires)
+}
+
+// A round, and the current list that it leaves.
+pub fn put_round(out: &mut [u8], at: usize, round: u64, current: &[u16], count: usize) -> usize
+    requires { ⌜ count ≤ length (now current) ⌝ }
+    ensures { λ r. ⌜ Puts (now (out .entry)) at (roundLine round (take count (now (current .entry)))) (now (out .exit)) r ⌝ }
+{
+    let named = text::put_bytes(out, at, b"round ");
+    let numbered = text::put_number(out, named, round);
+    let next = text::put_bytes(out, numbered, b" next");
+    let listed = text::put_shorts(out, next, &current[..count]);
+    text::put(out, listed, b'\n')
+}
+
+// The line of a refused file: what and where.
+pub fn put_refused(out: &mut [u8], at: usize, refusal: Refusal) -> usize
+    ensures { λ r. ⌜ Puts (now (out .entry)) at (refusedLine refusal) (now (out .exit)) r ⌝ }
+{
+    let named = text::put_bytes(out, at, b"refused ");
+    let numbered = text::put_number(out, named, refusal.number as u64);
+    let parted = text::put_bytes(out, numbered, b" at ");
+    put_ended(out, parted, refusal.position as u64, b'\n')
+}

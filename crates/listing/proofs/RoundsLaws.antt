@@ -1,0 +1,95 @@
+-- A round of a net as two calls, and the loop that writes the rounds.
+-- Assumes nothing.
+use mathlib.Core.Path.{_≡_, refl, sym, ap, subst, _∙_}
+use mathlib.Core.Bool.{Bool, true, false, cond, not, _&&_}
+use mathlib.Core.List.{List, [], _∷_, _++_}
+use Prim.Native.Nat.{ℕ, suc, _+_, _-_, _≤_, _<_}
+use native.Mathlib.Omega.{arith}
+use borrow.Author.Tests.{ltb-false}
+use lib.ListN.{length}
+use lib.Dec.{eqb, ltb}
+use Rattle.value.specs.Value.{level}
+use Rattle.primitive.specs.Given.{Given, done, declined, refusedBy, giving}
+use Rattle.primitive.proofs.GivenLaws.{done-declined}
+use Rattle.tables.specs.declared.Counts.{Counts}
+use Rattle.tables.specs.declared.Answer.{Answer}
+use Rattle.tables.specs.declared.Answer.the-variants.{Done, Refused}
+use Rattle.tables.specs.Tables.{Tables, currentList, answerGives, countsAfter}
+use Rattle.net.specs.Net.{netNumber}
+use Rattle.simulator.specs.declared.Calm.{Calm}
+use Rattle.simulator.specs.declared.Calm.the-variants.{Is as CalmIs}
+use Rattle.simulator.specs.Round.{calm}
+use Rattle.simulator.specs.Calls.{roundTables, Rounds}
+use Rattle.simulator.specs.Questions.{AsksCalm}
+use Rattle.simulator.proofs.AnswersLaws.{calmGives-is}
+use Rattle.simulator.proofs.CallsLaws.{counted}
+use Rattle.simulator.proofs.Kept.{roundTables-net}
+use Rattle.text.specs.Text.{written, placeAfter}
+use Rattle.text.proofs.TextLaws.{ToCome, begun, put-piece}
+use Rattle.lines.specs.Lines.{roundLine, Puts}
+use Rattle.listing.specs.Listing.{fresh, ending, rounds, calmOf, RoundMade}
+
+-- One round: the counts are those of the answer, and calm is asked of the tables that are left.
+module _ (T U : Tables) (net : netNumber T ≡ 0) where
+  -- A round of a net is not refused, so that the counts before it are not asked for.
+  round-counts : (a : Answer) (xs : List ℕ) → answerGives a ≡ giving (netNumber T) xs → (m k : Counts) → countsAfter a m ≡ countsAfter a k
+  round-counts (Done n) xs e m k = refl
+  round-counts (Refused x) xs e m k = absurd (done-declined xs x (sym (e ∙ ap (λ (j : ℕ). giving j xs) net)))
+
+  calm-net : (W : Tables) → netNumber W ≡ 0 → (q : Calm) → AsksCalm W q → calmOf q ≡ calm W
+  calm-net W z q e =
+      let g = done (level (calm W) ∷ []) in
+      ap calmOf (calmGives-is q (CalmIs (calm W)) (e ∙ ap (λ (j : ℕ). cond (eqb j 0) g (declined (refusedBy j))) z))
+
+  pub rounded : (a : Answer) (m : Counts) (q : Calm) (b : Bool) → Rounds 0 T a (counted U (countsAfter a (T .counts)))
+      → m ≡ countsAfter a (fresh .counts) → AsksCalm (counted U m) q → b ≡ calmOf q → RoundMade T (counted U m) b
+  rounded a m q b p d f g =
+      let made : counted U m ≡ roundTables T 0 = ap (counted U) (d ∙ round-counts a _ (p .0) (fresh .counts) (T .counts)) ∙ p .1 in
+      let z : netNumber (counted U m) ≡ 0 = ap netNumber made ∙ roundTables-net T 0 net in
+      record { tables = made; calmly = g ∙ calm-net (counted U m) z q f }
+
+-- What is still to be written: how the rounds end, or at most k rounds more, the next of them round r.
+abbrev pub later : Bool → ℕ → ℕ → Tables → List ℕ
+later b k r T = cond b (ending true) (rounds k r T)
+
+-- The tables after a round are a net.
+pub net-left : (T U : Tables) (c : Bool) → netNumber T ≡ 0 → RoundMade T U c → netNumber U ≡ 0
+net-left T U c z h = ap netNumber (h .tables) ∙ roundTables-net T 0 z
+
+-- One turn of the loop.
+module _ (T U : Tables) (c : Bool) (h : RoundMade T U c) (r : ℕ) (less : r < 16) where
+  rounds-step : rounds (16 - r) (r + 1) T ≡ roundLine (r + 1) (currentList U) ++ later c (16 - (r + 1)) (r + 1 + 1) U
+  unfolding rounds
+  rounds-step =
+      let d : 16 - r ≡ suc (16 - (r + 1)) = omega arith in
+      let e : suc (r + 1) ≡ r + 1 + 1 = omega arith in
+      rw (d, sym (h .tables), sym (h .calmly), e)
+
+  pub round-put : {t bs out new : List ℕ} {at next after : ℕ} (b : Bool) → b ≡ false
+      → ToCome t at bs out next (later b (16 - r) (r + 1) T) → Puts out next (roundLine (r + 1) (currentList U)) new after
+      → ToCome t at bs new after (later c (16 - (r + 1)) (r + 1 + 1) U)
+  round-put {t} {bs} {out} {new} {at} {next} {after} b going so-far p =
+      let e : later b (16 - r) (r + 1) T ≡ roundLine (r + 1) (currentList U) ++ later c (16 - (r + 1)) (r + 1 + 1) U =
+      ap (λ (x : Bool). later x (16 - r) (r + 1) T) going ∙ rounds-step in
+      put-piece t bs out new (roundLine (r + 1) (currentList U)) (later c (16 - (r + 1)) (r + 1 + 1) U) at next after
+      (subst (ToCome t at bs out next) e so-far) (p .place) (p .buffer)
+
+-- The loop begins inside the buffer, and what ends it is the last to be written.
+pub begun-inside : (t bs : List ℕ) (at : ℕ) → at ≤ length t → ToCome t at bs t at bs
+begun-inside t bs at h = begun t bs at at (omega arith)
+
+last-part : {t bs out rest u : List ℕ} {at next m : ℕ} → ToCome t at bs out next rest → Puts out next rest u m → Puts t at bs u m
+last-part h p = record { place = omega (arith, p .place, h .place, h .same-length); buffer = p .buffer ∙ h .buffer }
+
+last-rest : (b : Bool) (r : ℕ) (T : Tables) → (not b && ltb r 16) ≡ false → later b (16 - r) (r + 1) T ≡ ending b
+unfolding rounds
+last-rest true r T e = refl
+last-rest false r T e =
+    let h : 16 ≤ r = ltb-false r 16 e in
+    let d : 16 - r ≡ 0 = omega arith in
+    rw d
+
+pub rounds-end : {t bs out u : List ℕ} {at next m : ℕ} (b : Bool) (r : ℕ) (T : Tables) → (not b && ltb r 16) ≡ false
+    → ToCome t at bs out next (later b (16 - r) (r + 1) T) → Puts out next (ending b) u m → Puts t at bs u m
+rounds-end {t} {bs} {out} {u} {at} {next} {m} b r T e so-far p =
+    last-part (subst (ToCome t at bs out next) (last-rest b r T e) so-far) p

@@ -1,0 +1,66 @@
+-- `round_left`: a round of a net is made, and leaves a net, so that calm is answered.
+-- Assumes nothing.
+use Rattle.tables.specs.Tables.{tablesOf}
+use Rattle.listing.proofs.RoundsLaws.{rounded}
+use borrow.Author.Needs.{needs}
+use Rattle.listing.proofs.round_left.Statement.{statement}
+use Rattle.listing.proofs.round_left.Tie as tie
+
+round-requires : tie.Need-round-requires
+round-requires c κs = search needs
+
+counts-of-requires : tie.Need-counts-of-requires
+counts-of-requires c κs = search needs
+
+is-calm-requires : tie.Need-is-calm-requires
+is-calm-requires c κs = search needs
+
+calm-of-requires : tie.Need-calm-of-requires
+calm-of-requires c κs = search needs
+
+same-length : tie.Need-same-length
+same-length c = search needs
+
+same-length-2 : tie.Need-same-length-2
+same-length-2 c = search needs
+
+same-length-3 : tie.Need-same-length-3
+same-length-3 c = search needs
+
+same-length-4 : tie.Need-same-length-4
+same-length-4 c = search needs
+
+same-length-5 : tie.Need-same-length-5
+same-length-5 c = search needs
+
+returns : tie.Need-returns
+returns c =
+    let s = c .before .before .before .before .before .before .before .before .before .before .before .before .before .before .before .before .before .before .before .before .before .before .before .before .before .before .before .before .before .before .before in
+    let a = s .args in
+    let r = c .before .before .before .before .before .before .before .before .before .before .before .before .before .before .before .before .before .before .round in
+    let m = c .before .before .before .before .before .before .before .counts-of in
+    let q = c .before .is-calm in
+    let b = c .calm-of in
+    let T =
+    tablesOf (a .components .now) (a .inputs .now) (a .outputs .now) (a .wires .now) (a .current .now) (a .following .now)
+    (a .standing .now) (a .counts) in
+    let U =
+    tablesOf (a .components .now) (r .last .1 .0) (r .last .1 .1 .0) (a .wires .now) (r .last .1 .1 .1 .1 .0)
+    (r .last .1 .1 .1 .1 .1 .0) (r .last .1 .1 .1 .1 .1 .1 .0) (m .result) in
+    rounded T U (s .pre) (r .result) (m .result) (q .result) (b .result) (r .ensures) (m .ensures) (q .ensures)
+    (b .ensures)
+
+pub round-left-spec : {M : Type 1} → statement M
+round-left-spec =
+    tie.close
+    (tie.spec
+    round-requires
+    counts-of-requires
+    is-calm-requires
+    calm-of-requires
+    same-length
+    same-length-2
+    same-length-3
+    same-length-4
+    same-length-5
+    returns)

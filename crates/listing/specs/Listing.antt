@@ -1,0 +1,55 @@
+-- The text of the listing, for every file. docs/SPECIFICATION.md, "The lamp drawing and marked cases".
+--   rounds k r T   at most k rounds at time 0 until calm, of tables T, the next of them round r
+--   listing file   the whole text
+-- Assumes nothing.
+use Prim.Native.Nat.{ℕ, zero, suc}
+use mathlib.Core.Path.{_≡_}
+use mathlib.Core.Bool.{Bool, true, false, cond}
+use mathlib.Core.List.{List, _++_}
+use lib.ListN.{replicate}
+use Rattle.component.specs.declared.Verdict.{Verdict}
+use Rattle.component.specs.declared.Verdict.the-variants.{Accepted, Refused}
+use Rattle.tables.specs.Tables.{Tables, countsOf, tablesOf, currentList}
+use Rattle.load.specs.Load.{loadVerdict, loadTables}
+use Rattle.simulator.specs.declared.Calm.{Calm}
+use Rattle.simulator.specs.declared.Calm.the-variants.{Is as CalmIs, Refused as NoCalm}
+use Rattle.simulator.specs.Round.{calm}
+use Rattle.simulator.specs.Calls.{roundTables}
+use Rattle.lines.specs.Lines.{ascii, componentsText, wiresText, roundLine, refusedLine}
+
+-- Tables of full size, every word 0.
+abbrev pub fresh : Tables
+fresh =
+    tablesOf (replicate 2048 0) (replicate 1024 0) (replicate 1024 0) (replicate 4096 0) (replicate 256 0) (replicate 256 0)
+    (replicate 256 0) (countsOf 0 0 0 0 0 0 0)
+
+-- How the rounds end.
+abbrev pub ending : Bool → List ℕ
+ending b = cond b (ascii "calm\n") (ascii "not calm\n")
+
+-- Rounds at time 0 until calm, each with the current list that it leaves: at most k of them, the next is round r.
+unfoldable pub rounds : ℕ → ℕ → Tables → List ℕ
+rounds zero r T = ending false
+rounds (suc k) r T =
+    let U = roundTables T 0 in
+    roundLine r (currentList U) ++ cond (calm U) (ending true) (rounds k (suc r) U)
+
+-- The components and wires of a loaded drawing, and its rounds, at most 16; or the line of a refused file.
+abbrev pub listed : Verdict → Tables → List ℕ
+listed Accepted T =
+    componentsText (T .components) (T .counts .components) ++ wiresText (T .wires) (T .counts .wires) ++ rounds 16 1 T
+listed (Refused x) T = refusedLine x
+
+-- The listing of a file.
+unfoldable pub listing : List ℕ → List ℕ
+listing file = listed (loadVerdict file fresh) (loadTables file fresh)
+
+-- Words of inner contracts. Calm or not; a refusal, which a net never gets, ends the rounds.
+abbrev pub calmOf : Calm → Bool
+calmOf (CalmIs b) = b
+calmOf (NoCalm x) = true
+
+-- What the function of one round promises: U are the tables after a round of T at time 0, and c says whether it left calm.
+pub record RoundMade (T U : Tables) (c : Bool) : Type 0 where
+  pub tables : U ≡ roundTables T 0
+  pub calmly : c ≡ calm U

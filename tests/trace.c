@@ -1,0 +1,547 @@
+/*
+ * The trace program: speaks the language of docs/TRACE.md over the calls of host/berxundar.h, so that what is compared with the Rust is
+ * what a host calls.
+ *
+ * Built with -DGUARDED each table, file and answer is lent in memory of its own that ends, or with -DGUARDED=2 starts, at a page that
+ * nobody may touch, and has no word more than is lent: a call that reads or writes past what it is lent ends the program.
+ */
+#include "berxundar.h"
+
+/* Of the C library, declared here and not by its own headers: this is also compiled where those are another machine's. */
+long read(int file, void *to, size_t count);
+long write(int file, const void *from, size_t count);
+
+enum { COMPONENTS, INPUTS, OUTPUTS, WIRES, CURRENT, FOLLOWING, STANDING, TABLES, LIST = TABLES, LENT };
+
+/* A file of more bytes is read to its end, and these stand for it: they are too many as well. */
+#define LONGEST 30000
+
+/* The most values of a side that `X` takes. */
+#define VALUES 256
+
+/* 2^32 commands are enough. */
+#define COMMANDS UINT64_C(4294967296)
+
+static const size_t full_words[LENT] = { BERXUNDAR_COMPONENT_WORDS, BERXUNDAR_INPUTS, BERXUNDAR_OUTPUTS, BERXUNDAR_WIRE_WORDS,
+    BERXUNDAR_NAMES, BERXUNDAR_NAMES, BERXUNDAR_NAMES, BERXUNDAR_NAMES };
+static const size_t full_entries[TABLES] = { BERXUNDAR_COMPONENTS, BERXUNDAR_INPUTS, BERXUNDAR_OUTPUTS, BERXUNDAR_WIRES,
+    BERXUNDAR_NAMES, BERXUNDAR_NAMES, BERXUNDAR_NAMES };
+static const char *const table_names[TABLES]
+    = { "components", "inputs", "outputs", "wires", "current", "following", "standing" };
+
+static berxundar_net net;
+static uint16_t list[BERXUNDAR_NAMES];
+static uint64_t found[2];
+static uint8_t file[LONGEST];
+static size_t lent[LENT];
+
+/* ---- Output: a command's lines, written before the next command is read. ---- */
+
+static char out[65536];
+static size_t out_length;
+
+static void flush(void)
+{
+    size_t done = 0;
+    while (done < out_length) {
+        long step = write(1, out + done, out_length - done);
+        if (step <= 0)
+            break;
+        done += (size_t)step;
+    }
+    out_length = 0;
+}
+
+static void put(char c)
+{
+    if (out_length == sizeof out)
+        flush();
+    out[out_length++] = c;
+}
+
+static void put_words(const char *words)
+{
+    while (*words)
+        put(*words++);
+}
+
+static void put_number(uint64_t number)
+{
+    char digits[20];
+    size_t count = 0;
+    do {
+        digits[count++] = (char)('0' + number % 10);
+        number /= 10;
+    } while (number);
+    put(' ');
+    while (count)
+        put(digits[--count]);
+}
+
+static void line(const char *word, size_t count, const uint64_t *numbers)
+{
+    size_t i;
+    put_words(word);
+    for (i = 0; i < count; i++)
+        put_number(numbers[i]);
+    put('\n');
+}
+
+static void short_line(const char *word, size_t count, const uint16_t *numbers)
+{
+    size_t i;
+    put_words(word);
+    for (i = 0; i < count; i++)
+        put_number(numbers[i]);
+    put('\n');
+}
+
+static void pair(const char *word, uint64_t a, uint64_t b)
+{
+    uint64_t numbers[2];
+    numbers[0] = a;
+    numbers[1] = b;
+    line(word, 2, numbers);
+}
+
+static void triple(const char *word, uint64_t a, uint64_t b, uint64_t c)
+{
+    uint64_t numbers[3];
+    numbers[0] = a;
+    numbers[1] = b;
+    numbers[2] = c;
+    line(word, 3, numbers);
+}
+
+/* ---- Input: no further than the command at hand. ---- */
+
+static int take(void *to, size_t count)
+{
+    size_t done = 0;
+    while (done < count) {
+        long step = read(0, (char *)to + done, count - done);
+        if (step <= 0)
+            return 0;
+        done += (size_t)step;
+    }
+    return 1;
+}
+
+static uint64_t number_in(const uint8_t *bytes, size_t count)
+{
+    uint64_t number = 0;
+    while (count)
+        number = number * 256 + bytes[--count];
+    return number;
+}
+
+/* Reads a file: its length, then its bytes. */
+static int take_file(size_t *length)
+{
+    uint8_t head[4];
+    uint64_t left;
+    if (!take(head, 4))
+        return 0;
+    left = number_in(head, 4);
+    *length = left < LONGEST ? (size_t)left : LONGEST;
+    while (LONGEST < left) {
+        if (!take(file, LONGEST))
+            return 0;
+        left -= LONGEST;
+    }
+    return take(file, (size_t)left);
+}
+
+/* ---- Memory that is lent. ---- */
+
+#ifdef GUARDED
+void *mmap(void *at, size_t length, int allowed, int how, int file_number, long offset);
+int mprotect(void *at, size_t length, int allowed);
+
+#define PAGE 4096
+#define ROOM (8 * PAGE)
+#define PLACES 16
+
+static uint8_t *places[PLACES];
+
+/* A copy of so many bytes between two pages that nobody may touch, against one of them. */
+static void *lend(int place, const void *own, size_t bytes)
+{
+    size_t i;
+    uint8_t *at;
+    if (!places[place]) {
+        places[place] = (uint8_t *)mmap(0, ROOM + 2 * PAGE, 3, 0x22, -1, 0);
+        mprotect(places[place], PAGE, 0);
+        mprotect(places[place] + PAGE + ROOM, PAGE, 0);
+    }
+    at = GUARDED == 2 ? places[place] + PAGE : places[place] + PAGE + ROOM - bytes;
+    for (i = 0; i < bytes; i++)
+        at[i] = ((const uint8_t *)own)[i];
+    return at;
+}
+
+static void back(void *own, const void *at, size_t bytes)
+{
+    size_t i;
+    for (i = 0; i < bytes; i++)
+        ((uint8_t *)own)[i] = ((const uint8_t *)at)[i];
+}
+#else
+static void *lend(int place, void *own, size_t bytes)
+{
+    (void)place;
+    (void)bytes;
+    return own;
+}
+
+static void back(void *own, const void *at, size_t bytes)
+{
+    (void)own;
+    (void)at;
+    (void)bytes;
+}
+#endif
+
+/* The tables as they are lent to one call. */
+static struct {
+    uint64_t *components, *inputs, *outputs, *counts, *found;
+    uint16_t *wires, *current, *following, *standing, *list;
+    uint8_t *file;
+} now;
+
+static void lend_all(size_t found_words, size_t file_length)
+{
+    now.components = (uint64_t *)lend(0, net.components, 8 * lent[COMPONENTS]);
+    now.inputs = (uint64_t *)lend(1, net.inputs, 8 * lent[INPUTS]);
+    now.outputs = (uint64_t *)lend(2, net.outputs, 8 * lent[OUTPUTS]);
+    now.wires = (uint16_t *)lend(3, net.wires, 2 * lent[WIRES]);
+    now.current = (uint16_t *)lend(4, net.current, 2 * lent[CURRENT]);
+    now.following = (uint16_t *)lend(5, net.following, 2 * lent[FOLLOWING]);
+    now.standing = (uint16_t *)lend(6, net.standing, 2 * lent[STANDING]);
+    now.list = (uint16_t *)lend(7, list, 2 * lent[LIST]);
+    now.counts = (uint64_t *)lend(8, net.counts, sizeof net.counts);
+    now.found = (uint64_t *)lend(9, found, 8 * found_words);
+    now.file = (uint8_t *)lend(10, file, file_length);
+}
+
+static void back_all(size_t found_words)
+{
+    back(net.components, now.components, 8 * lent[COMPONENTS]);
+    back(net.inputs, now.inputs, 8 * lent[INPUTS]);
+    back(net.outputs, now.outputs, 8 * lent[OUTPUTS]);
+    back(net.wires, now.wires, 2 * lent[WIRES]);
+    back(net.current, now.current, 2 * lent[CURRENT]);
+    back(net.following, now.following, 2 * lent[FOLLOWING]);
+    back(net.standing, now.standing, 2 * lent[STANDING]);
+    back(list, now.list, 2 * lent[LIST]);
+    back(net.counts, now.counts, sizeof net.counts);
+    back(found, now.found, 8 * found_words);
+}
+
+#define NOW                                                                                                                         \
+    now.components, lent[COMPONENTS], now.inputs, lent[INPUTS], now.outputs, lent[OUTPUTS], now.wires, lent[WIRES], now.current,     \
+        lent[CURRENT], now.following, lent[FOLLOWING], now.standing, lent[STANDING], now.counts, BERXUNDAR_COUNTS
+
+/* ---- Commands: each answers 0 where the input ends inside it. ---- */
+
+static int judge(void)
+{
+    size_t length;
+    uint32_t answer;
+    if (!take_file(&length))
+        return 0;
+    lend_all(0, length);
+    answer = berxundar_judge(now.file, length);
+    pair("judge", berxundar_number(answer), berxundar_position(answer));
+    return 1;
+}
+
+static int load(void)
+{
+    size_t length;
+    uint32_t answer;
+    if (!take_file(&length))
+        return 0;
+    lend_all(0, length);
+    answer = berxundar_load(now.file, length, NOW);
+    back_all(0);
+    pair("load", berxundar_number(answer), berxundar_position(answer));
+    return 1;
+}
+
+static int run_round(void)
+{
+    uint8_t bytes[8];
+    uint32_t answer;
+    if (!take(bytes, 8))
+        return 0;
+    lend_all(0, 0);
+    answer = berxundar_round(NOW, number_in(bytes, 8));
+    back_all(0);
+    pair("round", berxundar_number(answer), berxundar_position(answer));
+    return 1;
+}
+
+static int edit(void)
+{
+    uint8_t bytes[10];
+    uint32_t answer;
+    if (!take(bytes, 10))
+        return 0;
+    lend_all(0, 0);
+    answer = berxundar_edit(NOW, (size_t)number_in(bytes, 2), number_in(bytes + 2, 8));
+    back_all(0);
+    pair("edit", berxundar_number(answer), berxundar_position(answer));
+    return 1;
+}
+
+static int run(void)
+{
+    uint8_t bytes[10];
+    uint32_t answer;
+    if (!take(bytes, 10))
+        return 0;
+    found[0] = found[1] = 0;
+    lend_all(2, 0);
+    answer = berxundar_run_until_calm(NOW, number_in(bytes, 8), (uint16_t)number_in(bytes + 8, 2), now.found, 2);
+    back_all(2);
+    triple("run", berxundar_number(answer), found[0], found[1]);
+    return 1;
+}
+
+static int ask_calm(void)
+{
+    uint32_t answer;
+    found[0] = 0;
+    lend_all(1, 0);
+    answer = berxundar_calm(NOW, now.found, 1);
+    back_all(1);
+    pair("calm", berxundar_number(answer), found[0]);
+    return 1;
+}
+
+static int ask_index(void)
+{
+    uint8_t bytes[4];
+    uint32_t answer;
+    if (!take(bytes, 4))
+        return 0;
+    found[0] = 0;
+    lend_all(1, 0);
+    answer = berxundar_index(NOW, (uint32_t)number_in(bytes, 4), now.found, 1);
+    back_all(1);
+    pair("index", berxundar_number(answer), found[0]);
+    return 1;
+}
+
+static int ask_value(void)
+{
+    uint8_t bytes[5];
+    uint32_t answer;
+    if (!take(bytes, 5))
+        return 0;
+    found[0] = found[1] = 0;
+    lend_all(2, 0);
+    answer = berxundar_value(NOW, bytes[0], (size_t)number_in(bytes + 1, 2), (size_t)number_in(bytes + 3, 2), now.found, 2);
+    back_all(2);
+    triple("value", berxundar_number(answer), found[0], found[1]);
+    return 1;
+}
+
+static int ask_list(int targets)
+{
+    uint8_t bytes[2];
+    uint32_t answer;
+    size_t index, i;
+    if (!take(bytes, 2))
+        return 0;
+    index = (size_t)number_in(bytes, 2);
+    found[0] = 0;
+    lend_all(1, 0);
+    answer = targets ? berxundar_targets(NOW, index, now.list, lent[LIST], now.found, 1)
+                     : berxundar_sources(NOW, index, now.list, lent[LIST], now.found, 1);
+    back_all(1);
+    put_words(targets ? "targets" : "sources");
+    put_number(berxundar_number(answer));
+    for (i = 0; i < found[0] && i < BERXUNDAR_NAMES; i++)
+        put_number(list[i]);
+    put('\n');
+    return 1;
+}
+
+/* So many values, each a number of 64 bits and a width of 8. */
+static int take_values(size_t *count, uint64_t *numbers, uint64_t *widths)
+{
+    uint8_t bytes[9];
+    size_t i;
+    if (!take(bytes, 2))
+        return 0;
+    *count = (size_t)number_in(bytes, 2);
+    if (VALUES < *count)
+        return 0;
+    for (i = 0; i < *count; i++) {
+        if (!take(bytes, 9))
+            return 0;
+        numbers[i] = number_in(bytes, 8);
+        widths[i] = bytes[8];
+    }
+    return 1;
+}
+
+static int evaluate(void)
+{
+    static uint64_t inputs[VALUES], entering[VALUES], outputs[VALUES], leaving[VALUES];
+    uint8_t head[23];
+    uint64_t *leave;
+    size_t n, m, i;
+    uint32_t answer;
+    if (!take(head, 23) || !take_values(&n, inputs, entering) || !take_values(&m, outputs, leaving))
+        return 0;
+    leave = (uint64_t *)lend(11, outputs, 8 * m);
+    answer = berxundar_evaluate(head[0], (uint16_t)number_in(head + 1, 2), (uint16_t)number_in(head + 3, 2),
+        (uint16_t)number_in(head + 5, 2), number_in(head + 7, 8), (uint64_t *)lend(12, inputs, 8 * n), n,
+        (uint64_t *)lend(13, entering, 8 * n), n, leave, m, (uint64_t *)lend(14, leaving, 8 * m), m, number_in(head + 15, 8));
+    back(outputs, leave, 8 * m);
+    put_words("evaluate");
+    put_number(berxundar_number(answer));
+    for (i = 0; i < m; i++)
+        put_number(outputs[i]);
+    put('\n');
+    return 1;
+}
+
+/* What is shown is the program's own tables, whatever is lent. */
+static int within(void)
+{
+    size_t i;
+    for (i = 0; i < TABLES; i++)
+        if (full_entries[i] < net.counts[i]) {
+            put_words("counts past the tables\n");
+            return 0;
+        }
+    return 1;
+}
+
+static void show_net(void)
+{
+    size_t i;
+    if (!within())
+        return;
+    line("net", 4, net.counts);
+    for (i = 0; i < net.counts[COMPONENTS]; i++)
+        line("component", 8, net.components + 8 * i);
+    for (i = 0; i < net.counts[WIRES]; i++)
+        short_line("wire", 4, net.wires + 4 * i);
+}
+
+static void show_tables(size_t inputs, size_t outputs, size_t current, size_t following, size_t standing, int all)
+{
+    line(table_names[INPUTS], inputs, net.inputs);
+    line(table_names[OUTPUTS], outputs, net.outputs);
+    if (all)
+        short_line(table_names[WIRES], BERXUNDAR_WIRE_WORDS, net.wires);
+    short_line(table_names[CURRENT], current, net.current);
+    short_line(table_names[FOLLOWING], following, net.following);
+    short_line(table_names[STANDING], standing, net.standing);
+}
+
+static void show_state(void)
+{
+    if (within())
+        show_tables((size_t)net.counts[INPUTS], (size_t)net.counts[OUTPUTS], (size_t)net.counts[CURRENT],
+            (size_t)net.counts[FOLLOWING], (size_t)net.counts[STANDING], 0);
+}
+
+static void show_all(void)
+{
+    line(table_names[COMPONENTS], BERXUNDAR_COMPONENT_WORDS, net.components);
+    show_tables(BERXUNDAR_INPUTS, BERXUNDAR_OUTPUTS, BERXUNDAR_NAMES, BERXUNDAR_NAMES, BERXUNDAR_NAMES, 1);
+}
+
+static void write_word(unsigned table, size_t at, uint64_t word)
+{
+    uint64_t *longs = table == COMPONENTS ? net.components : table == INPUTS ? net.inputs : net.outputs;
+    uint16_t *shorts = table == WIRES ? net.wires : table == CURRENT ? net.current : table == FOLLOWING ? net.following : net.standing;
+    if (TABLES <= table || full_words[table] <= at)
+        return;
+    if (table < WIRES)
+        longs[at] = word;
+    else if (word < 65536)
+        shorts[at] = (uint16_t)word;
+}
+
+static int write_one(void)
+{
+    uint8_t bytes[11];
+    if (!take(bytes, 11))
+        return 0;
+    write_word(bytes[0], (size_t)number_in(bytes + 1, 2), number_in(bytes + 3, 8));
+    return 1;
+}
+
+static int set_count(void)
+{
+    uint8_t bytes[9];
+    if (!take(bytes, 9))
+        return 0;
+    if (bytes[0] < TABLES)
+        net.counts[bytes[0]] = number_in(bytes + 1, 8);
+    return 1;
+}
+
+static int lend_less(void)
+{
+    uint8_t bytes[3];
+    size_t words;
+    if (!take(bytes, 3))
+        return 0;
+    words = (size_t)number_in(bytes + 1, 2);
+    if (bytes[0] < LENT)
+        lent[bytes[0]] = words < full_words[bytes[0]] ? words : full_words[bytes[0]];
+    return 1;
+}
+
+static int answer_one(uint8_t letter)
+{
+    switch (letter) {
+    case 'J': return judge();
+    case 'L': return load();
+    case 'N': show_net(); return 1;
+    case 'P': show_state(); return 1;
+    case 'A': show_all(); return 1;
+    case 'R': return run_round();
+    case 'E': return edit();
+    case 'U': return run();
+    case 'C': return ask_calm();
+    case 'I': return ask_index();
+    case 'V': return ask_value();
+    case 'S': return ask_list(0);
+    case 'T': return ask_list(1);
+    case 'X': return evaluate();
+    case 'W': return write_one();
+    case 'K': return set_count();
+    case 'Z': return lend_less();
+    default: return 0;
+    }
+}
+
+int main(void)
+{
+    size_t i, table;
+    uint64_t left;
+    uint8_t letter;
+    for (table = 0; table < TABLES; table++)
+        for (i = 0; i < full_words[table]; i++)
+            write_word((unsigned)table, i, 7);
+    for (table = 0; table < LENT; table++)
+        lent[table] = full_words[table];
+    for (left = COMMANDS; left && take(&letter, 1); left--) {
+        if (!answer_one(letter)) {
+            put_words("bad command\n");
+            flush();
+            break;
+        }
+        flush();
+    }
+    return 0;
+}
