@@ -24,15 +24,14 @@ use Rattle.component.specs.declared.Says.{Says}
 use Rattle.component.specs.declared.Says.the-variants.{Component, Connection, InputMap, OutputMap}
 use Rattle.component.specs.declared.Reading.{Reading}
 use Rattle.component.specs.declared.Reading.the-variants.{Taken, Refused}
-use Rattle.component.specs.declared.Seen.{Seen}
-use Rattle.component.specs.declared.Seen.the-variants.{Component as SeenComponent, Nothing}
+use Rattle.component.specs.declared.Stands.{Stands}
+use Rattle.component.specs.declared.Stands.the-variants.{Component as StandsComponent, Nothing}
 use Rattle.component.specs.declared.checks.Entry.{Entry}
 use Rattle.component.specs.declared.checks.Entry.the-variants.{Of, Nothing as NoEntry}
-use Rattle.component.specs.Record.{recordAt, formOf, ownerOf, idOf, fromOf, outputOf, toOf, inputOf, portOf, noRecord}
+use Rattle.component.specs.Record.{recordAt, fromOf, outputOf, toOf, inputOf, portOf, noRecord}
+use Rattle.component.specs.Reading.{idOf, ownerOf, formOf, apart, formBy, said, number, number3, StandsAs, EntryAs}
 use Rattle.component.specs.Record.{inputsOf, outputsOf, isPrimitive, composite}
-use Rattle.component.specs.Reading.{apart, formBy, said, number, number3, SeenAs}
 use Rattle.component.specs.Record.{hasId, entering, enters, enteringAs}
-use Rattle.component.specs.Reading.{EntryAs}
 use Rattle.component.specs.Drawing.{fromThere, portThere, toThere}
 use Rattle.component.specs.Drawing.{child, deepest, holds, deeper, outMaps, inputsBefore, outputsBefore}
 use Rattle.component.specs.Drawing.{fails3, fails4, fails5, fails6, fails7, fails8, fails9}
@@ -116,10 +115,10 @@ formBy-some x h = omega (arith, formBy-tag x)
 
 module _ (s : List ℕ) where
   -- 4: the first record is no component; it is one; a later one that is refused; one after a refused one; any other
-  pub fails4-first-none : (p : ℕ) (g : Seen) → p ≡ 0 → SeenAs g (recordAt s 0) → g ≡ Nothing → true ≡ fails4 (recordAt s) p
+  pub fails4-first-none : (p : ℕ) (g : Stands) → p ≡ 0 → StandsAs g (recordAt s 0) → g ≡ Nothing → true ≡ fails4 (recordAt s) p
   fails4-first-none p g z e h = rw (z, unseen-test (recordAt s 0) g e h)
 
-  pub fails4-first : (p o : ℕ) (i : Id) (f : Fields) (g : Seen) → p ≡ 0 → SeenAs g (recordAt s 0) → g ≡ SeenComponent o i f
+  pub fails4-first : (p o : ℕ) (i : Id) (f : Fields) (g : Stands) → p ≡ 0 → StandsAs g (recordAt s 0) → g ≡ StandsComponent o i f
       → false ≡ fails4 (recordAt s) p
   fails4-first p o i f g z e h = rw (z, seen-is (recordAt s 0) g e o i f h)
 
@@ -161,18 +160,18 @@ module _ (s : List ℕ) where
   holds-root zero o q b e h z = absurd (omega arith)
   holds-root (suc f) o q b e h z = rw z at e
 
-  pub holds-unseen : (f o q : ℕ) (g : Seen) (b : Bool) → holds (recordAt s) f o q ≡ b → 0 < f → (q ≡ 0 → ⊥)
-      → SeenAs g (recordAt s q) → g ≡ Nothing → false ≡ b
+  pub holds-unseen : (f o q : ℕ) (g : Stands) (b : Bool) → holds (recordAt s) f o q ≡ b → 0 < f → (q ≡ 0 → ⊥)
+      → StandsAs g (recordAt s q) → g ≡ Nothing → false ≡ b
   holds-unseen zero o q g b e h z d k = absurd (omega arith)
   holds-unseen (suc f) o q g b e h z d k = rw (ne-eqb q 0 z, unseen-test (recordAt s q) g d k) at e
 
-  pub holds-owner : (f o q m : ℕ) (i : Id) (w : Fields) (g : Seen) (b : Bool) → holds (recordAt s) f o q ≡ b → 0 < f → (q ≡ 0 → ⊥)
-      → SeenAs g (recordAt s q) → g ≡ SeenComponent m i w → m ≡ o → true ≡ b
+  pub holds-owner : (f o q m : ℕ) (i : Id) (w : Fields) (g : Stands) (b : Bool) → holds (recordAt s) f o q ≡ b → 0 < f → (q ≡ 0 → ⊥)
+      → StandsAs g (recordAt s q) → g ≡ StandsComponent m i w → m ≡ o → true ≡ b
   holds-owner zero o q m i w g b e h z d k j = absurd (omega arith)
   holds-owner (suc f) o q m i w g b e h z d k j = rw (ne-eqb q 0 z, seen-is (recordAt s q) g d m i w k, eq-eqb m o j) at e
 
-  pub holds-outer : (f o q m : ℕ) (i : Id) (w : Fields) (g : Seen) (b : Bool) → holds (recordAt s) f o q ≡ b → 0 < f → (q ≡ 0 → ⊥)
-      → SeenAs g (recordAt s q) → g ≡ SeenComponent m i w → (m ≡ o → ⊥) → holds (recordAt s) (f - 1) o m ≡ b
+  pub holds-outer : (f o q m : ℕ) (i : Id) (w : Fields) (g : Stands) (b : Bool) → holds (recordAt s) f o q ≡ b → 0 < f → (q ≡ 0 → ⊥)
+      → StandsAs g (recordAt s q) → g ≡ StandsComponent m i w → (m ≡ o → ⊥) → holds (recordAt s) (f - 1) o m ≡ b
   holds-outer zero o q m i w g b e h z d k j = absurd (omega arith)
   holds-outer (suc f) o q m i w g b e h z d k j =
       let v : suc f - 1 ≡ f = omega arith in
@@ -187,13 +186,13 @@ module _ (s : List ℕ) where
   deeper-root zero q b e h z = absurd (omega arith)
   deeper-root (suc d) q b e h z = rw z at e
 
-  pub deeper-unseen : (d q : ℕ) (g : Seen) (b : Bool) → deeper (recordAt s) d q ≡ b → 0 < d → (q ≡ 0 → ⊥)
-      → SeenAs g (recordAt s q) → g ≡ Nothing → false ≡ b
+  pub deeper-unseen : (d q : ℕ) (g : Stands) (b : Bool) → deeper (recordAt s) d q ≡ b → 0 < d → (q ≡ 0 → ⊥)
+      → StandsAs g (recordAt s q) → g ≡ Nothing → false ≡ b
   deeper-unseen zero q g b e h z i k = absurd (omega arith)
   deeper-unseen (suc d) q g b e h z i k = rw (ne-eqb q 0 z, unseen-test (recordAt s q) g i k) at e
 
-  pub deeper-outer : (d q m : ℕ) (i : Id) (w : Fields) (g : Seen) (b : Bool) → deeper (recordAt s) d q ≡ b → 0 < d → (q ≡ 0 → ⊥)
-      → SeenAs g (recordAt s q) → g ≡ SeenComponent m i w → deeper (recordAt s) (d - 1) m ≡ b
+  pub deeper-outer : (d q m : ℕ) (i : Id) (w : Fields) (g : Stands) (b : Bool) → deeper (recordAt s) d q ≡ b → 0 < d → (q ≡ 0 → ⊥)
+      → StandsAs g (recordAt s q) → g ≡ StandsComponent m i w → deeper (recordAt s) (d - 1) m ≡ b
   deeper-outer zero q m i w g b e h z j k = absurd (omega arith)
   deeper-outer (suc d) q m i w g b e h z j k =
       let v : suc d - 1 ≡ d = omega arith in
@@ -253,7 +252,7 @@ module _ (s : List ℕ) where
             fails5-held a l m = sym (fails5-pred ∙ rw (not-false b k, g, ne-eqb o (p - 1) l, ← m))
 
   -- 6 to 11 and 14: no component; a component
-  module _ (p : ℕ) (g : Seen) (e : SeenAs g (recordAt s p)) where
+  module _ (p : ℕ) (g : Stands) (e : StandsAs g (recordAt s p)) where
     module _ (h : g ≡ Nothing) where
       pub fails6-other : false ≡ fails6 (recordAt s) p
       fails6-other = rw (unseen-test (recordAt s p) g e h)
@@ -294,7 +293,7 @@ module _ (s : List ℕ) where
       pub fails14-other : (n : ℕ) → false ≡ fails14 (recordAt s) n p
       fails14-other n = rw (unseen-test (recordAt s p) g e h)
 
-    module _ (o : ℕ) (i : Id) (f : Fields) (h : g ≡ SeenComponent o i f) where
+    module _ (o : ℕ) (i : Id) (f : Fields) (h : g ≡ StandsComponent o i f) where
       form-is : eqb (formOf (recordAt s p)) 1 ≡ true
       form-is = rw (seen-is (recordAt s p) g e o i f h)
 

@@ -24,8 +24,8 @@ use Rattle.component.specs.declared.Says.{Says}
 use Rattle.component.specs.declared.Says.the-variants.{InputMap}
 use Rattle.component.specs.declared.Reading.{Reading}
 use Rattle.component.specs.declared.Reading.the-variants.{Taken, Refused}
-use Rattle.component.specs.Record.{recordAt, formOf, ownerOf}
-use Rattle.component.specs.Reading.{formBy, said}
+use Rattle.component.specs.Record.{recordAt}
+use Rattle.component.specs.Reading.{ownerOf, formOf, formBy, said}
 use Rattle.component.proofs.RecordLaws.{no-input-map, refused-is, taken-form, taken-owner}
 use Rattle.component.proofs.Says.{the-type}
 use Rattle.component.specs.Index.{nthOwned, putWord, putCount, widenLow, widenHigh, IsTable, IsRange}
@@ -471,8 +471,8 @@ pub record Widening (s : List ℕ) (n q : ℕ) (lo hi : List ℕ) : Type 0 where
   pub hi-size : length hi ≡ 256
   pub reached : q ≤ n
   pub within : (c : ℕ) → c < 256 → getD hi c 0 ≤ q
-  pub least : (p c : ℕ) → p < q → c < 256 → ownedAs 3 c (recordAt s p) ≡ true → getD lo c 0 ≤ p
-  pub most : (p c : ℕ) → p < q → c < 256 → ownedAs 3 c (recordAt s p) ≡ true → p < getD hi c 0
+  pub starts : (p c : ℕ) → p < q → c < 256 → ownedAs 3 c (recordAt s p) ≡ true → getD lo c 0 ≤ p
+  pub ends : (p c : ℕ) → p < q → c < 256 → ownedAs 3 c (recordAt s p) ≡ true → p < getD hi c 0
 
 module _ (s : List ℕ) (n : ℕ) where
   pub widening-start : (lo hi : List ℕ) → length lo ≡ 256 → length hi ≡ 256
@@ -482,8 +482,8 @@ module _ (s : List ℕ) (n : ℕ) where
     hi-size = d;
     reached = omega arith;
     within = λ c g. omega (arith, h c (omega arith));
-    least = λ p c l g o. absurd (omega arith);
-    most = λ p c l g o. absurd (omega arith);
+    starts = λ p c l g o. absurd (omega arith);
+    ends = λ p c l g o. absurd (omega arith);
   }
 
   pub widening-end : (q : ℕ) (lo hi : List ℕ) → Widening s n q lo hi → n ≤ q → IsRange s n lo hi
@@ -491,8 +491,8 @@ module _ (s : List ℕ) (n : ℕ) where
     lo-size = h .lo-size;
     hi-size = h .hi-size;
     within = λ c g. omega (arith, h .within c g, h .reached);
-    least = λ p c l g o. h .least p c (omega arith) g o;
-    most = λ p c l g o. h .most p c (omega arith) g o;
+    starts = λ p c l g o. h .starts p c (omega arith) g o;
+    ends = λ p c l g o. h .ends p c (omega arith) g o;
   }
 
   module _ (q : ℕ) (lo hi : List ℕ) (h : Widening s n q lo hi) (r : Record) (er : r ≡ recordAt s q) where
@@ -505,14 +505,14 @@ module _ (s : List ℕ) (n : ℕ) where
     step-least p c l g o = by-place (decLt p q)
       where
         by-place : Dec (p < q) → getD (widenLow r q lo) c 0 ≤ p
-        by-place (yes a) = omega (arith, widenLow-le r q lo (h .lo-size) c g, h .least p c a g o)
+        by-place (yes a) = omega (arith, widenLow-le r q lo (h .lo-size) c g, h .starts p c a g o)
         by-place (no a) = omega (arith, widenLow-own r q lo (h .lo-size) c g (last-own p c l a o))
 
     step-most : (p c : ℕ) → p < q + 1 → c < 256 → ownedAs 3 c (recordAt s p) ≡ true → p < getD (widenHigh r q hi) c 0
     step-most p c l g o = by-place (decLt p q)
       where
         by-place : Dec (p < q) → p < getD (widenHigh r q hi) c 0
-        by-place (yes a) = omega (arith, widenHigh-ge r q hi (h .hi-size) c g (h .within c g), h .most p c a g o)
+        by-place (yes a) = omega (arith, widenHigh-ge r q hi (h .hi-size) c g (h .within c g), h .ends p c a g o)
         by-place (no a) = omega (arith, widenHigh-own r q hi (h .hi-size) c g (last-own p c l a o))
 
     pub widening-step : (lo' hi' : List ℕ) → q < n → lo' ≡ widenLow r q lo → hi' ≡ widenHigh r q hi
@@ -523,6 +523,6 @@ module _ (s : List ℕ) (n : ℕ) where
           hi-size = widenHigh-length r q hi (h .hi-size) 0 (omega arith);
           reached = omega arith;
           within = λ c g. widenHigh-le r q hi (h .hi-size) c g (h .within c g);
-          least = step-least;
-          most = step-most;
+          starts = step-least;
+          ends = step-most;
         })

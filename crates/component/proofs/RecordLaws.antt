@@ -13,9 +13,9 @@ use types.Run.{OneOf}
 use denote.Enum.Declared.{tagOf}
 use Rattle.lists.proofs.ListsLaws.{and-left, and-right}
 use Rattle.primitive.specs.declared.table.Fields.{Fields}
-use Rattle.component.specs.Record.{le16, le32, le64, numbersIn, bare, wellFormed, noRecord, recordIn, recordAt, formOf, ownerOf, fieldsOf, noFields}
+use Rattle.component.specs.Record.{le16, le32, le64, numbersIn, bare, wellFormed, noRecord, recordIn, recordAt, fieldsOf, noFields}
+use Rattle.component.specs.Reading.{ownerOf, formOf, apart, formBy, said, number, number3, StandsAs}
 use Rattle.component.specs.Record.{isPrimitive}
-use Rattle.component.specs.Reading.{apart, formBy, said, number, number3, SeenAs}
 use Rattle.primitive.specs.Kinds.{primitive}
 use Rattle.component.specs.declared.Record.{Record}
 use Rattle.component.specs.declared.ChildNo.{ChildNo}
@@ -24,8 +24,8 @@ use Rattle.component.specs.declared.Says.{Says}
 use Rattle.component.specs.declared.Says.the-variants.{Component, Connection, InputMap, OutputMap}
 use Rattle.component.specs.declared.Reading.{Reading}
 use Rattle.component.specs.declared.Reading.the-variants.{Taken, Refused}
-use Rattle.component.specs.declared.Seen.{Seen}
-use Rattle.component.specs.declared.Seen.the-variants.{Component as SeenComponent, Nothing}
+use Rattle.component.specs.declared.Stands.{Stands}
+use Rattle.component.specs.declared.Stands.the-variants.{Component as StandsComponent, Nothing}
 use Rattle.component.proofs.Says.{the-type}
 
 -- The record kind and the owner of a record taken apart.
@@ -93,7 +93,7 @@ fields-cases r = by-test (eqb (formOf r) 1) refl
     by-test false e = inr (rw e)
 
 -- A component that is seen, and none.
-module _ (t : Record) (g : Seen) (e : SeenAs g t) where
+module _ (t : Record) (g : Stands) (e : StandsAs g t) where
   pub unseen : g ≡ Nothing → formOf t ≡ 1 → ⊥
   unseen h = rw h at e
 
@@ -103,25 +103,25 @@ module _ (t : Record) (g : Seen) (e : SeenAs g t) where
   pub unseen-fields : g ≡ Nothing → fieldsOf t ≡ noFields
   unseen-fields h = rw (unseen-test h)
 
-  module _ (o : ℕ) (i : Id) (f : Fields) (h : g ≡ SeenComponent o i f) where
+  module _ (o : ℕ) (i : Id) (f : Fields) (h : g ≡ StandsComponent o i f) where
     pub seen-is : t ≡ apart o (Component i f)
     seen-is = rw h at e
 
   pub unseen-primitive : g ≡ Nothing → false ≡ isPrimitive t
   unseen-primitive h = rw (unseen-test h)
 
-  pub seen-primitive : (o : ℕ) (i : Id) (f : Fields) (b : Bool) → g ≡ SeenComponent o i f → b ≡ primitive f → b ≡ isPrimitive t
+  pub seen-primitive : (o : ℕ) (i : Id) (f : Fields) (b : Bool) → g ≡ StandsComponent o i f → b ≡ primitive f → b ≡ isPrimitive t
   seen-primitive o i f b h k = k ∙ rw (seen-is o i f h)
 
 -- Seeing one: the record is refused; it is none; it is one.
 module _ (t : Record) (r : Reading) (e : said r ≡ t) where
-  pub sees-refused : {k : ℕ} → r ≡ Refused k → SeenAs Nothing t
+  pub sees-refused : {k : ℕ} → r ≡ Refused k → StandsAs Nothing t
   sees-refused h z = omega (arith, ap formOf (refused-is t r e h))
 
-  pub sees-line : (o : ℕ) (x : Says) → r ≡ Taken o x → OneOf (1 ∷ 2 ∷ 3 ∷ []) (tagOf the-type x) → SeenAs Nothing t
+  pub sees-line : (o : ℕ) (x : Says) → r ≡ Taken o x → OneOf (1 ∷ 2 ∷ 3 ∷ []) (tagOf the-type x) → StandsAs Nothing t
   sees-line o x h k z = no-component x k (sym (taken-form t r e o x h) ∙ z)
 
-  pub sees-component : (o : ℕ) (x : Says) (i : Id) (f : Fields) → r ≡ Taken o x → x ≡ Component i f → SeenAs (SeenComponent o i f) t
+  pub sees-component : (o : ℕ) (x : Says) (i : Id) (f : Fields) → r ≡ Taken o x → x ≡ Component i f → StandsAs (StandsComponent o i f) t
   sees-component o x i f h k = taken-is t r e o x h ∙ ap (apart o) k
 
 -- Taking a record apart that check 3 passes, by its record kind.

@@ -10,11 +10,21 @@ use Rattle.component.specs.declared.Says.{Says}
 use Rattle.component.specs.declared.Says.the-variants.{Component, Connection, InputMap, OutputMap}
 use Rattle.component.specs.declared.Reading.{Reading}
 use Rattle.component.specs.declared.Reading.the-variants.{Taken, Refused}
-use Rattle.component.specs.declared.Seen.{Seen}
-use Rattle.component.specs.declared.Seen.the-variants.{Component as SeenComponent, Nothing}
+use Rattle.component.specs.declared.Stands.{Stands}
+use Rattle.component.specs.declared.Stands.the-variants.{Component as StandsComponent, Nothing}
 use Rattle.component.specs.declared.checks.Entry.{Entry}
 use Rattle.component.specs.declared.checks.Entry.the-variants.{Of, Nothing as NoEntry}
-use Rattle.component.specs.Record.{noRecord, formOf, ownerOf, toOf, inputOf, entering}
+use Rattle.component.specs.Record.{noRecord, toOf, inputOf, entering}
+
+-- Its record kind, its owner and its id, as laws speak of them.
+abbrev pub formOf : Record → ℕ
+formOf r = r .form
+
+abbrev pub ownerOf : Record → ℕ
+ownerOf r = r .owner
+
+abbrev pub idOf : Record → ℕ
+idOf r = r .id
 
 -- The nine numbers of a record of owner o that is taken apart.
 abbrev pub apart : ℕ → Says → Record
@@ -57,9 +67,9 @@ abbrev pub number3 : Record → ℕ
 number3 r = cond (eqb (r .form) 0) 3 0
 
 -- What is seen of a record: the component, taken apart, or that it is none.
-abbrev pub SeenAs : Seen → Record → Type 0
-SeenAs (SeenComponent o i f) r = r ≡ apart o (Component i f)
-SeenAs Nothing r = formOf r ≡ 1 → ⊥
+abbrev pub StandsAs : Stands → Record → Type 0
+StandsAs (StandsComponent o i f) r = r ≡ apart o (Component i f)
+StandsAs Nothing r = formOf r ≡ 1 → ⊥
 
 -- What is seen of an entry: the input that a record enters, or that it enters none.
 abbrev pub EntryAs : Entry → Record → Type 0

@@ -18,7 +18,7 @@ use crate::ChildNo;
 use crate::Id;
 use crate::Reading;
 use crate::Says;
-use crate::Seen;
+use crate::Stands;
 use crate::index::child_of;
 use crate::index::is_owned;
 use crate::reader::component_at;
@@ -65,7 +65,7 @@ pub fn check4(file: &[u8], p: usize) -> bool
     ensures { λ r. ⌜ r ≡ fails4 (recordAt (now (file .entry))) p ⌝ }
 {
     if p == 0 {
-        let Seen::Component { .. } = component_at(file, 0) else {
+        let Stands::Component { .. } = component_at(file, 0) else {
             return true;
         };
         return false;
@@ -93,7 +93,7 @@ fn holds(file: &[u8], f: usize, o: usize, q: usize) -> bool
         if inner == 0 {
             return false;
         }
-        let Seen::Component { owner, .. } = component_at(file, inner) else {
+        let Stands::Component { owner, .. } = component_at(file, inner) else {
             return false;
         };
         let outer = owner as usize;
@@ -110,7 +110,7 @@ fn holds(file: &[u8], f: usize, o: usize, q: usize) -> bool
 fn is_composite_at(file: &[u8], p: usize) -> bool
     ensures { λ r. ⌜ r ≡ composite (recordAt (now (file .entry)) p) ⌝ }
 {
-    let Seen::Component { fields, .. } = component_at(file, p) else {
+    let Stands::Component { fields, .. } = component_at(file, p) else {
         return false;
     };
     fields.kind == 0
@@ -156,7 +156,7 @@ fn deeper(file: &[u8], d: u8, p: usize) -> bool
         if inner == 0 {
             return false;
         }
-        let Seen::Component { owner, .. } = component_at(file, inner) else {
+        let Stands::Component { owner, .. } = component_at(file, inner) else {
             return false;
         };
         inner = owner as usize;
@@ -169,7 +169,7 @@ fn deeper(file: &[u8], d: u8, p: usize) -> bool
 pub fn check6(file: &[u8], p: usize) -> bool
     ensures { λ r. ⌜ r ≡ fails6 (recordAt (now (file .entry))) p ⌝ }
 {
-    let Seen::Component { .. } = component_at(file, p) else {
+    let Stands::Component { .. } = component_at(file, p) else {
         return false;
     };
     if 256 <= p {
@@ -182,7 +182,7 @@ pub fn check6(file: &[u8], p: usize) -> bool
 pub fn check7(file: &[u8], p: usize) -> bool
     ensures { λ r. ⌜ r ≡ fails7 (recordAt (now (file .entry))) p ⌝ }
 {
-    let Seen::Component { fields, .. } = component_at(file, p) else {
+    let Stands::Component { fields, .. } = component_at(file, p) else {
         return false;
     };
     fields.kind == 14
@@ -192,7 +192,7 @@ pub fn check7(file: &[u8], p: usize) -> bool
 pub fn check8(file: &[u8], p: usize) -> bool
     ensures { λ r. ⌜ r ≡ fails8 (recordAt (now (file .entry))) p ⌝ }
 {
-    let Seen::Component { fields, .. } = component_at(file, p) else {
+    let Stands::Component { fields, .. } = component_at(file, p) else {
         return false;
     };
     15 <= fields.kind
@@ -202,7 +202,7 @@ pub fn check8(file: &[u8], p: usize) -> bool
 pub fn check9(file: &[u8], p: usize) -> bool
     ensures { λ r. ⌜ r ≡ fails9 (recordAt (now (file .entry))) p ⌝ }
 {
-    let Seen::Component { fields, .. } = component_at(file, p) else {
+    let Stands::Component { fields, .. } = component_at(file, p) else {
         return false;
     };
     !primitive::obeys(fields)
@@ -212,7 +212,7 @@ pub fn check9(file: &[u8], p: usize) -> bool
 fn has_id(file: &[u8], q: usize, id: Id) -> bool
     ensures { λ x. ⌜ x ≡ hasId (id .0) (recordAt (now (file .entry)) q) ⌝ }
 {
-    let Seen::Component { id: other, .. } = component_at(file, q) else {
+    let Stands::Component { id: other, .. } = component_at(file, q) else {
         return false;
     };
     other.0 == id.0
@@ -236,7 +236,7 @@ fn id_before(file: &[u8], p: usize, id: Id) -> bool
 pub fn check10(file: &[u8], p: usize) -> bool
     ensures { λ r. ⌜ r ≡ fails10 (recordAt (now (file .entry))) p ⌝ }
 {
-    let Seen::Component { id, .. } = component_at(file, p) else {
+    let Stands::Component { id, .. } = component_at(file, p) else {
         return false;
     };
     id_before(file, p, id)
@@ -252,7 +252,7 @@ struct Ports {
 fn ports_at(file: &[u8], q: usize) -> Ports
     ensures { λ r. ⌜ (r .inputs ≡ cond (isPrimitive (recordAt (now (file .entry)) q)) (inputsOf (recordAt (now (file .entry)) q)) 0) × (r .inputs ≤ 65535) × (r .outputs ≡ cond (isPrimitive (recordAt (now (file .entry)) q)) (outputsOf (recordAt (now (file .entry)) q)) 0) × (r .outputs ≤ 65535) ⌝ }
 {
-    let Seen::Component { fields, .. } = component_at(file, q) else {
+    let Stands::Component { fields, .. } = component_at(file, q) else {
         return Ports {
             inputs: 0,
             outputs: 0,
@@ -293,7 +293,7 @@ pub fn check11(file: &[u8], p: usize) -> bool
     requires { ⌜ p < 1024 ⌝ }
     ensures { λ r. ⌜ r ≡ fails11 (recordAt (now (file .entry))) p ⌝ }
 {
-    let Seen::Component { .. } = component_at(file, p) else {
+    let Stands::Component { .. } = component_at(file, p) else {
         return false;
     };
     let ports = ports_before(file, p + 1);
@@ -304,7 +304,7 @@ pub fn check11(file: &[u8], p: usize) -> bool
 fn has_input(file: &[u8], c: usize, i: u16) -> bool
     ensures { λ x. ⌜ x ≡ ltb i (inputsOf (recordAt (now (file .entry)) c)) ⌝ }
 {
-    let Seen::Component { fields, .. } = component_at(file, c) else {
+    let Stands::Component { fields, .. } = component_at(file, c) else {
         return false;
     };
     i < fields.inputs
@@ -314,7 +314,7 @@ fn has_input(file: &[u8], c: usize, i: u16) -> bool
 fn has_output(file: &[u8], c: usize, i: u16) -> bool
     ensures { λ x. ⌜ x ≡ ltb i (outputsOf (recordAt (now (file .entry)) c)) ⌝ }
 {
-    let Seen::Component { fields, .. } = component_at(file, c) else {
+    let Stands::Component { fields, .. } = component_at(file, c) else {
         return false;
     };
     i < fields.outputs
@@ -421,7 +421,7 @@ fn out_map_count(file: &[u8], n: usize, c: usize) -> usize
 pub fn check14(file: &[u8], n: usize, p: usize) -> bool
     ensures { λ r. ⌜ r ≡ fails14 (recordAt (now (file .entry))) n p ⌝ }
 {
-    let Seen::Component { fields, .. } = component_at(file, p) else {
+    let Stands::Component { fields, .. } = component_at(file, p) else {
         return false;
     };
     if fields.kind != 0 {

@@ -80,7 +80,7 @@ pub enum Reading {
 }
 
 // The component at a position, if there is one.
-pub enum Seen {
+pub enum Stands {
     Component { owner: u16, id: Id, fields: Fields },
     Nothing,
 }

@@ -5,13 +5,13 @@ ghost use lib.ListN.{length};
 ghost use mathlib.Core.Bool.{true};
 ghost use Rattle.component.specs.Record.{le16, le32, le64, numbersIn, wellFormed, recordIn, recordAt};
 ghost use Rattle.component.specs.Record.{isPrimitive};
-ghost use Rattle.component.specs.Reading.{apart, said, number, number3, SeenAs};
+ghost use Rattle.component.specs.Reading.{apart, said, number, number3, StandsAs};
 use crate::ChildNo;
 use crate::Id;
 use crate::Reading;
 use crate::Record;
 use crate::Says;
-use crate::Seen;
+use crate::Stands;
 use primitive::Fields;
 
 fn wide16(x: u8) -> u16
@@ -146,23 +146,23 @@ pub fn record_at(file: &[u8], p: usize) -> Reading
 }
 
 // The component at a position of the file, if there is one.
-pub fn component_at(file: &[u8], p: usize) -> Seen
-    ensures { λ r. ⌜ SeenAs r (recordAt (now (file .entry)) p) ⌝ }
+pub fn component_at(file: &[u8], p: usize) -> Stands
+    ensures { λ r. ⌜ StandsAs r (recordAt (now (file .entry)) p) ⌝ }
 {
     let Reading::Taken { owner, says } = record_at(file, p) else {
-        return Seen::Nothing;
+        return Stands::Nothing;
     };
     let Says::Component { id, fields } = says else {
-        return Seen::Nothing;
+        return Stands::Nothing;
     };
-    Seen::Component { owner, id, fields }
+    Stands::Component { owner, id, fields }
 }
 
 // Whether a component of kinds 1 to 13 stands at a position of the file.
 pub fn is_primitive_at(file: &[u8], p: usize) -> bool
     ensures { λ r. ⌜ r ≡ isPrimitive (recordAt (now (file .entry)) p) ⌝ }
 {
-    let Seen::Component { fields, .. } = component_at(file, p) else {
+    let Stands::Component { fields, .. } = component_at(file, p) else {
         return false;
     };
     primitive::is_primitive(fields)

@@ -16,7 +16,7 @@ use Rattle.tables.proofs.SameLaws.{SameWiring, sameWiring-none, sameWiring-more
 use Rattle.net.specs.Net.{netNumber}
 use Rattle.load.specs.Load.{loadVerdict, loadTables}
 use Rattle.simulator.proofs.Kept.{roundTables-wiring, roundTables-net}
-use Rattle.quiet.proofs.Kept.{editTables-wiring, editTables-net}
+use Rattle.quiet.proofs.EditKept.{editTables-wiring, editTables-net}
 use Rattle.quiet.proofs.Since.{Fresh, Unbroken, fresh-unbroken, roundTables-unbroken, editTables-unbroken}
 use Rattle.quiet.proofs.Runs.{runTables-net, runTables-wiring, runTables-unbroken}
 use Rattle.demands.specs.Reached.{Call, callTables, callTime, runs, Reached, loaded, called}

@@ -23,7 +23,7 @@ use Rattle.leads.proofs.Primitives.{primitivesBefore-complete}
 use Rattle.tables.specs.Tables.{Tables, fieldsAt, wiresIn, numbers, firstInput, firstOutput, standingList, named}
 use Rattle.load.specs.Load.{loadVerdict, loadTables, standingAtLoad}
 use Rattle.loaded.proofs.Drawn.{IsDrawn}
-use Rattle.loaded.proofs.Theorems.{accepted-net, accepted-fullSize, accepted-current, accepted-standing, accepted-following, accepted-drawn, accepted-primitive, accepted-below, accepted-leads-wired}
+use Rattle.loaded.proofs.LoadTheorems.{accepted-net, accepted-fullSize, accepted-current, accepted-standing, accepted-following, accepted-drawn, accepted-primitive, accepted-below, accepted-leads-wired}
 use Rattle.net.proofs.NetLaws.{netNumber-0}
 use Rattle.tables.proofs.SameLaws.{SameWiring, sameWiring-none}
 use Rattle.quiet.proofs.Since.{Fresh}

@@ -8,7 +8,7 @@ use Rattle.primitive.specs.Evaluate.{evaluateNumber, evaluatedGives}
 use Rattle.primitive.proofs.GivenLaws.{evaluatedGives-is}
 use Rattle.flatten.specs.Verdict.{verdictGives}
 use Rattle.flatten.proofs.JudgementLaws.{judges-verdict}
-use Rattle.tables.specs.Tables.{answerGives, sources, targetsIn}
+use Rattle.tables.specs.Tables.{answerGives, sources, targets}
 use Rattle.tables.proofs.AnswerLaws.{answerGives-is, changes-determined}
 use Rattle.load.specs.Load.{loadVerdict}
 use Rattle.net.specs.Net.{netNumber}
@@ -41,7 +41,7 @@ determinacy = (
   λ t limit T. changes-determined ranGives ranGives-is
       (λ counts. giving (netNumber T) (run limit t T .rounds ∷ run limit t T .evaluations ∷ counts)) _,
   λ T i lent. outcome listGives listGives-is (λ zs. giving (listNumber T i lent) (length (sources T i) ∷ [])) _,
-  λ T i lent. outcome listGives listGives-is (λ zs. giving (listNumber T i lent) (length (targetsIn T i) ∷ [])) _,
+  λ T i lent. outcome listGives listGives-is (λ zs. giving (listNumber T i lent) (length (targets T i) ∷ [])) _,
   λ file r r′ p q. judges-verdict file r p ∙ sym (judges-verdict file r′ q),
   λ file. equation _,
   λ T. equation _,

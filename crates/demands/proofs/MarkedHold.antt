@@ -5,10 +5,10 @@ use mathlib.Core.List.{map}
 use Rattle.primitive.specs.Kinds.{obeys}
 use Rattle.primitive.specs.Evaluate.{functionOf, outputsAfter, fitting, evaluateNumber, evaluateOutputs}
 use Rattle.component.specs.Drawing.{deepest}
-use Rattle.flatten.specs.Descent.{source, targets, sourceOf, targetsOf}
+use Rattle.flatten.specs.Descent.{outputBelow, inputsBelow, comesFrom, goesTo}
 use Rattle.flatten.specs.Verdict.{verdict}
 use Rattle.demands.specs.Marked.{Case, marked}
 
-pub marked-hold : map (λ (c : Case). c .found) marked ≡ map (λ (c : Case). c .wanted) marked
-unfolding evaluateNumber evaluateOutputs outputsAfter functionOf fitting obeys deepest source targets sourceOf targetsOf verdict
+pub marked-hold : map (λ (c : Case). c .computed) marked ≡ map (λ (c : Case). c .wanted) marked
+unfolding evaluateNumber evaluateOutputs outputsAfter functionOf fitting obeys deepest outputBelow inputsBelow comesFrom goesTo verdict
 marked-hold = refl

@@ -12,18 +12,19 @@ use Rattle.primitive.specs.Kinds.{numberOf}
 use Rattle.primitive.specs.Evaluate.{evaluateNumber, evaluateOutputs}
 use Rattle.component.specs.Record.{recordAt, recordCount}
 use Rattle.flatten.specs.Descent.{flatWires}
-use Rattle.flatten.specs.Verdict.{verdict, spoken}
+use Rattle.primitive.specs.Given.{spoken}
+use Rattle.flatten.specs.Verdict.{verdict, verdictGives}
 use Rattle.load.specs.Load.{wireWords}
 use Rattle.demands.specs.Lamp.{lamp, lampTwice}
 
 -- What the definitions find, and what the document wants.
 pub record Case : Type 0 where
-  pub found : List ℕ
+  pub computed : List ℕ
   pub wanted : List ℕ
 
 infix 4 _gives_
 abbrev pub _gives_ : List ℕ → List ℕ → Case
-xs gives ys = record { found = xs; wanted = ys }
+xs gives ys = record { computed = xs; wanted = ys }
 
 -- The number given back by evaluating one component, and its outputs afterwards: its kind, its parameter, its inputs' numbers of
 -- v bits, o outputs of w bits that hold 0, the time.
@@ -49,5 +50,5 @@ marked =
     ∷ (evaluating Clock 10 [] 1 1 1 20 gives 0 ∷ 0 ∷ [])
     ∷ (evaluating Clock 1 [] 1 1 1 1 gives 0 ∷ 0 ∷ [])
     ∷ (joined wireWords (flatWires (recordAt lamp) (recordCount lamp)) gives 0 ∷ 0 ∷ 2 ∷ 0 ∷ 1 ∷ 0 ∷ 2 ∷ 1 ∷ 2 ∷ 0 ∷ 3 ∷ 0 ∷ [])
-    ∷ (spoken (verdict lampTwice) ∷ [] gives (65536 * 13 + 9) ∷ [])
+    ∷ (spoken (verdictGives (verdict lampTwice) []) ∷ [] gives (65536 * 13 + 9) ∷ [])
     ∷ []

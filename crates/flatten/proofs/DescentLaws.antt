@@ -1,4 +1,4 @@
--- Laws of `source` and `targets` of specs/Descent.antt, one for each way out of a function of src/descent.rt.
+-- Laws of `outputBelow` and `inputsBelow` of specs/Descent.antt, one for each way out of a function of src/descent.rt.
 --   given at n d c i q    what the record at q gives to the targets of input i of composite c, with depth d left below it
 -- First lists one after the other; then the source; then the targets as lists, for any function that goes down through input maps;
 -- then the same, and whether one of them has another width, in the form in which the functions have their facts.
@@ -24,23 +24,23 @@ use Rattle.component.specs.declared.Says.{Says}
 use Rattle.component.specs.declared.Says.the-variants.{Connection, InputMap, OutputMap}
 use Rattle.component.specs.declared.Reading.{Reading}
 use Rattle.component.specs.declared.Reading.the-variants.{Taken, Refused}
-use Rattle.component.specs.declared.Seen.{Seen}
-use Rattle.component.specs.declared.Seen.the-variants.{Component as SeenComponent, Nothing as NotSeen}
+use Rattle.component.specs.declared.Stands.{Stands}
+use Rattle.component.specs.declared.Stands.the-variants.{Component as SeenComponent, Nothing as NotSeen}
 use Rattle.component.specs.declared.Id.{Id}
 use Rattle.primitive.specs.declared.table.Fields.{Fields}
-use Rattle.component.specs.Record.{recordAt, formOf, ownerOf, portOf, fieldsOf, fromOf, outputOf, toOf, inputOf, isPrimitive}
+use Rattle.component.specs.Record.{recordAt, portOf, fieldsOf, fromOf, outputOf, toOf, inputOf, isPrimitive}
+use Rattle.component.specs.Reading.{ownerOf, formOf, apart, said, formBy, StandsAs}
 use Rattle.component.specs.Drawing.{deepest, child, mapsIn, outMap}
 use Rattle.component.specs.Index.{IsRange}
 use Rattle.component.specs.Record.{ownedAs}
-use Rattle.component.specs.Reading.{apart, said, formBy, SeenAs}
 use Rattle.component.proofs.Says.{the-type}
 use Rattle.component.proofs.RecordLaws.{no-connection, no-input-map, no-output-map, refused-is, taken-is, taken-form, taken-owner, unseen-fields, seen-is}
 use Rattle.flatten.specs.declared.Pin.{Pin}
 use Rattle.flatten.specs.declared.Wire.{Wire}
 use Rattle.flatten.specs.declared.descent.Entered.{Entered}
 use Rattle.flatten.specs.declared.descent.Entered.the-variants.{To, Nothing}
-use Rattle.flatten.specs.Descent.{pin, source, targets, sourceOf, targetsOf, wiresAt, fails15}
-use Rattle.flatten.specs.Steps.{entered, unlike, IsStretch}
+use Rattle.flatten.specs.Descent.{pin, outputBelow, inputsBelow, comesFrom, goesTo, wiresAt, fails15}
+use Rattle.flatten.specs.Searches.{entered, unlike, IsStretch}
 
 -- Lists one after the other.
 
@@ -117,24 +117,24 @@ module _ {B : Type 0} (g : ℕ → List B) where
 module _ (at : ℕ → Record) (n : ℕ) where
   -- The source: no depth left; a primitive; a composite.
 
-  pub source-bottom : (d c i : ℕ) → d ≡ 0 → pin n 0 ≡ source at n d c i
-  unfolding source
+  pub source-bottom : (d c i : ℕ) → d ≡ 0 → pin n 0 ≡ outputBelow at n d c i
+  unfolding outputBelow
   source-bottom d c i h = rw h
 
-  pub source-ends : (d c i : ℕ) → (d ≡ 0 → ⊥) → isPrimitive (at c) ≡ true → pin c i ≡ source at n d c i
-  unfolding source
+  pub source-ends : (d c i : ℕ) → (d ≡ 0 → ⊥) → isPrimitive (at c) ≡ true → pin c i ≡ outputBelow at n d c i
+  unfolding outputBelow
   source-ends zero c i h e = absurd (h refl)
   source-ends (suc d) c i h e = rw e
 
   pub source-none : (d c i : ℕ) → (d ≡ 0 → ⊥) → isPrimitive (at c) ≡ false → (formOf (at (outMap at n c i)) ≡ 4 → ⊥)
-      → pin n 0 ≡ source at n d c i
-  unfolding source
+      → pin n 0 ≡ outputBelow at n d c i
+  unfolding outputBelow
   source-none zero c i h e k = absurd (h refl)
   source-none (suc d) c i h e k = rw (e, ne-eqb (formOf (at (outMap at n c i))) 4 k)
 
   pub source-through : (d c i : ℕ) → (d ≡ 0 → ⊥) → isPrimitive (at c) ≡ false → formOf (at (outMap at n c i)) ≡ 4
-      → source at n (d - 1) (child at n c (fromOf (at (outMap at n c i)))) (outputOf (at (outMap at n c i))) ≡ source at n d c i
-  unfolding source
+      → outputBelow at n (d - 1) (child at n c (fromOf (at (outMap at n c i)))) (outputOf (at (outMap at n c i))) ≡ outputBelow at n d c i
+  unfolding outputBelow
   source-through zero c i h e k = absurd (h refl)
   source-through (suc d) c i h e k =
       let z : suc d - 1 ≡ d = omega arith in rw (e, eq-eqb (formOf (at (outMap at n c i))) 4 k, z)
@@ -142,20 +142,20 @@ module _ (at : ℕ → Record) (n : ℕ) where
   -- The targets: no depth left; a primitive; a composite.
 
   abbrev pub given : ℕ → ℕ → ℕ → ℕ → List Pin
-  given d c i q = cond (mapsIn at c i q) (targets at n d (child at n c (toOf (at q))) (inputOf (at q))) []
+  given d c i q = cond (mapsIn at c i q) (inputsBelow at n d (child at n c (toOf (at q))) (inputOf (at q))) []
 
-  pub targets-bottom : (d c i : ℕ) → d ≡ 0 → targets at n d c i ≡ []
-  unfolding targets
+  pub targets-bottom : (d c i : ℕ) → d ≡ 0 → inputsBelow at n d c i ≡ []
+  unfolding inputsBelow
   targets-bottom d c i h = rw h
 
-  pub targets-ends : (d c i : ℕ) → (d ≡ 0 → ⊥) → isPrimitive (at c) ≡ true → targets at n d c i ≡ pin c i ∷ []
-  unfolding targets
+  pub targets-ends : (d c i : ℕ) → (d ≡ 0 → ⊥) → isPrimitive (at c) ≡ true → inputsBelow at n d c i ≡ pin c i ∷ []
+  unfolding inputsBelow
   targets-ends zero c i h e = absurd (h refl)
   targets-ends (suc d) c i h e = rw e
 
   pub targets-maps : (d c i : ℕ) → (d ≡ 0 → ⊥) → isPrimitive (at c) ≡ false
-      → targets at n d c i ≡ joined (given (d - 1) c i) (from 0 n)
-  unfolding targets
+      → inputsBelow at n d c i ≡ joined (given (d - 1) c i) (from 0 n)
+  unfolding inputsBelow
   targets-maps zero c i h e = absurd (h refl)
   targets-maps (suc d) c i h e = let z : suc d - 1 ≡ d = omega arith in rw (e, z)
 
@@ -168,33 +168,33 @@ module _ (at : ℕ → Record) (n : ℕ) where
       owned true false p e = e
       owned false b p e = e
 
-      by-test : (b : Bool) → mapsIn at c i q ≡ b → cond b (targets at n d (child at n c (toOf (at q))) (inputOf (at q))) [] ≡ []
+      by-test : (b : Bool) → mapsIn at c i q ≡ b → cond b (inputsBelow at n d (child at n c (toOf (at q))) (inputOf (at q))) [] ≡ []
       by-test true e = absurd (h (owned (eqb (formOf (at q)) 3) (eqb (ownerOf (at q)) c) (eqb (portOf (at q)) i) e))
       by-test false e = refl
 
   pub targets-stretch : (d c i a e : ℕ) → (d ≡ 0 → ⊥) → isPrimitive (at c) ≡ false → IsStretch at n c a e
-      → targets at n d c i ≡ joined (given (d - 1) c i) (from a (e - a))
+      → inputsBelow at n d c i ≡ joined (given (d - 1) c i) (from a (e - a))
   targets-stretch d c i a e h p s =
       targets-maps d c i h p
       ∙ sym (joined-stretch (given (d - 1) c i) n a e (s .within)
-      (λ q l u. given-none (d - 1) c i q (λ o. omega (arith, s .least q l o)))
-      (λ q l u. given-none (d - 1) c i q (λ o. omega (arith, s .most q l o))))
+      (λ q l u. given-none (d - 1) c i q (λ o. omega (arith, s .starts q l o)))
+      (λ q l u. given-none (d - 1) c i q (λ o. omega (arith, s .ends q l o))))
 
   -- One turn of a loop over it: the record at q leads on, or nowhere.
   abbrev follow : ℕ → Entered → List Pin
-  follow d (To t j) = targets at n d t j
+  follow d (To t j) = inputsBelow at n d t j
   follow d Nothing = []
 
   given-is : (d c i q : ℕ) (g : Entered) → g ≡ entered at n c i q → given d c i q ≡ follow d g
   given-is d c i q g h = sym (by-test (mapsIn at c i q)) ∙ ap (follow d) (sym h)
     where
       by-test : (b : Bool) → follow d (cond b (To (child at n c (toOf (at q))) (inputOf (at q))) Nothing)
-          ≡ cond b (targets at n d (child at n c (toOf (at q))) (inputOf (at q))) []
+          ≡ cond b (inputsBelow at n d (child at n c (toOf (at q))) (inputOf (at q))) []
       by-test true = refl
       by-test false = refl
 
   pub given-to : (d c i q e t j : ℕ) → q < e → To t j ≡ entered at n c i q
-      → joined (given d c i) (from q (e - q)) ≡ targets at n d t j ++ joined (given d c i) (from (q + 1) (e - (q + 1)))
+      → joined (given d c i) (from q (e - q)) ≡ inputsBelow at n d t j ++ joined (given d c i) (from (q + 1) (e - (q + 1)))
   given-to d c i q e t j h k =
       joined-step (given d c i) q e h
       ∙ ap (λ (l : List Pin). l ++ joined (given d c i) (from (q + 1) (e - (q + 1)))) (given-is d c i q (To t j) k)
@@ -208,7 +208,7 @@ module _ (at : ℕ → Record) (n : ℕ) where
 -- In a file: record q is r, and b says whether a test holds of it.
 module _ (s : List ℕ) (n : ℕ) where
   -- the width of a component's ports: no component; a component
-  module _ (c : ℕ) (g : Seen) (e : SeenAs g (recordAt s c)) where
+  module _ (c : ℕ) (g : Stands) (e : StandsAs g (recordAt s c)) where
     pub input-width-none : g ≡ NotSeen → 1 ≡ inputWidth (fieldsOf (recordAt s c))
     input-width-none h = sym (ap inputWidth (unseen-fields (recordAt s c) g e h))
 
@@ -224,14 +224,14 @@ module _ (s : List ℕ) (n : ℕ) where
 
   -- the source: a primitive; a composite whose map is refused, is no output map, is one
   module _ (d c i : ℕ) (b : Bool) (h : d ≡ 0 → ⊥) (p : b ≡ isPrimitive (recordAt s c)) where
-    pub source-here : b ≡ true → pin c i ≡ source (recordAt s) n d c i
+    pub source-here : b ≡ true → pin c i ≡ outputBelow (recordAt s) n d c i
     source-here t = source-ends (recordAt s) n d c i h (sym p ∙ t)
 
     module _ (k : b ≡ false) (m : ℕ) (r : Reading) (em : m ≡ outMap (recordAt s) n c i) (er : said r ≡ recordAt s m) where
       map-is : said r ≡ recordAt s (outMap (recordAt s) n c i)
       map-is = er ∙ ap (recordAt s) em
 
-      pub source-refused : {z : ℕ} → r ≡ Refused z → pin n 0 ≡ source (recordAt s) n d c i
+      pub source-refused : {z : ℕ} → r ≡ Refused z → pin n 0 ≡ outputBelow (recordAt s) n d c i
       source-refused q =
           source-none (recordAt s) n d c i h (sym p ∙ k)
           (λ z. omega (arith, z, ap formOf (refused-is (recordAt s (outMap (recordAt s) n c i)) r map-is q)))
@@ -240,16 +240,16 @@ module _ (s : List ℕ) (n : ℕ) where
         map-form : formOf (recordAt s (outMap (recordAt s) n c i)) ≡ formBy x
         map-form = taken-form (recordAt s (outMap (recordAt s) n c i)) r map-is o x q
 
-        pub source-unmapped : OneOf (0 ∷ 1 ∷ 2 ∷ []) (tagOf the-type x) → pin n 0 ≡ source (recordAt s) n d c i
+        pub source-unmapped : OneOf (0 ∷ 1 ∷ 2 ∷ []) (tagOf the-type x) → pin n 0 ≡ outputBelow (recordAt s) n d c i
         source-unmapped y = source-none (recordAt s) n d c i h (sym p ∙ k) (λ z. no-output-map x y (sym map-form ∙ z))
 
         pub source-below : (f : ChildNo) (u t : ℕ) (v : Pin) → x ≡ OutputMap f u → t ≡ child (recordAt s) n c (f .0)
-            → v ≡ source (recordAt s) n (d - 1) t u → v ≡ source (recordAt s) n d c i
+            → v ≡ outputBelow (recordAt s) n (d - 1) t u → v ≡ outputBelow (recordAt s) n d c i
         source-below f u t v y et ev =
             let z : recordAt s (outMap (recordAt s) n c i) ≡ apart o (OutputMap f u) =
             taken-is (recordAt s (outMap (recordAt s) n c i)) r map-is o x q ∙ ap (apart o) y in
-            ev ∙ ap (λ (j : ℕ). source (recordAt s) n (d - 1) j u) et
-            ∙ ap (λ (w : Record). source (recordAt s) n (d - 1) (child (recordAt s) n c (fromOf w)) (outputOf w)) (sym z)
+            ev ∙ ap (λ (j : ℕ). outputBelow (recordAt s) n (d - 1) j u) et
+            ∙ ap (λ (w : Record). outputBelow (recordAt s) n (d - 1) (child (recordAt s) n c (fromOf w)) (outputOf w)) (sym z)
             ∙ source-through (recordAt s) n d c i h (sym p ∙ k) (ap formOf z)
 
   -- where the record at q leads: it is refused; no input map; one of another owner; of another input; of this one
@@ -279,19 +279,19 @@ module _ (s : List ℕ) (n : ℕ) where
   pub stretch-index : (lo hi : List ℕ) (c : ℕ) → IsRange s n lo hi → c < 256 → IsStretch (recordAt s) n c (getD lo c 0) (getD hi c 0)
   stretch-index lo hi c h l = record {
     within = h .within c l;
-    least = λ q u o. h .least q c u l o;
-    most = λ q u o. h .most q c u l o;
+    starts = λ q u o. h .starts q c u l o;
+    ends = λ q u o. h .ends q c u l o;
   }
 
   pub stretch-all : (c : ℕ) → IsStretch (recordAt s) n c 0 n
-  stretch-all c = record { within = omega arith; least = λ q u o. omega arith; most = λ q u o. u }
+  stretch-all c = record { within = omega arith; starts = λ q u o. omega arith; ends = λ q u o. u }
 
   -- whether a target has another width: no depth left; a primitive; a composite, whose input maps are to be followed
-  pub differs-bottom : (d c i w : ℕ) → d ≡ 0 → false ≡ any (unlike (recordAt s) w) (targets (recordAt s) n d c i)
+  pub differs-bottom : (d c i w : ℕ) → d ≡ 0 → false ≡ any (unlike (recordAt s) w) (inputsBelow (recordAt s) n d c i)
   differs-bottom d c i w h = ap (any (unlike (recordAt s) w)) (sym (targets-bottom (recordAt s) n d c i h))
 
   pub differs-here : (d c i w v : ℕ) (b : Bool) → (d ≡ 0 → ⊥) → b ≡ isPrimitive (recordAt s c) → b ≡ true
-      → v ≡ inputWidth (fieldsOf (recordAt s c)) → not (eqb w v) ≡ any (unlike (recordAt s) w) (targets (recordAt s) n d c i)
+      → v ≡ inputWidth (fieldsOf (recordAt s c)) → not (eqb w v) ≡ any (unlike (recordAt s) w) (inputsBelow (recordAt s) n d c i)
   differs-here d c i w v b h p t ev =
       ap (λ (x : ℕ). not (eqb w x)) ev
       ∙ sym (or-false (not (eqb w (inputWidth (fieldsOf (recordAt s c))))))
@@ -300,7 +300,7 @@ module _ (s : List ℕ) (n : ℕ) where
   pub differs-start : (d c i w a e : ℕ) (b : Bool) → (d ≡ 0 → ⊥) → b ≡ isPrimitive (recordAt s c) → b ≡ false
       → IsStretch (recordAt s) n c a e
       → any (unlike (recordAt s) w) (joined (given (recordAt s) n (d - 1) c i) (from a (e - a)))
-      ≡ any (unlike (recordAt s) w) (targets (recordAt s) n d c i)
+      ≡ any (unlike (recordAt s) w) (inputsBelow (recordAt s) n d c i)
   differs-start d c i w a e b h p t z =
       ap (any (unlike (recordAt s) w)) (sym (targets-stretch (recordAt s) n d c i a e h (sym p ∙ t) z))
 
@@ -308,12 +308,12 @@ module _ (s : List ℕ) (n : ℕ) where
   module _ (d c i w q e : ℕ) (x : Bool)
       (inv : any (unlike (recordAt s) w) (joined (given (recordAt s) n d c i) (from q (e - q))) ≡ x) where
     module _ (g : Entered) (t j : ℕ) (y : Bool) (l : q < e) (k : g ≡ To t j) (h : g ≡ entered (recordAt s) n c i q)
-        (ey : y ≡ any (unlike (recordAt s) w) (targets (recordAt s) n d t j)) where
+        (ey : y ≡ any (unlike (recordAt s) w) (inputsBelow (recordAt s) n d t j)) where
       turn : (y || any (unlike (recordAt s) w) (joined (given (recordAt s) n d c i) (from (q + 1) (e - (q + 1))))) ≡ x
       turn =
           let rest = joined (given (recordAt s) n d c i) (from (q + 1) (e - (q + 1))) in
           ap (λ (b : Bool). b || any (unlike (recordAt s) w) rest) ey
-          ∙ sym (any-append (unlike (recordAt s) w) (targets (recordAt s) n d t j) rest)
+          ∙ sym (any-append (unlike (recordAt s) w) (inputsBelow (recordAt s) n d t j) rest)
           ∙ ap (any (unlike (recordAt s) w)) (sym (given-to (recordAt s) n d c i q e t j l (sym k ∙ h)))
           ∙ inv
 
@@ -345,19 +345,19 @@ module _ (s : List ℕ) (n : ℕ) where
     at-connection : apart o (Connection f a t b) ≡ recordAt s p
     at-connection = sym (taken-is (recordAt s p) r e o x h ∙ ap (apart o) k)
 
-    pub source-is : (m c : ℕ) (x : Pin) → m ≡ deepest → c ≡ child (recordAt s) n o (f .0) → x ≡ source (recordAt s) n m c a
-        → x ≡ sourceOf (recordAt s) n p
-    unfolding sourceOf
+    pub source-is : (m c : ℕ) (x : Pin) → m ≡ deepest → c ≡ child (recordAt s) n o (f .0) → x ≡ outputBelow (recordAt s) n m c a
+        → x ≡ comesFrom (recordAt s) n p
+    unfolding comesFrom
     source-is m c x em ec ex =
-        ex ∙ ap (λ (j : ℕ). source (recordAt s) n j c a) em ∙ ap (λ (j : ℕ). source (recordAt s) n deepest j a) ec
-        ∙ ap (λ (y : Record). source (recordAt s) n deepest (child (recordAt s) n (ownerOf y) (fromOf y)) (outputOf y)) at-connection
+        ex ∙ ap (λ (j : ℕ). outputBelow (recordAt s) n j c a) em ∙ ap (λ (j : ℕ). outputBelow (recordAt s) n deepest j a) ec
+        ∙ ap (λ (y : Record). outputBelow (recordAt s) n deepest (child (recordAt s) n (ownerOf y) (fromOf y)) (outputOf y)) at-connection
 
     pub targets-are : (m c : ℕ) → m ≡ deepest → c ≡ child (recordAt s) n o (t .0)
-        → targets (recordAt s) n m c b ≡ targetsOf (recordAt s) n p
-    unfolding targetsOf
+        → inputsBelow (recordAt s) n m c b ≡ goesTo (recordAt s) n p
+    unfolding goesTo
     targets-are m c em ec =
-        ap (λ (j : ℕ). targets (recordAt s) n j c b) em ∙ ap (λ (j : ℕ). targets (recordAt s) n deepest j b) ec
-        ∙ ap (λ (y : Record). targets (recordAt s) n deepest (child (recordAt s) n (ownerOf y) (toOf y)) (inputOf y)) at-connection
+        ap (λ (j : ℕ). inputsBelow (recordAt s) n j c b) em ∙ ap (λ (j : ℕ). inputsBelow (recordAt s) n deepest j b) ec
+        ∙ ap (λ (y : Record). inputsBelow (recordAt s) n deepest (child (recordAt s) n (ownerOf y) (toOf y)) (inputOf y)) at-connection
 
     pub form-is : formOf (recordAt s p) ≡ 2
     form-is = sym (ap formOf at-connection)
@@ -365,21 +365,21 @@ module _ (s : List ℕ) (n : ℕ) where
     differing : Wire → Bool
     differing w = not (eqb (outputWidth (fieldsOf (recordAt s (w .src .comp)))) (inputWidth (fieldsOf (recordAt s (w .dst .comp)))))
 
-    fails15-is : any (unlike (recordAt s) (outputWidth (fieldsOf (recordAt s (sourceOf (recordAt s) n p .comp))))) (targetsOf (recordAt s) n p)
+    fails15-is : any (unlike (recordAt s) (outputWidth (fieldsOf (recordAt s (comesFrom (recordAt s) n p .comp))))) (goesTo (recordAt s) n p)
         ≡ fails15 (recordAt s) n p
     unfolding differing
     fails15-is =
-        sym (any-map differing (λ (x : Pin). record { src = sourceOf (recordAt s) n p; dst = x }) (targetsOf (recordAt s) n p))
+        sym (any-map differing (λ (x : Pin). record { src = comesFrom (recordAt s) n p; dst = x }) (goesTo (recordAt s) n p))
         ∙ ap (λ (y : Bool). y && any differing (wiresAt (recordAt s) n p)) (sym (eq-eqb (formOf (recordAt s p)) 2 form-is))
 
     pub fails15-connection : (m c l g w : ℕ) (x : Pin) (y : Bool)
-        → c ≡ child (recordAt s) n o (f .0) → m ≡ deepest → x ≡ source (recordAt s) n m c a
+        → c ≡ child (recordAt s) n o (f .0) → m ≡ deepest → x ≡ outputBelow (recordAt s) n m c a
         → w ≡ outputWidth (fieldsOf (recordAt s (x .comp)))
-        → g ≡ child (recordAt s) n o (t .0) → l ≡ deepest → y ≡ any (unlike (recordAt s) w) (targets (recordAt s) n l g b)
+        → g ≡ child (recordAt s) n o (t .0) → l ≡ deepest → y ≡ any (unlike (recordAt s) w) (inputsBelow (recordAt s) n l g b)
         → y ≡ fails15 (recordAt s) n p
     fails15-connection m c l g w x y ec em ex ew eg el ey =
-        let z : w ≡ outputWidth (fieldsOf (recordAt s (sourceOf (recordAt s) n p .comp))) =
+        let z : w ≡ outputWidth (fieldsOf (recordAt s (comesFrom (recordAt s) n p .comp))) =
         ew ∙ ap (λ (u : Pin). outputWidth (fieldsOf (recordAt s (u .comp)))) (source-is m c x em ec ex) in
-        ey ∙ ap (λ (u : ℕ). any (unlike (recordAt s) u) (targets (recordAt s) n l g b)) z
-        ∙ ap (any (unlike (recordAt s) (outputWidth (fieldsOf (recordAt s (sourceOf (recordAt s) n p .comp)))))) (targets-are l g el eg)
+        ey ∙ ap (λ (u : ℕ). any (unlike (recordAt s) u) (inputsBelow (recordAt s) n l g b)) z
+        ∙ ap (any (unlike (recordAt s) (outputWidth (fieldsOf (recordAt s (comesFrom (recordAt s) n p .comp)))))) (targets-are l g el eg)
         ∙ fails15-is

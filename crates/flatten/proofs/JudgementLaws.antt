@@ -21,16 +21,16 @@ use Rattle.component.specs.declared.Verdict.the-variants.{Accepted, Refused}
 use Rattle.component.specs.Record.{recordAt}
 use Rattle.flatten.specs.declared.judgement.Found.{Found}
 use Rattle.flatten.specs.declared.judgement.Found.the-variants.{At, Nowhere}
-use Rattle.flatten.specs.Verdict.{Check, checks, refused, said, judged, sized, verdict, verdictGives, Judges}
-use Rattle.flatten.specs.Steps.{noCheck, failsBy, found}
+use Rattle.flatten.specs.Verdict.{Check, checks, refused, orLater, judged, sized, verdict, verdictGives, Judges}
+use Rattle.flatten.specs.Searches.{noCheck, failsBy, asFound}
 
 -- A search's answer.
 
-found-at : (x : Option ℕ) (g : Found) (p : ℕ) → g ≡ found x → g ≡ At p → x ≡ some p
+found-at : (x : Option ℕ) (g : Found) (p : ℕ) → g ≡ asFound x → g ≡ At p → x ≡ some p
 found-at (some q) g p e h = let z : q ≡ p = cc in ap some z
 found-at none g p e h = let z : _≡_ {A = ℕ} 0 1 = cc in absurd (omega arith)
 
-found-nowhere : (x : Option ℕ) (g : Found) → g ≡ found x → g ≡ Nowhere → x ≡ none
+found-nowhere : (x : Option ℕ) (g : Found) → g ≡ asFound x → g ≡ Nowhere → x ≡ none
 found-nowhere (some q) g e h = let z : _≡_ {A = ℕ} 0 1 = cc in absurd (omega arith)
 found-nowhere none g e h = refl
 
@@ -50,18 +50,18 @@ module _ (s : List ℕ) (n k : ℕ) where
   search-start = ap (λ (m : ℕ). first (failsBy (recordAt s) n k) (from 0 m)) (sub-zero n)
 
   module _ (q : ℕ) (x : Option ℕ) (inv : first (failsBy (recordAt s) n k) (from q (n - q)) ≡ x) where
-    pub search-here : (b : Bool) → q < n → b ≡ failsBy (recordAt s) n k q → b ≡ true → At q ≡ found x
-    search-here b l e t = ap found (first-here (failsBy (recordAt s) n k) q n x inv l (sym e ∙ t))
+    pub search-here : (b : Bool) → q < n → b ≡ failsBy (recordAt s) n k q → b ≡ true → At q ≡ asFound x
+    search-here b l e t = ap asFound (first-here (failsBy (recordAt s) n k) q n x inv l (sym e ∙ t))
 
     pub search-next : (b : Bool) → q < n → b ≡ failsBy (recordAt s) n k q → b ≡ false
         → first (failsBy (recordAt s) n k) (from (q + 1) (n - (q + 1))) ≡ x
     search-next b l e t = first-next (failsBy (recordAt s) n k) q n x inv l (sym e ∙ t)
 
-    pub search-none : n ≤ q → Nowhere ≡ found x
-    search-none l = ap found (first-none (failsBy (recordAt s) n k) q n x inv l)
+    pub search-none : n ≤ q → Nowhere ≡ asFound x
+    search-none l = ap asFound (first-none (failsBy (recordAt s) n k) q n x inv l)
 
   -- what it finds is a position of the file
-  pub found-below : (g : Found) (p : ℕ) → g ≡ found (first (failsBy (recordAt s) n k) (from 0 n)) → g ≡ At p → p < n
+  pub found-below : (g : Found) (p : ℕ) → g ≡ asFound (first (failsBy (recordAt s) n k) (from 0 n)) → g ≡ At p → p < n
   found-below g p e h =
       omega (arith, first-below (failsBy (recordAt s) n k) 0 n p (found-at (first (failsBy (recordAt s) n k) (from 0 n)) g p e h))
 
@@ -78,7 +78,7 @@ number-at (c ∷ cs) m (suc j) e h =
 module _ (s : List ℕ) (n k : ℕ) where
   judged-step : 3 ≤ k → k < 16
       → judged n (drop (k - 3) (checks (recordAt s) n))
-      ≡ said k (first (failsBy (recordAt s) n k) (from 0 n)) (judged n (drop (k + 1 - 3) (checks (recordAt s) n)))
+      ≡ orLater k (first (failsBy (recordAt s) n k) (from 0 n)) (judged n (drop (k + 1 - 3) (checks (recordAt s) n)))
   unfolding failsBy
   judged-step h l =
       let j = k - 3 in
@@ -86,21 +86,21 @@ module _ (s : List ℕ) (n k : ℕ) where
       let z : getD (checks (recordAt s) n) (k - 3) noCheck .number ≡ k =
       let e = number-at (checks (recordAt s) n) 3 (k - 3) refl (omega arith) in omega arith in
       ap (judged n) (drop-cons (checks (recordAt s) n) (k - 3) noCheck (omega arith))
-      ∙ ap (λ (m : ℕ). said m (first (failsBy (recordAt s) n k) (from 0 n)) (judged n (drop (suc (k - 3)) (checks (recordAt s) n)))) z
-      ∙ ap (λ (m : ℕ). said k (first (failsBy (recordAt s) n k) (from 0 n)) (judged n (drop m (checks (recordAt s) n)))) y
+      ∙ ap (λ (m : ℕ). orLater m (first (failsBy (recordAt s) n k) (from 0 n)) (judged n (drop (suc (k - 3)) (checks (recordAt s) n)))) z
+      ∙ ap (λ (m : ℕ). orLater k (first (failsBy (recordAt s) n k) (from 0 n)) (judged n (drop m (checks (recordAt s) n)))) y
 
   -- a record fails check k; none does; all checks are made
   module _ (g : Found) (v : Verdict) (inv : judged n (drop (k - 3) (checks (recordAt s) n)) ≡ v) where
-    pub judged-here : (p : ℕ) → 3 ≤ k → k < 16 → g ≡ found (first (failsBy (recordAt s) n k) (from 0 n)) → g ≡ At p → refused k p ≡ v
+    pub judged-here : (p : ℕ) → 3 ≤ k → k < 16 → g ≡ asFound (first (failsBy (recordAt s) n k) (from 0 n)) → g ≡ At p → refused k p ≡ v
     judged-here p h l e d =
-        ap (λ (x : Option ℕ). said k x (judged n (drop (k + 1 - 3) (checks (recordAt s) n))))
+        ap (λ (x : Option ℕ). orLater k x (judged n (drop (k + 1 - 3) (checks (recordAt s) n))))
         (sym (found-at (first (failsBy (recordAt s) n k) (from 0 n)) g p e d))
         ∙ sym (judged-step h l) ∙ inv
 
-    pub judged-next : 3 ≤ k → k < 16 → g ≡ found (first (failsBy (recordAt s) n k) (from 0 n)) → g ≡ Nowhere
+    pub judged-next : 3 ≤ k → k < 16 → g ≡ asFound (first (failsBy (recordAt s) n k) (from 0 n)) → g ≡ Nowhere
         → judged n (drop (k + 1 - 3) (checks (recordAt s) n)) ≡ v
     judged-next h l e d =
-        ap (λ (x : Option ℕ). said k x (judged n (drop (k + 1 - 3) (checks (recordAt s) n))))
+        ap (λ (x : Option ℕ). orLater k x (judged n (drop (k + 1 - 3) (checks (recordAt s) n))))
         (sym (found-nowhere (first (failsBy (recordAt s) n k) (from 0 n)) g e d))
         ∙ sym (judged-step h l) ∙ inv
 
@@ -160,7 +160,7 @@ judged-bound n (c ∷ cs) r h e =
     by-find (first (c .fails) (from 0 n)) refl e
     (judged-bound n cs r (and-right (ltb (c .number) 16) (every (λ (x : Check). ltb (x .number) 16) cs) h))
   where
-    by-find : (x : Option ℕ) → first (c .fails) (from 0 n) ≡ x → said (c .number) x (judged n cs) ≡ Refused r
+    by-find : (x : Option ℕ) → first (c .fails) (from 0 n) ≡ x → orLater (c .number) x (judged n cs) ≡ Refused r
         → (judged n cs ≡ Refused r → (r .number < 16) × (r .position < n)) → (r .number < 16) × (r .position < n)
     by-find (some p) u d later =
         let z : record { number = c .number; position = p } ≡ r = cc in

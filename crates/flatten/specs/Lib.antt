@@ -1,4 +1,4 @@
 pub mod Descent
 pub mod Leads
 pub mod Verdict
-pub mod Steps
+pub mod Searches

@@ -1,13 +1,13 @@
 -- The judgement of a file's bytes. docs/SPECIFICATION.md, "Numbers given back" and the host's call.
 use mathlib.Core.Path.{_≡_}
-use Prim.Native.Nat.{ℕ, _+_, _*_, _%_}
+use Prim.Native.Nat.{ℕ, _%_}
 use mathlib.Core.Bool.{Bool, cond, not, _&&_}
 use mathlib.Core.List.{List, [], _∷_}
 use mathlib.Core.Option.{Option, none, some}
 use lib.ListN.{length}
 use lib.Dec.{eqb, leb}
 use Rattle.lists.specs.Lists.{from, first}
-use Rattle.primitive.specs.Given.{Given, done, declined}
+use Rattle.primitive.specs.Given.{Given, done, declined, spoken}
 use Rattle.component.specs.declared.Record.{Record}
 use Rattle.component.specs.declared.Verdict.{Verdict}
 use Rattle.component.specs.declared.Verdict.the-variants.{Accepted, Refused}
@@ -36,14 +36,14 @@ abbrev pub refused : ℕ → ℕ → Verdict
 refused k p = Refused (record { number = k; position = p })
 
 -- Refused by check k at the position found, or else what the later checks say.
-abbrev pub said : ℕ → Option ℕ → Verdict → Verdict
-said k (some p) later = refused k p
-said k none later = later
+abbrev pub orLater : ℕ → Option ℕ → Verdict → Verdict
+orLater k (some p) later = refused k p
+orLater k none later = later
 
 -- Each check over all n records in file order before the next begins; the first that fails decides.
 abbrev pub judged : ℕ → List Check → Verdict
 judged n [] = Accepted
-judged n (k ∷ ks) = said (k .number) (first (k .fails) (from 0 n)) (judged n ks)
+judged n (k ∷ ks) = orLater (k .number) (first (k .fails) (from 0 n)) (judged n ks)
 
 -- Not 1: the file is not empty, a multiple of 24, and of at most 1,024 records.
 abbrev pub sized : List ℕ → Bool
@@ -52,11 +52,6 @@ sized file = not (eqb (length file) 0) && eqb (length file % 24) 0 && leb (recor
 -- What a file's bytes are judged to be; check 2 is not made.
 unfoldable pub verdict : List ℕ → Verdict
 verdict file = cond (sized file) (judged (recordCount file) (checks (recordAt file) (recordCount file))) (refused 1 0)
-
--- The host's number: number times 65,536 plus position.
-abbrev pub spoken : Verdict → ℕ
-spoken Accepted = 0
-spoken (Refused r) = 65536 * r .number + r .position
 
 -- What each verdict gives; where it is accepted, these values.
 abbrev pub verdictGives : Verdict → List ℕ → Given
@@ -69,4 +64,4 @@ Judges file r = verdictGives r [] ≡ verdictGives (verdict file) []
 
 -- The promise of the host's call.
 abbrev pub Speaks : List ℕ → ℕ → Type 0
-Speaks file r = r ≡ spoken (verdict file)
+Speaks file r = r ≡ spoken (verdictGives (verdict file) [])

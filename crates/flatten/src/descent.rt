@@ -6,12 +6,12 @@ ghost use Rattle.primitive.specs.Kinds.{inputWidth, outputWidth};
 ghost use Rattle.component.specs.Record.{recordAt, fieldsOf};
 ghost use Rattle.component.specs.Drawing.{child, outMap};
 ghost use Rattle.component.specs.Index.{IsTable, IsRange};
-ghost use Rattle.flatten.specs.Descent.{source, targets, fails15};
-ghost use Rattle.flatten.specs.Steps.{entered, unlike, IsStretch};
+ghost use Rattle.flatten.specs.Descent.{outputBelow, inputsBelow, fails15};
+ghost use Rattle.flatten.specs.Searches.{entered, unlike, IsStretch};
 use crate::Pin;
 use component::Reading;
 use component::Says;
-use component::Seen;
+use component::Stands;
 use component::child_of;
 use component::component_at;
 use component::deepest;
@@ -35,7 +35,7 @@ pub struct Stretch {
 fn input_width_at(file: &[u8], c: usize) -> u64
     ensures { λ x. ⌜ x ≡ inputWidth (fieldsOf (recordAt (now (file .entry)) c)) ⌝ }
 {
-    let Seen::Component { fields, .. } = component_at(file, c) else {
+    let Stands::Component { fields, .. } = component_at(file, c) else {
         return 1;
     };
     primitive::input_width(fields)
@@ -45,7 +45,7 @@ fn input_width_at(file: &[u8], c: usize) -> u64
 fn output_width_at(file: &[u8], c: usize) -> u64
     ensures { λ x. ⌜ x ≡ outputWidth (fieldsOf (recordAt (now (file .entry)) c)) ⌝ }
 {
-    let Seen::Component { fields, .. } = component_at(file, c) else {
+    let Stands::Component { fields, .. } = component_at(file, c) else {
         return 1;
     };
     primitive::output_width(fields)
@@ -64,7 +64,7 @@ pub fn source_of(
 ) -> Pin
     requires { ⌜ IsTable 256 (child (recordAt (now file)) n) (now children) ⌝ }
     requires { ⌜ IsTable 64 (outMap (recordAt (now file)) n) (now outs) ⌝ }
-    ensures { λ r. ⌜ r ≡ source (recordAt (now (file .entry))) n depth c i ⌝ }
+    ensures { λ r. ⌜ r ≡ outputBelow (recordAt (now (file .entry))) n depth c i ⌝ }
 {
     if depth == 0 {
         return Pin { comp: n, port: 0 };
@@ -131,7 +131,7 @@ fn differs(
 ) -> bool
     requires { ⌜ IsTable 256 (child (recordAt (now file)) n) (now children) ⌝ }
     requires { ⌜ IsRange (now file) n (now lo) (now hi) ⌝ }
-    ensures { λ r. ⌜ r ≡ any (unlike (recordAt (now (file .entry))) width) (targets (recordAt (now (file .entry))) n depth c i) ⌝ }
+    ensures { λ r. ⌜ r ≡ any (unlike (recordAt (now (file .entry))) width) (inputsBelow (recordAt (now (file .entry))) n depth c i) ⌝ }
 {
     if depth == 0 {
         return false;

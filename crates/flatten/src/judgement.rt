@@ -6,7 +6,7 @@ ghost use Rattle.component.specs.Record.{recordAt};
 ghost use Rattle.component.specs.Drawing.{child, outMap};
 ghost use Rattle.component.specs.Index.{IsTable, IsRange};
 ghost use Rattle.flatten.specs.Verdict.{checks, judged, sized, Judges};
-ghost use Rattle.flatten.specs.Steps.{failsBy, found};
+ghost use Rattle.flatten.specs.Searches.{failsBy, asFound};
 use crate::descent::check15;
 use component::Verdict;
 use component::check3;
@@ -80,7 +80,7 @@ fn first_fail(
     requires { ⌜ IsTable 64 (outMap (recordAt (now file)) n) (now outs) ⌝ }
     requires { ⌜ IsRange (now file) n (now lo) (now hi) ⌝ }
     requires { ⌜ (3 ≤ k) × (k < 16) × (n ≤ 1024) ⌝ }
-    ensures { λ r. ⌜ r ≡ found (first (failsBy (recordAt (now (file .entry))) n k) (from 0 n)) ⌝ }
+    ensures { λ r. ⌜ r ≡ asFound (first (failsBy (recordAt (now (file .entry))) n k) (from 0 n)) ⌝ }
 {
     let mut q: usize = 0;
     while q < n {

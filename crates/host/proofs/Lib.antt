@@ -1,4 +1,4 @@
 pub mod WordsLaws
 pub mod NumbersLaws
-pub mod CallsLaws
-pub mod Determinacy
+pub mod HostLaws
+pub mod HostDeterminacy

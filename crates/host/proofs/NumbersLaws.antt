@@ -12,22 +12,25 @@ use Rattle.lists.specs.Lists.{refusal, _if_}
 use Rattle.primitive.specs.declared.table.Fields.{Fields}
 use Rattle.value.specs.Value.{below, level}
 use Rattle.primitive.specs.declared.kinds.Kind.the-variants.{Switch, Input}
-use Rattle.primitive.specs.Kinds.{is, kept, unknown, primitive, obeys, inputWidth, outputWidth}
-use Rattle.primitive.specs.Given.{Given, done, declined, refusedBy, giving}
+use Rattle.primitive.specs.Kinds.{is, forCustom, unknown, primitive, obeys, inputWidth, outputWidth}
+use Rattle.primitive.specs.Given.{Given, done, declined, refusedBy, giving, spoken}
 use Rattle.primitive.specs.Evaluate.{fitting, evaluateNumber}
 use Rattle.component.specs.declared.Verdict.{Verdict}
 use Rattle.component.specs.declared.Verdict.the-variants.{Accepted, Refused as Judged}
-use Rattle.flatten.specs.Verdict.{sized, spoken, refused, verdict, verdictGives}
+use Rattle.flatten.specs.Verdict.{sized, refused, verdict, verdictGives}
 use Rattle.flatten.proofs.JudgementLaws.{verdict-bound}
 use Rattle.tables.specs.Tables.{Tables, fullSize, fieldsAt, indexOf}
 use Rattle.load.specs.Load.{loadVerdict}
-use Rattle.net.specs.Net.{isNet, netNumber}
+use Rattle.net.specs.Net.{isNet, netNumber, onNet}
 use Rattle.simulator.specs.declared.Side.{Side}
 use Rattle.simulator.specs.declared.Port.the-variants.{Is as PortIs}
 use Rattle.simulator.specs.Round.{calm}
 use Rattle.simulator.specs.Calls.{driven, editNumber}
-use Rattle.simulator.specs.Questions.{ofNet, found, portCount, valueAt, valueGives, valueOnNet, listNumber}
-use Rattle.host.specs.Host.{saying}
+use Rattle.simulator.specs.Questions.{ofNet, indexFound, portCount, valueAt, valueGives, valueOnNet, listNumber}
+
+-- The host's number of a verdict.
+abbrev spokenOf : Verdict → ℕ
+spokenOf v = spoken (verdictGives v [])
 
 -- What is chosen by a test is small where both choices are.
 pick : (b : Bool) (x y : ℕ) → x ≤ 19 → y ≤ 19 → cond b x y ≤ 19
@@ -54,27 +57,31 @@ net-small T =
     ((2 if not (fullSize T)) ∷ (16 if not (isNet T)) ∷ [])
     (omega arith, (omega arith, omega arith))
 
+-- A call that checks 2 and 16 first.
+on-net-small : (T : Tables) (k : ℕ) → k ≤ 19 → onNet T k ≤ 19
+on-net-small T k h = pick (eqb (netNumber T) 0) k (netNumber T) h (net-small T)
+
 edit-number-small : (T : Tables) (i v : ℕ) → editNumber T i v ≤ 19
 unfolding editNumber
 edit-number-small T i v =
-    refusal-small
-    ((2 if not (fullSize T)) ∷ (16 if not (isNet T)) ∷ (17 if leb (T .counts .components) i)
+    on-net-small T _
+    (refusal-small
+    ((17 if leb (T .counts .components) i)
     ∷ (18 if not (is Switch (fieldsAt T i) || (is Input (fieldsAt T i) && not (driven T i))))
     ∷ (19 if not (below v (cond (is Switch (fieldsAt T i)) (outputWidth (fieldsAt T i)) (inputWidth (fieldsAt T i))))) ∷ [])
-    (omega arith, (omega arith, (omega arith, (omega arith, (omega arith, omega arith)))))
+    (omega arith, (omega arith, (omega arith, omega arith))))
 
 list-number-small : (T : Tables) (i : ℕ) (ls : List ℕ) → listNumber T i ls ≤ 19
 unfolding listNumber
 list-number-small T i ls =
-    refusal-small
-    ((2 if not (fullSize T) || ltb (length ls) 256) ∷ (16 if not (isNet T)) ∷ (17 if leb (T .counts .components) i) ∷ [])
-    (omega arith, (omega arith, (omega arith, omega arith)))
+    pick (ltb (length ls) 256) 2 _ (omega arith)
+    (on-net-small T _ (pick (leb (T .counts .components) i) 17 0 (omega arith) (omega arith)))
 
 evaluate-number-small : (f : Fields) (xs vs ys ws : List ℕ) → evaluateNumber f xs vs ys ws ≤ 19
 unfolding evaluateNumber
 evaluate-number-small f xs vs ys ws =
     refusal-small
-    ((7 if kept (f .kind)) ∷ (8 if unknown (f .kind)) ∷ (9 if not (primitive f && obeys f))
+    ((7 if forCustom (f .kind)) ∷ (8 if unknown (f .kind)) ∷ (9 if not (primitive f && obeys f))
     ∷ (2 if ltb (length xs) (f .inputs) || ltb (length vs) (f .inputs) || ltb (length ys) (f .outputs) || ltb (length ws) (f .outputs))
     ∷ (19 if not (fitting (inputWidth f) (f .inputs) xs vs && fitting (outputWidth f) (f .outputs) ys ws)) ∷ [])
     (omega arith, (omega arith, (omega arith, (omega arith, (omega arith, omega arith)))))
@@ -86,7 +93,7 @@ giving-small k xs h = either (λ (g : Given). g .number) (eqb k 0) (done xs) (de
 ofNet-small : (T : Tables) (g : Given) → g .number ≤ 19 → ofNet T g .number ≤ 19
 ofNet-small T g h = either (λ (x : Given). x .number) (eqb (netNumber T) 0) g (declined (refusedBy (netNumber T))) h (net-small T)
 
-found-small : (o : Option ℕ) → found o .number ≤ 19
+found-small : (o : Option ℕ) → indexFound o .number ≤ 19
 found-small (some i) = omega arith
 found-small none = omega arith
 
@@ -110,8 +117,8 @@ edited-small T i v g xs e = fits g (giving (editNumber T i v) xs) e (giving-smal
 pub calm-small : (T : Tables) (g : Given) → g ≡ ofNet T (done (level (calm T) ∷ [])) → g .number < 65536
 calm-small T g e = fits g (ofNet T (done (level (calm T) ∷ []))) e (ofNet-small T (done (level (calm T) ∷ [])) (omega arith))
 
-pub index-small : (T : Tables) (id : ℕ) (g : Given) → g ≡ ofNet T (found (indexOf T id)) → g .number < 65536
-index-small T id g e = fits g (ofNet T (found (indexOf T id))) e (ofNet-small T (found (indexOf T id)) (found-small (indexOf T id)))
+pub index-small : (T : Tables) (id : ℕ) (g : Given) → g ≡ ofNet T (indexFound (indexOf T id)) → g .number < 65536
+index-small T id g e = fits g (ofNet T (indexFound (indexOf T id))) e (ofNet-small T (indexFound (indexOf T id)) (found-small (indexOf T id)))
 
 pub value-small : (T : Tables) (side : Side) (i p : ℕ) (g : Given) → g ≡ ofNet T (valueOnNet T side i p) → g .number < 65536
 value-small T side i p g e =
@@ -126,26 +133,26 @@ evaluate-small f xs vs ys ws g e =
     (giving-small (evaluateNumber f xs vs ys ws) [] (evaluate-number-small f xs vs ys ws))
 
 -- A load's number and position fit the answer.
-spoken-small : (file : List ℕ) (v : Verdict) → verdict file ≡ v → spoken v < 4294967296
+spoken-small : (file : List ℕ) (v : Verdict) → verdict file ≡ v → spokenOf v < 4294967296
 spoken-small file Accepted e = omega arith
 spoken-small file (Judged r) e = let b = verdict-bound file r e in omega arith
 
-cond-small : (b : Bool) (x y : Verdict) → spoken x < 4294967296 → spoken y < 4294967296 → spoken (cond b x y) < 4294967296
+cond-small : (b : Bool) (x y : Verdict) → spokenOf x < 4294967296 → spokenOf y < 4294967296 → spokenOf (cond b x y) < 4294967296
 cond-small true x y h k = h
 cond-small false x y h k = k
 
-load-verdict-small : (file : List ℕ) (T : Tables) → spoken (loadVerdict file T) < 4294967296
+load-verdict-small : (file : List ℕ) (T : Tables) → spokenOf (loadVerdict file T) < 4294967296
 unfolding loadVerdict
 load-verdict-small file T =
     cond-small (sized file) (cond (fullSize T) (verdict file) (refused 2 0)) (refused 1 0)
     (cond-small (fullSize T) (verdict file) (refused 2 0) (spoken-small file (verdict file) refl) (omega arith)) (omega arith)
 
-by-verdict : (v : Verdict) (xs : List ℕ) → saying (verdictGives v xs) ≡ spoken v
+by-verdict : (v : Verdict) (xs : List ℕ) → spoken (verdictGives v xs) ≡ spokenOf v
 by-verdict Accepted xs = refl
 by-verdict (Judged r) xs = refl
 
-pub load-small : (file : List ℕ) (T : Tables) (g : Given) (xs : List ℕ) → g ≡ verdictGives (loadVerdict file T) xs → saying g < 4294967296
+pub load-small : (file : List ℕ) (T : Tables) (g : Given) (xs : List ℕ) → g ≡ verdictGives (loadVerdict file T) xs → spoken g < 4294967296
 load-small file T g xs e =
-    let same : saying g ≡ spoken (loadVerdict file T) = ap saying e ∙ by-verdict (loadVerdict file T) xs in
+    let same : spoken g ≡ spokenOf (loadVerdict file T) = ap spoken e ∙ by-verdict (loadVerdict file T) xs in
     let small = load-verdict-small file T in
     subst (λ (k : ℕ). k < 4294967296) (sym same) small

@@ -1,7 +1,7 @@
 -- What the calls of the screen's host give back. docs/SPECIFICATION.md, "Rounds" (the host's call) and "Numbers given back".
 --   countsIn                 the counts that seven words hold
 --   told, laid, made         a call's answer, the words it lays, the tables it leaves: 2 where lent words are too few
---   Changes, Answers         what a call that changes the tables promises, and one that asks
+--   CallChanges, Answers         what a call that changes the tables promises, and one that asks
 -- Assumes nothing.
 use Prim.Native.Nat.{ℕ, _+_, _*_}
 use mathlib.Core.Path.{_≡_}
@@ -12,7 +12,7 @@ use lib.ListN.{length, getD, take, drop}
 use lib.Dec.{eqb, ltb}
 use Rattle.lists.specs.Lists.{overlay}
 use Rattle.primitive.specs.declared.table.Fields.{Fields}
-use Rattle.primitive.specs.Given.{Given}
+use Rattle.primitive.specs.Given.{Given, spoken}
 use Rattle.flatten.specs.Verdict.{sized, verdictGives}
 use Rattle.tables.specs.declared.Counts.{Counts}
 use Rattle.tables.specs.Tables.{Tables, countsOf, countWords}
@@ -31,10 +31,6 @@ valuesOf none = []
 
 abbrev pub valuesIn : Given → List ℕ
 valuesIn g = valuesOf (g .values)
-
--- "number times 65,536 plus position".
-abbrev pub saying : Given → ℕ
-saying g = 65536 * g .number + g .position
 
 -- Fewer words are lent than a call needs.
 abbrev pub short : List ℕ → ℕ → Bool
@@ -76,10 +72,10 @@ abbrev pub made : Bool → Tables → Tables → Tables
 made few new old = cond few old new
 
 -- A round or an edit.
-pub record Changes (given : Tables → List ℕ → Given) (after : Tables → Tables) (ws ws′ : List ℕ) (lent left : Counts → Tables) (r : ℕ) : Type 0 where
+pub record CallChanges (given : Tables → List ℕ → Given) (after : Tables → Tables) (ws ws′ : List ℕ) (lent left : Counts → Tables) (r : ℕ) : Type 0 where
   pub answered : r ≡ told (short ws 7) (gave given after (lent (countsIn ws)))
   pub counted : ws′ ≡ laid (short ws 7) (valuesIn (gave given after (lent (countsIn ws)))) ws
-  pub kept :
+  pub tables :
       left (made (short ws 7) (after (lent (countsIn ws))) (lent (countsIn ws)) .counts)
       ≡ made (short ws 7) (after (lent (countsIn ws))) (lent (countsIn ws))
 
@@ -88,21 +84,21 @@ abbrev pub fewer : List ℕ → List ℕ → ℕ → Bool
 fewer ws fs n = short ws 7 || short fs n
 
 -- Run until calm.
-pub record Runs (given : Tables → List ℕ → Given) (after : Tables → Tables) (ws ws′ fs fs′ : List ℕ) (lent left : Counts → Tables) (r : ℕ) : Type 0 where
+pub record CallRuns (given : Tables → List ℕ → Given) (after : Tables → Tables) (ws ws′ fs fs′ : List ℕ) (lent left : Counts → Tables) (r : ℕ) : Type 0 where
   pub answered : r ≡ told (fewer ws fs 2) (gave given after (lent (countsIn ws)))
   pub counted : ws′ ≡ laid (fewer ws fs 2) (runCounts (gave given after (lent (countsIn ws)))) ws
   pub found : fs′ ≡ laid (fewer ws fs 2) (runWords (gave given after (lent (countsIn ws)))) fs
-  pub kept :
+  pub tables :
       left (made (fewer ws fs 2) (after (lent (countsIn ws))) (lent (countsIn ws)) .counts)
       ≡ made (fewer ws fs 2) (after (lent (countsIn ws))) (lent (countsIn ws))
 
 -- A question whose answer has n values.
-pub record Answers (gives : Tables → Given) (n : ℕ) (ws fs fs′ : List ℕ) (lent : Counts → Tables) (r : ℕ) : Type 0 where
+pub record CallAnswers (gives : Tables → Given) (n : ℕ) (ws fs fs′ : List ℕ) (lent : Counts → Tables) (r : ℕ) : Type 0 where
   pub answered : r ≡ told (fewer ws fs n) (gives (lent (countsIn ws)))
   pub found : fs′ ≡ laid (fewer ws fs n) (valuesIn (gives (lent (countsIn ws)))) fs
 
 -- A question that also lays a list: ls and ls′ are the lent list before and after.
-pub record Lists (gives : Tables → Given) (list : Tables → List ℕ) (ws ls ls′ fs fs′ : List ℕ) (lent : Counts → Tables) (r : ℕ) : Type 0 where
+pub record CallLists (gives : Tables → Given) (list : Tables → List ℕ) (ws ls ls′ fs fs′ : List ℕ) (lent : Counts → Tables) (r : ℕ) : Type 0 where
   pub answered : r ≡ told (fewer ws fs 1) (gives (lent (countsIn ws)))
   pub listed : ls′ ≡ cond (fewer ws fs 1) ls (list (lent (countsIn ws)))
   pub found : fs′ ≡ laid (fewer ws fs 1) (valuesIn (gives (lent (countsIn ws)))) fs
@@ -116,9 +112,9 @@ abbrev pub loadGives : List ℕ → Tables → Given
 loadGives file = gave (λ T. verdictGives (loadVerdict file T)) (loadTables file)
 
 -- A load.
-pub record LoadsInto (file ws ws′ : List ℕ) (lent left : Counts → Tables) (r : ℕ) : Type 0 where
-  pub answered : r ≡ cond (fewToLoad file ws) 131072 (saying (loadGives file (lent (countsIn ws))))
+pub record CallLoads (file ws ws′ : List ℕ) (lent left : Counts → Tables) (r : ℕ) : Type 0 where
+  pub answered : r ≡ cond (fewToLoad file ws) 131072 (spoken (loadGives file (lent (countsIn ws))))
   pub counted : ws′ ≡ laid (fewToLoad file ws) (valuesIn (loadGives file (lent (countsIn ws)))) ws
-  pub kept :
+  pub tables :
       left (made (fewToLoad file ws) (loadTables file (lent (countsIn ws))) (lent (countsIn ws)) .counts)
       ≡ made (fewToLoad file ws) (loadTables file (lent (countsIn ws))) (lent (countsIn ws))

@@ -1,2 +1,2 @@
 pub mod Host
-pub mod Determined
+pub mod HostDetermined

@@ -5,7 +5,7 @@ ghost use Rattle.value.specs.Value.{level};
 ghost use Rattle.primitive.specs.Given.{done};
 ghost use Rattle.simulator.specs.Round.{calm};
 ghost use Rattle.simulator.specs.Questions.{ofNet};
-ghost use Rattle.host.specs.Host.{Answers};
+ghost use Rattle.host.specs.Host.{CallAnswers};
 use crate::answers::lay_calm;
 use crate::counts::counts_in;
 
@@ -22,7 +22,7 @@ pub extern "C" fn berxundar_calm(
     counts: &[u64],
     found: &mut [u64],
 ) -> u32
-    ensures { λ r. ⌜ Answers (λ T. ofNet T (done (level (calm T) ∷ []))) 1 (now (counts .entry)) (now (found .entry)) (now (found .exit)) (tablesOf (now (components .entry)) (now (inputs .entry)) (now (outputs .entry)) (now (wires .entry)) (now (current .entry)) (now (following .entry)) (now (standing .entry))) r ⌝ }
+    ensures { λ r. ⌜ CallAnswers (λ T. ofNet T (done (level (calm T) ∷ []))) 1 (now (counts .entry)) (now (found .entry)) (now (found .exit)) (tablesOf (now (components .entry)) (now (inputs .entry)) (now (outputs .entry)) (now (wires .entry)) (now (current .entry)) (now (following .entry)) (now (standing .entry))) r ⌝ }
 {
     if (counts.len() < 7) | (found.len() < 1) {
         return 131072;

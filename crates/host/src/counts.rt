@@ -3,8 +3,9 @@ ghost use mathlib.Core.Path.{_≡_};
 ghost use Prim.Native.Nat.{_*_, _<_, _≤_};
 ghost use lib.ListN.{length, getD};
 ghost use Rattle.lists.specs.Lists.{overlay};
+ghost use Rattle.primitive.specs.Given.{spoken};
 ghost use Rattle.tables.specs.Tables.{countWords, answerGives};
-ghost use Rattle.host.specs.Host.{countsIn, valuesIn, saying};
+ghost use Rattle.host.specs.Host.{countsIn, valuesIn};
 use tables::Answer;
 use tables::Counts;
 
@@ -60,8 +61,8 @@ pub(crate) fn keep(words: &mut [u64], answer: Answer) -> u32
 
 // The same of a load, whose refusals have a position.
 pub(crate) fn keep_loaded(words: &mut [u64], answer: Answer) -> u32
-    requires { ⌜ (7 ≤ length (now words)) × (saying (answerGives answer) < 4294967296) ⌝ }
-    ensures { λ r. ⌜ (r ≡ saying (answerGives answer)) × (now (words .exit) ≡ overlay (valuesIn (answerGives answer)) (now (words .entry))) ⌝ }
+    requires { ⌜ (7 ≤ length (now words)) × (spoken (answerGives answer) < 4294967296) ⌝ }
+    ensures { λ r. ⌜ (r ≡ spoken (answerGives answer)) × (now (words .exit) ≡ overlay (valuesIn (answerGives answer)) (now (words .entry))) ⌝ }
 {
     match answer {
         Answer::Done(counts) => {

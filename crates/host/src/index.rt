@@ -1,7 +1,7 @@
 // The index of an id, called from C.
 ghost use Rattle.tables.specs.Tables.{tablesOf, indexOf};
-ghost use Rattle.simulator.specs.Questions.{ofNet, found as foundAt};
-ghost use Rattle.host.specs.Host.{Answers};
+ghost use Rattle.simulator.specs.Questions.{ofNet, indexFound};
+ghost use Rattle.host.specs.Host.{CallAnswers};
 use crate::answers::lay_index;
 use crate::counts::counts_in;
 use component::Id;
@@ -20,7 +20,7 @@ pub extern "C" fn berxundar_index(
     id: u32,
     found: &mut [u64],
 ) -> u32
-    ensures { λ r. ⌜ Answers (λ T. ofNet T (foundAt (indexOf T id))) 1 (now (counts .entry)) (now (found .entry)) (now (found .exit)) (tablesOf (now (components .entry)) (now (inputs .entry)) (now (outputs .entry)) (now (wires .entry)) (now (current .entry)) (now (following .entry)) (now (standing .entry))) r ⌝ }
+    ensures { λ r. ⌜ CallAnswers (λ T. ofNet T (indexFound (indexOf T id))) 1 (now (counts .entry)) (now (found .entry)) (now (found .exit)) (tablesOf (now (components .entry)) (now (inputs .entry)) (now (outputs .entry)) (now (wires .entry)) (now (current .entry)) (now (following .entry)) (now (standing .entry))) r ⌝ }
 {
     if (counts.len() < 7) | (found.len() < 1) {
         return 131072;

@@ -1,6 +1,6 @@
 // A load, called from C.
 ghost use Rattle.tables.specs.Tables.{tablesOf};
-ghost use Rattle.host.specs.Host.{LoadsInto};
+ghost use Rattle.host.specs.Host.{CallLoads};
 use crate::counts::keep_loaded;
 
 // Loads a drawing file into the tables.
@@ -16,7 +16,7 @@ pub extern "C" fn berxundar_load(
     standing: &mut [u16],
     counts: &mut [u64],
 ) -> u32
-    ensures { λ r. ⌜ LoadsInto (now (file .entry)) (now (counts .entry)) (now (counts .exit)) (tablesOf (now (components .entry)) (now (inputs .entry)) (now (outputs .entry)) (now (wires .entry)) (now (current .entry)) (now (following .entry)) (now (standing .entry))) (tablesOf (now (components .exit)) (now (inputs .exit)) (now (outputs .exit)) (now (wires .exit)) (now (current .exit)) (now (following .exit)) (now (standing .exit))) r ⌝ }
+    ensures { λ r. ⌜ CallLoads (now (file .entry)) (now (counts .entry)) (now (counts .exit)) (tablesOf (now (components .entry)) (now (inputs .entry)) (now (outputs .entry)) (now (wires .entry)) (now (current .entry)) (now (following .entry)) (now (standing .entry))) (tablesOf (now (components .exit)) (now (inputs .exit)) (now (outputs .exit)) (now (wires .exit)) (now (current .exit)) (now (following .exit)) (now (standing .exit))) r ⌝ }
 {
     if !flatten::is_sized(file) {
         return 65536;

@@ -1,7 +1,7 @@
 // A port's value, called from C.
 ghost use Rattle.tables.specs.Tables.{tablesOf};
 ghost use Rattle.simulator.specs.Questions.{ofNet, valueOnNet};
-ghost use Rattle.host.specs.Host.{Answers, sideOf};
+ghost use Rattle.host.specs.Host.{CallAnswers, sideOf};
 use crate::answers::lay_value;
 use crate::answers::side_of;
 use crate::counts::counts_in;
@@ -23,7 +23,7 @@ pub extern "C" fn berxundar_value(
     port: usize,
     found: &mut [u64],
 ) -> u32
-    ensures { λ r. ⌜ Answers (λ T. ofNet T (valueOnNet T (sideOf side) index port)) 2 (now (counts .entry)) (now (found .entry)) (now (found .exit)) (tablesOf (now (components .entry)) (now (inputs .entry)) (now (outputs .entry)) (now (wires .entry)) (now (current .entry)) (now (following .entry)) (now (standing .entry))) r ⌝ }
+    ensures { λ r. ⌜ CallAnswers (λ T. ofNet T (valueOnNet T (sideOf side) index port)) 2 (now (counts .entry)) (now (found .entry)) (now (found .exit)) (tablesOf (now (components .entry)) (now (inputs .entry)) (now (outputs .entry)) (now (wires .entry)) (now (current .entry)) (now (following .entry)) (now (standing .entry))) r ⌝ }
 {
     if (counts.len() < 7) | (found.len() < 2) {
         return 131072;

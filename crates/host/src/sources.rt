@@ -7,7 +7,7 @@ ghost use Rattle.lists.specs.Lists.{overlay};
 ghost use Rattle.primitive.specs.Given.{giving};
 ghost use Rattle.tables.specs.Tables.{tablesOf, sources};
 ghost use Rattle.simulator.specs.Questions.{listNumber};
-ghost use Rattle.host.specs.Host.{Lists};
+ghost use Rattle.host.specs.Host.{CallLists};
 use crate::answers::lay_listed;
 use crate::counts::counts_in;
 use component::FlatIdx;
@@ -27,7 +27,7 @@ pub extern "C" fn berxundar_sources(
     list: &mut [u16],
     found: &mut [u64],
 ) -> u32
-    ensures { λ r. ⌜ Lists (λ T. giving (listNumber T index (now (list .entry))) (length (sources T index) ∷ []))
+    ensures { λ r. ⌜ CallLists (λ T. giving (listNumber T index (now (list .entry))) (length (sources T index) ∷ []))
         (λ T. cond (eqb (listNumber T index (now (list .entry))) 0) (overlay (sources T index) (now (list .entry))) (now (list .entry)))
         (now (counts .entry)) (now (list .entry)) (now (list .exit)) (now (found .entry)) (now (found .exit)) (tablesOf (now (components .entry)) (now (inputs .entry)) (now (outputs .entry)) (now (wires .entry)) (now (current .entry)) (now (following .entry)) (now (standing .entry))) r ⌝ }
 {

@@ -5,9 +5,9 @@ ghost use lib.ListN.{length};
 ghost use lib.Dec.{eqb};
 ghost use Rattle.lists.specs.Lists.{overlay};
 ghost use Rattle.primitive.specs.Given.{giving};
-ghost use Rattle.tables.specs.Tables.{tablesOf, targetsIn};
+ghost use Rattle.tables.specs.Tables.{tablesOf, targets};
 ghost use Rattle.simulator.specs.Questions.{listNumber};
-ghost use Rattle.host.specs.Host.{Lists};
+ghost use Rattle.host.specs.Host.{CallLists};
 use crate::answers::lay_listed;
 use crate::counts::counts_in;
 use component::FlatIdx;
@@ -27,8 +27,8 @@ pub extern "C" fn berxundar_targets(
     list: &mut [u16],
     found: &mut [u64],
 ) -> u32
-    ensures { λ r. ⌜ Lists (λ T. giving (listNumber T index (now (list .entry))) (length (targetsIn T index) ∷ []))
-        (λ T. cond (eqb (listNumber T index (now (list .entry))) 0) (overlay (targetsIn T index) (now (list .entry))) (now (list .entry)))
+    ensures { λ r. ⌜ CallLists (λ T. giving (listNumber T index (now (list .entry))) (length (targets T index) ∷ []))
+        (λ T. cond (eqb (listNumber T index (now (list .entry))) 0) (overlay (targets T index) (now (list .entry))) (now (list .entry)))
         (now (counts .entry)) (now (list .entry)) (now (list .exit)) (now (found .entry)) (now (found .exit)) (tablesOf (now (components .entry)) (now (inputs .entry)) (now (outputs .entry)) (now (wires .entry)) (now (current .entry)) (now (following .entry)) (now (standing .entry))) r ⌝ }
 {
     if (counts.len() < 7) | (found.len() < 1) {

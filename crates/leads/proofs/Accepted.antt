@@ -17,7 +17,7 @@ use Rattle.lists.proofs.MembersLaws.{In, first-none, from0-complete, getD-cases
 use Rattle.component.specs.declared.Record.{Record}
 use Rattle.component.specs.declared.Verdict.the-variants.{Accepted}
 use Rattle.component.specs.Record.{noRecord, recordAt, recordCount}
-use Rattle.flatten.specs.Verdict.{Check, check, checks, refused, said, judged, sized, verdict}
+use Rattle.flatten.specs.Verdict.{Check, check, checks, refused, orLater, judged, sized, verdict}
 
 -- A refusal is no acceptance.
 pub refused-not : (k p : ℕ) → refused k p ≡ Accepted → ⊥
@@ -32,7 +32,7 @@ judged-passes n (j ∷ ks) e k h p l =
   where
     by-found : (judged n ks ≡ Accepted → In k ks → k .fails p ≡ false)
         → (found : Option ℕ) → first (j .fails) (from 0 n) ≡ found
-        → said (j .number) found (judged n ks) ≡ Accepted → In k (j ∷ ks) → k .fails p ≡ false
+        → orLater (j .number) found (judged n ks) ≡ Accepted → In k (j ∷ ks) → k .fails p ≡ false
     by-found later (some q) z e h = absurd (refused-not (j .number) q e)
     by-found later none z e (inl u) =
         ap (λ (c : Check). c .fails p) u

@@ -12,14 +12,15 @@ use Rattle.lists.specs.Lists.{from, joined}
 use Rattle.lists.proofs.MembersLaws.{In, Distinct, distinct-bound, from0-complete, from-length, joined-complete}
 use Rattle.lists.proofs.MembersLaws.{joined-length, map-append, map-complete, map-sound, total-cong}
 use Rattle.component.specs.declared.Record.{Record}
-use Rattle.component.specs.Record.{formOf, inputsOf}
+use Rattle.component.specs.Record.{inputsOf}
+use Rattle.component.specs.Reading.{formOf}
 use Rattle.component.specs.Drawing.{primitivesBefore, inputsBefore}
 use Rattle.flatten.specs.declared.Pin.{Pin}
 use Rattle.flatten.specs.declared.Wire.{Wire}
-use Rattle.flatten.specs.Descent.{pin, targetsOf, wiresAt, wires}
+use Rattle.flatten.specs.Descent.{pin, goesTo, wiresAt, wires}
 use Rattle.leads.proofs.Accepted.{Passed}
 use Rattle.leads.proofs.Wires.{wire}
-use Rattle.leads.proofs.Entries.{targetsAt, targetsAt-distinct}
+use Rattle.leads.proofs.EnteredOnce.{targetsAt, targetsAt-distinct}
 use Rattle.leads.proofs.Ends.{IsInput, wires-enter}
 use Rattle.leads.proofs.Primitives.{primitive-below, primitivesBefore-complete, inputs-bound}
 
@@ -36,8 +37,8 @@ module _ (at : ℕ → Record) (n : ℕ) where
   pub wires-targets : entered (wires at n) ≡ joined (targetsAt at n) (from 0 n)
   wires-targets = by-records (from 0 n)
     where
-      by-form : (b : Bool) (p : ℕ) → entered (cond b (wiresAt at n p) []) ≡ cond b (targetsOf at n p) []
-      by-form true p = entered-targets _ (targetsOf at n p)
+      by-form : (b : Bool) (p : ℕ) → entered (cond b (wiresAt at n p) []) ≡ cond b (goesTo at n p) []
+      by-form true p = entered-targets _ (goesTo at n p)
       by-form false p = refl
 
       wiresFrom : ℕ → List Wire

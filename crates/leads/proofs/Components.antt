@@ -19,7 +19,8 @@ use Rattle.lists.proofs.MembersLaws.{In, or-left-false, or-right-false, or-case
 use Rattle.lists.proofs.MembersLaws.{keep-sound, from-sound, distinct-place, distinct-keep, distinct-from}
 use Rattle.primitive.specs.declared.table.Fields.{Fields}
 use Rattle.component.specs.declared.Record.{Record}
-use Rattle.component.specs.Record.{formOf, ownerOf, fieldsOf, inputsOf, outputsOf, composite, isPrimitive}
+use Rattle.component.specs.Record.{fieldsOf, inputsOf, outputsOf, composite, isPrimitive}
+use Rattle.component.specs.Reading.{ownerOf, formOf}
 use Rattle.component.specs.Drawing.{deepest, isComponent, child, holds, deeper}
 use Rattle.component.proofs.RecordLaws.{fields-cases}
 use Rattle.leads.proofs.Accepted.{Passed}

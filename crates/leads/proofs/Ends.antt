@@ -14,12 +14,12 @@ use Rattle.component.specs.Record.{fieldsOf, toOf, inputOf, inputsOf, outputsOf
 use Rattle.component.specs.Drawing.{child}
 use Rattle.flatten.specs.declared.Pin.{Pin}
 use Rattle.flatten.specs.declared.Wire.{Wire}
-use Rattle.flatten.specs.Descent.{sourceOf, targetsOf, wiresAt, wires}
+use Rattle.flatten.specs.Descent.{comesFrom, goesTo, wiresAt, wires}
 use Rattle.flatten.specs.Leads.{From, starts, through, Into, ends, maps}
 use Rattle.leads.proofs.Accepted.{Passed}
 use Rattle.leads.proofs.Components.{output-component, component-composite}
-use Rattle.leads.proofs.Descent.{mapsIn-sound, outMap-there}
-use Rattle.leads.proofs.Entries.{entry-there}
+use Rattle.leads.proofs.DescentLeads.{mapsIn-sound, outMap-there}
+use Rattle.leads.proofs.EnteredOnce.{entry-there}
 use Rattle.leads.proofs.Wires.{wire, Yielded, wires-sound, connection-ends, wires-lead}
 
 -- An output of a primitive that there is, and an input of one.
@@ -71,5 +71,5 @@ module _ (at : ℕ → Record) (n : ℕ) (d : Passed at n) where
           let p = y .by in
           let fifteen : any differs (wiresAt at n p) ≡ false = rw (y .connects) at (d .passes 15 p (y .in-file)) in
           let yielded : In w (wiresAt at n p) =
-          rw (y .source-is) (map-complete (wire (sourceOf at n p)) (w .dst) (targetsOf at n p) (y .target-is)) in
+          rw (y .source-is) (map-complete (wire (comesFrom at n p)) (w .dst) (goesTo at n p) (y .target-is)) in
           eqb-true _ _ (not-false _ (any-none differs w (wiresAt at n p) fifteen yielded))

@@ -1,10 +1,10 @@
 pub mod Accepted
 pub mod Components
-pub mod Descent
+pub mod DescentLeads
 pub mod Wires
 pub mod Primitives
-pub mod Entries
+pub mod EnteredOnce
 pub mod Ends
 pub mod Bound
 pub mod FlatWires
-pub mod Theorems
+pub mod WireTheorems

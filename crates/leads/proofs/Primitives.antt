@@ -18,7 +18,8 @@ use Rattle.lists.proofs.MembersLaws.{from-last, from-length, distinct-place, di
 use Rattle.lists.proofs.MembersLaws.{distinct-bound}
 use Rattle.primitive.specs.Kinds.{primitive, obeys}
 use Rattle.component.specs.declared.Record.{Record}
-use Rattle.component.specs.Record.{formOf, fieldsOf, idOf, hasId, inputsOf, outputsOf, isPrimitive}
+use Rattle.component.specs.Record.{fieldsOf, hasId, inputsOf, outputsOf, isPrimitive}
+use Rattle.component.specs.Reading.{idOf, formOf}
 use Rattle.component.specs.Drawing.{primitivesBefore, inputsBefore, outputsBefore}
 use Rattle.flatten.specs.Descent.{flat}
 use Rattle.leads.proofs.Accepted.{Passed}

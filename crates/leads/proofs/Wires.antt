@@ -12,14 +12,15 @@ use Rattle.lists.proofs.ListsLaws.{and-left, and-right}
 use Rattle.lists.proofs.MembersLaws.{In, in-cond, from0-sound, from0-complete, joined-sound, joined-complete, map-sound}
 use Rattle.lists.proofs.MembersLaws.{map-complete}
 use Rattle.component.specs.declared.Record.{Record}
-use Rattle.component.specs.Record.{formOf, ownerOf, fromOf, outputOf, toOf, inputOf, inputsOf, outputsOf}
+use Rattle.component.specs.Record.{fromOf, outputOf, toOf, inputOf, inputsOf, outputsOf}
+use Rattle.component.specs.Reading.{ownerOf, formOf}
 use Rattle.component.specs.Drawing.{deepest, child, fromThere, toThere}
 use Rattle.flatten.specs.declared.Pin.{Pin}
 use Rattle.flatten.specs.declared.Wire.{Wire}
-use Rattle.flatten.specs.Descent.{sourceOf, targetsOf, wiresAt, wires}
+use Rattle.flatten.specs.Descent.{comesFrom, goesTo, wiresAt, wires}
 use Rattle.flatten.specs.Leads.{Leads}
 use Rattle.leads.proofs.Accepted.{Passed}
-use Rattle.leads.proofs.Descent.{targets-sound, targets-complete, source-sound, source-complete}
+use Rattle.leads.proofs.DescentLeads.{targets-sound, targets-complete, source-sound, source-complete}
 
 -- A wire from one end to the other.
 abbrev pub wire : Pin → Pin → Wire
@@ -30,8 +31,8 @@ pub record Yielded (at : ℕ → Record) (n : ℕ) (w : Wire) : Type 0 where
   pub by : ℕ
   pub in-file : by < n
   pub connects : formOf (at by) ≡ 2
-  pub source-is : w .src ≡ sourceOf at n by
-  pub target-is : In (w .dst) (targetsOf at n by)
+  pub source-is : w .src ≡ comesFrom at n by
+  pub target-is : In (w .dst) (goesTo at n by)
 
 module _ (at : ℕ → Record) (n : ℕ) where
   -- The wires are those that connections yield.
@@ -40,13 +41,13 @@ module _ (at : ℕ → Record) (n : ℕ) where
       let r = joined-sound (λ p. cond (eqb (formOf (at p)) 2) (wiresAt at n p) []) w (from 0 n) h in
       let p = r .0 in
       let c = in-cond w (eqb (formOf (at p)) 2) (wiresAt at n p) (r .2) in
-      let m = map-sound (wire (sourceOf at n p)) w (targetsOf at n p) (c .1) in
+      let m = map-sound (wire (comesFrom at n p)) w (goesTo at n p) (c .1) in
       record {
         by = p;
         in-file = from0-sound n p (r .1);
         connects = eqb-true (formOf (at p)) 2 (c .0);
         source-is = ap (λ (v : Wire). v .src) (m .2);
-        target-is = subst (λ (t : Pin). In t (targetsOf at n p)) (sym (ap (λ (v : Wire). v .dst) (m .2))) (m .1);
+        target-is = subst (λ (t : Pin). In t (goesTo at n p)) (sym (ap (λ (v : Wire). v .dst) (m .2))) (m .1);
       }
 
   -- And what a connection yields is a wire.
@@ -55,7 +56,7 @@ module _ (at : ℕ → Record) (n : ℕ) where
       let p = y .by in
       joined-complete (λ p. cond (eqb (formOf (at p)) 2) (wiresAt at n p) []) w (from 0 n) p
       (from0-complete n p (y .in-file))
-      (rw (y .connects, ← y .source-is) (map-complete (wire (w .src)) (w .dst) (targetsOf at n p) (y .target-is)))
+      (rw (y .connects, ← y .source-is) (map-complete (wire (w .src)) (w .dst) (goesTo at n p) (y .target-is)))
 
 module _ (at : ℕ → Record) (n : ℕ) (d : Passed at n) where
   -- The output that a connection starts at and the input that it enters are there (check 12).
@@ -74,7 +75,7 @@ module _ (at : ℕ → Record) (n : ℕ) (d : Passed at n) where
 
   -- From the source of what a connection yields the drawing leads to its target; and the other way.
   yielded-leads : (w : Wire) → Yielded at n w → Leads at n (w .src) (w .dst)
-  unfolding sourceOf targetsOf
+  unfolding comesFrom goesTo
   yielded-leads w y =
       record {
         by = y .by;
@@ -86,7 +87,7 @@ module _ (at : ℕ → Record) (n : ℕ) (d : Passed at n) where
       }
 
   leads-yielded : (s t : Pin) → Leads at n s t → Yielded at n (wire s t)
-  unfolding sourceOf targetsOf
+  unfolding comesFrom goesTo
   leads-yielded s t r =
       record {
         by = r .by;

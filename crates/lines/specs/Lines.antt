@@ -16,7 +16,7 @@ use Rattle.primitive.specs.declared.kinds.Kind.{Kind}
 use Rattle.primitive.specs.declared.kinds.Kind.the-variants.{Composite, And, Or, Not, Nand, Nor, Xor, Switch, Input, Output, Splitter, Joiner, Clock, Const}
 use Rattle.primitive.specs.declared.answers.Refusal.{Refusal}
 use Rattle.primitive.specs.Kinds.{kindOf}
-use Rattle.tables.specs.Tables.{wordIn, idIn}
+use Rattle.tables.specs.Tables.{wordIn}
 use Rattle.text.specs.Text.{written, placeAfter, numeral, spaced}
 
 -- A text's bytes.
@@ -43,7 +43,7 @@ nameOf Const = ascii "Const"
 
 -- Component i of a table of components: its index, its kind and its id.
 unfoldable pub componentLine : List ℕ → ℕ → List ℕ
-componentLine cs i = numeral i ++ ascii " " ++ nameOf (kindOf (wordIn cs i 0)) ++ ascii " " ++ numeral (idIn cs i) ++ ascii "\n"
+componentLine cs i = numeral i ++ ascii " " ++ nameOf (kindOf (wordIn cs i 0)) ++ ascii " " ++ numeral (wordIn cs i 1) ++ ascii "\n"
 
 -- Wire k of a table of wires: the component and the port that it leaves, and those that it enters.
 unfoldable pub wireLine : List ℕ → ℕ → List ℕ

@@ -1,4 +1,4 @@
 pub mod RoundsLaws
 pub mod LoadedLaws
 pub mod Listings
-pub mod Bound
+pub mod ListingBound

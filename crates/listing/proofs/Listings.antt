@@ -7,26 +7,26 @@ use Rattle.lists.specs.Lists.{appendNew, strike, overlay}
 use Rattle.primitive.specs.Kinds.{obeys}
 use Rattle.primitive.specs.Evaluate.{functionOf, outputsAfter}
 use Rattle.component.specs.Drawing.{deepest}
-use Rattle.flatten.specs.Descent.{source, targets, sourceOf, targetsOf}
+use Rattle.flatten.specs.Descent.{outputBelow, inputsBelow, comesFrom, goesTo}
 use Rattle.flatten.specs.Verdict.{verdict}
 use Rattle.tables.specs.Tables.{fullSize}
-use Rattle.load.specs.Load.{loaded, loadVerdict, loadTables}
+use Rattle.load.specs.Load.{drawingTables, loadVerdict, loadTables}
 use Rattle.net.specs.Net.{countsWithin, kindsObeyed, idsDistinct, portsFollow, valuesFit, constsHeld, wiresFit, inputsOnce, names, isNet, netNumber}
 use Rattle.simulator.specs.Round.{leave, evaluated, send, visit, round, calm, roundOf}
 use Rattle.simulator.specs.Calls.{roundTables}
 use Rattle.demands.specs.Lamp.{recordBytes, componentBytes, connectionBytes, lamp, lampTwice}
 use Rattle.text.specs.Text.{numeral}
 use Rattle.lines.specs.Lines.{ascii, componentLine, wireLine}
-use Rattle.listing.specs.Listing.{rounds, listing}
+use Rattle.listing.specs.Listing.{roundLines, listing}
 
 pub lamp-listing :
     listing lamp
     ≡ ascii "components 4\n0 Switch 1\n1 Switch 2\n2 Nor 4\n3 Output 5\nwires 3\n0.0 2.0\n1.0 2.1\n2.0 3.0\nround 1 next 3\nround 2 next\ncalm\n"
-unfolding listing rounds componentLine wireLine numeral loadTables loadVerdict loaded verdict overlay fullSize deepest obeys source targets sourceOf targetsOf roundTables netNumber isNet countsWithin kindsObeyed idsDistinct portsFollow valuesFit constsHeld wiresFit inputsOnce names roundOf leave round visit evaluated send outputsAfter functionOf appendNew strike calm
+unfolding listing roundLines componentLine wireLine numeral loadTables loadVerdict drawingTables verdict overlay fullSize deepest obeys outputBelow inputsBelow comesFrom goesTo roundTables netNumber isNet countsWithin kindsObeyed idsDistinct portsFollow valuesFit constsHeld wiresFit inputsOnce names roundOf leave round visit evaluated send outputsAfter functionOf appendNew strike calm
 lamp-listing = refl
 
 pub twice-listing : listing lampTwice ≡ ascii "refused 13 at 9\n"
-unfolding listing numeral loadTables loadVerdict loaded verdict overlay fullSize deepest obeys source targets sourceOf targetsOf
+unfolding listing numeral loadTables loadVerdict drawingTables verdict overlay fullSize deepest obeys outputBelow inputsBelow comesFrom goesTo
 twice-listing = refl
 
 -- A Not whose output leads to its own input: sixteen rounds, and not calm.
@@ -36,7 +36,7 @@ ring = componentBytes 0 0 0 0 1 0 ++ componentBytes 3 0 1 1 2 0 ++ connectionByt
 pub ring-listing :
     listing ring
     ≡ ascii "components 1\n0 Not 2\nwires 1\n0.0 0.0\nround 1 next 0\nround 2 next 0\nround 3 next 0\nround 4 next 0\nround 5 next 0\nround 6 next 0\nround 7 next 0\nround 8 next 0\nround 9 next 0\nround 10 next 0\nround 11 next 0\nround 12 next 0\nround 13 next 0\nround 14 next 0\nround 15 next 0\nround 16 next 0\nnot calm\n"
-unfolding listing rounds componentLine wireLine numeral loadTables loadVerdict loaded verdict overlay fullSize deepest obeys source targets sourceOf targetsOf roundTables netNumber isNet countsWithin kindsObeyed idsDistinct portsFollow valuesFit constsHeld wiresFit inputsOnce names roundOf leave round visit evaluated send outputsAfter functionOf appendNew strike calm
+unfolding listing roundLines componentLine wireLine numeral loadTables loadVerdict drawingTables verdict overlay fullSize deepest obeys outputBelow inputsBelow comesFrom goesTo roundTables netNumber isNet countsWithin kindsObeyed idsDistinct portsFollow valuesFit constsHeld wiresFit inputsOnce names roundOf leave round visit evaluated send outputsAfter functionOf appendNew strike calm
 ring-listing = refl
 
 -- A drawing of all thirteen kinds.
@@ -50,5 +50,5 @@ allKinds =
 pub allKinds-listing :
     listing allKinds
     ≡ ascii "components 13\n0 And 1\n1 Or 2\n2 Not 3\n3 Nand 4\n4 Nor 5\n5 Xor 6\n6 Switch 7\n7 Input 8\n8 Output 9\n9 Splitter 10\n10 Joiner 11\n11 Clock 12\n12 Const 13\nwires 0\nround 1 next 11 12\nround 2 next 11\ncalm\n"
-unfolding listing rounds componentLine wireLine numeral loadTables loadVerdict loaded verdict overlay fullSize deepest obeys source targets sourceOf targetsOf roundTables netNumber isNet countsWithin kindsObeyed idsDistinct portsFollow valuesFit constsHeld wiresFit inputsOnce names roundOf leave round visit evaluated send outputsAfter functionOf appendNew strike calm
+unfolding listing roundLines componentLine wireLine numeral loadTables loadVerdict drawingTables verdict overlay fullSize deepest obeys outputBelow inputsBelow comesFrom goesTo roundTables netNumber isNet countsWithin kindsObeyed idsDistinct portsFollow valuesFit constsHeld wiresFit inputsOnce names roundOf leave round visit evaluated send outputsAfter functionOf appendNew strike calm
 allKinds-listing = refl

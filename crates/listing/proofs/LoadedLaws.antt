@@ -20,10 +20,10 @@ use Rattle.tables.specs.Tables.{Tables, countWords, answerGives, countsAfter}
 use Rattle.load.specs.Load.{loadVerdict, loadTables, Loads}
 use Rattle.net.specs.Net.{netNumber}
 use Rattle.net.proofs.NetLaws.{netNumber-0}
-use Rattle.loaded.proofs.Theorems.{accepted-net, accepted-fullSize}
+use Rattle.loaded.proofs.LoadTheorems.{accepted-net, accepted-fullSize}
 use Rattle.simulator.proofs.CallsLaws.{counted}
 use Rattle.lines.specs.Lines.{componentsText, wiresText, refusedLine, Puts}
-use Rattle.listing.specs.Listing.{fresh, rounds, listed, listing}
+use Rattle.listing.specs.Listing.{fresh, roundLines, listedText, listing}
 
 -- A part ends inside the buffer.
 pub inside : {t bs u : List ℕ} {at m : ℕ} → Puts t at bs u m → m ≤ length u
@@ -51,7 +51,7 @@ module _ (file : List ℕ) (a : Answer) (U : Tables) (loads : Loads file fresh a
   listed-refused x e =
       let w : loadVerdict file fresh ≡ NotAccepted x =
       gives-declined (loadVerdict file fresh) x (countWords (countsAfter a (fresh .counts))) (ap answerGives (sym e) ∙ loads .0) in
-      ap (λ (v : Verdict). listed v (loadTables file fresh)) (sym w)
+      ap (λ (v : Verdict). listedText v (loadTables file fresh)) (sym w)
 
   -- An accepted file: its tables, with the counts of the answer.
   module _ (m : Counts) (e : a ≡ Done m) where
@@ -66,6 +66,6 @@ module _ (file : List ℕ) (a : Answer) (U : Tables) (loads : Loads file fresh a
     listed-net bytes = ap netNumber made ∙ loaded-number file bytes accepted
 
     pub listed-done :
-        componentsText (U .components) (m .components) ++ wiresText (U .wires) (m .wires) ++ rounds 16 1 (counted U m) ≡ listing file
+        componentsText (U .components) (m .components) ++ wiresText (U .wires) (m .wires) ++ roundLines 16 1 (counted U m) ≡ listing file
     unfolding listing
-    listed-done = ap (listed Accepted) made ∙ ap (λ (v : Verdict). listed v (loadTables file fresh)) (sym accepted)
+    listed-done = ap (listedText Accepted) made ∙ ap (λ (v : Verdict). listedText v (loadTables file fresh)) (sym accepted)

@@ -27,7 +27,7 @@ use Rattle.simulator.proofs.Kept.{roundTables-net}
 use Rattle.text.specs.Text.{written, placeAfter}
 use Rattle.text.proofs.TextLaws.{ToCome, begun, put-piece}
 use Rattle.lines.specs.Lines.{roundLine, Puts}
-use Rattle.listing.specs.Listing.{fresh, ending, rounds, calmOf, RoundMade}
+use Rattle.listing.specs.Listing.{fresh, ending, roundLines, calmOf, RoundMade}
 
 -- One round: the counts are those of the answer, and calm is asked of the tables that are left.
 module _ (T U : Tables) (net : netNumber T ≡ 0) where
@@ -50,7 +50,7 @@ module _ (T U : Tables) (net : netNumber T ≡ 0) where
 
 -- What is still to be written: how the rounds end, or at most k rounds more, the next of them round r.
 abbrev pub later : Bool → ℕ → ℕ → Tables → List ℕ
-later b k r T = cond b (ending true) (rounds k r T)
+later b k r T = cond b (ending true) (roundLines k r T)
 
 -- The tables after a round are a net.
 pub net-left : (T U : Tables) (c : Bool) → netNumber T ≡ 0 → RoundMade T U c → netNumber U ≡ 0
@@ -58,8 +58,8 @@ net-left T U c z h = ap netNumber (h .tables) ∙ roundTables-net T 0 z
 
 -- One turn of the loop.
 module _ (T U : Tables) (c : Bool) (h : RoundMade T U c) (r : ℕ) (less : r < 16) where
-  rounds-step : rounds (16 - r) (r + 1) T ≡ roundLine (r + 1) (currentList U) ++ later c (16 - (r + 1)) (r + 1 + 1) U
-  unfolding rounds
+  rounds-step : roundLines (16 - r) (r + 1) T ≡ roundLine (r + 1) (currentList U) ++ later c (16 - (r + 1)) (r + 1 + 1) U
+  unfolding roundLines
   rounds-step =
       let d : 16 - r ≡ suc (16 - (r + 1)) = omega arith in
       let e : suc (r + 1) ≡ r + 1 + 1 = omega arith in
@@ -82,7 +82,7 @@ last-part : {t bs out rest u : List ℕ} {at next m : ℕ} → ToCome t at bs ou
 last-part h p = record { place = omega (arith, p .place, h .place, h .same-length); buffer = p .buffer ∙ h .buffer }
 
 last-rest : (b : Bool) (r : ℕ) (T : Tables) → (not b && ltb r 16) ≡ false → later b (16 - r) (r + 1) T ≡ ending b
-unfolding rounds
+unfolding roundLines
 last-rest true r T e = refl
 last-rest false r T e =
     let h : 16 ≤ r = ltb-false r 16 e in

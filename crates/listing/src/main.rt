@@ -8,7 +8,7 @@ ghost use Rattle.net.specs.Net.{netNumber};
 ghost use Rattle.simulator.specs.Round.{calm};
 ghost use Rattle.simulator.specs.Calls.{roundTables};
 ghost use Rattle.lines.specs.Lines.{Puts};
-ghost use Rattle.listing.specs.Listing.{fresh, ending, rounds, listing, calmOf, RoundMade};
+ghost use Rattle.listing.specs.Listing.{fresh, ending, roundLines, listing, calmOf, RoundMade};
 use libc::STDIN_FILENO;
 use simulator::Calm;
 use tables::Answer;
@@ -117,7 +117,7 @@ fn put_rounds(
     at: usize,
 ) -> usize
     requires { ⌜ (at ≤ length (now out)) × (netNumber (tablesOf (now components) (now inputs) (now outputs) (now wires) (now current) (now following) (now standing) counts) ≡ 0) ⌝ }
-    ensures { λ r. ⌜ Puts (now (out .entry)) at (rounds 16 1 (tablesOf (now (components .entry)) (now (inputs .entry)) (now (outputs .entry)) (now (wires .entry)) (now (current .entry)) (now (following .entry)) (now (standing .entry)) counts)) (now (out .exit)) r ⌝ }
+    ensures { λ r. ⌜ Puts (now (out .entry)) at (roundLines 16 1 (tablesOf (now (components .entry)) (now (inputs .entry)) (now (outputs .entry)) (now (wires .entry)) (now (current .entry)) (now (following .entry)) (now (standing .entry)) counts)) (now (out .exit)) r ⌝ }
 {
     let mut reached = counts;
     let mut next = at;

@@ -1,6 +1,6 @@
 pub mod LayingLaws
-pub mod RowsLaws
+pub mod PassesLaws
 pub mod PortsLaws
-pub mod NamesLaws
+pub mod StandingLaws
 pub mod WiresLaws
 pub mod LoadLaws

@@ -17,18 +17,18 @@ use Rattle.component.specs.Record.{recordAt, recordCount}
 use Rattle.flatten.specs.Descent.{flatWires}
 use Rattle.flatten.specs.Verdict.{sized, refused, verdict}
 use Rattle.leads.proofs.Accepted.{refused-not, accepted-passed}
-use Rattle.leads.proofs.Theorems.{accepted-primitives-bound, accepted-inputs-bound}
+use Rattle.leads.proofs.WireTheorems.{accepted-primitives-bound, accepted-inputs-bound}
 use Rattle.tables.specs.declared.Answer.the-variants.{Done, Refused as Declined}
 use Rattle.tables.specs.declared.Counts.{Counts}
 use Rattle.tables.specs.Tables.{Tables, tablesOf, fullSize}
 use Rattle.tables.proofs.SizesLaws.{fullSize-sound}
 use Rattle.tables.proofs.NamedLaws.{overlay-list, overlay-count}
 use Rattle.load.specs.declared.rows.Before.{Before}
-use Rattle.load.specs.Load.{wireWords, primitives, componentWords, standingAtLoad, loaded, loadVerdict}
+use Rattle.load.specs.Load.{wireWords, primitives, componentWords, standingAtLoad, drawingTables, loadVerdict}
 use Rattle.load.specs.Load.{loadTables, Loads}
 use Rattle.load.specs.Laying.{beforeAt, startingOf}
 use Rattle.load.proofs.LayingLaws.{sets-overlay}
-use Rattle.load.proofs.NamesLaws.{standing-bound}
+use Rattle.load.proofs.StandingLaws.{standing-bound}
 
 -- There is room for what the passes write.
 module _ (s : List ℕ) (accepted : verdict s ≡ Accepted) (t : List ℕ) where
@@ -54,8 +54,8 @@ module _ (s : List ℕ) (accepted : verdict s ≡ Accepted) (T : Tables) (is : 1
     (cur : 256 ≤ length (T .current))
     (b : Before) (eb : b ≡ beforeAt (recordAt s) (recordCount s) (recordCount s)) where
   filled-inputs : (u : List ℕ) → u ≡ sets (T .inputs) 0 (replicate (b .inputs) 0)
-      → u ≡ loaded (recordAt s) (recordCount s) T .inputs
-  unfolding loaded
+      → u ≡ drawingTables (recordAt s) (recordCount s) T .inputs
+  unfolding drawingTables
   filled-inputs u e =
       let few = accepted-inputs-bound s accepted in
       let many = length-replicate {A = ℕ} (b .inputs) 0 in
@@ -63,8 +63,8 @@ module _ (s : List ℕ) (accepted : verdict s ≡ Accepted) (T : Tables) (is : 1
       ∙ ap (λ (x : Before). overlay (replicate (x .inputs) 0) (T .inputs)) eb
 
   filled-current : (u : List ℕ) → u ≡ sets (T .current) 0 (from 0 (b .components))
-      → u ≡ loaded (recordAt s) (recordCount s) T .current
-  unfolding loaded
+      → u ≡ drawingTables (recordAt s) (recordCount s) T .current
+  unfolding drawingTables
   filled-current u e =
       let few = accepted-primitives-bound s accepted in
       let many = from-length 0 (b .components) in
@@ -92,8 +92,8 @@ module _ (s : List ℕ) (accepted : verdict s ≡ Accepted) (T : Tables) (is : 1
         following = k;
         standing = k;
       })
-      ≡ loaded (recordAt s) (recordCount s) T
-  unfolding loaded
+      ≡ drawingTables (recordAt s) (recordCount s) T
+  unfolding drawingTables
   filled cs ins os ws cs' fs ss w k ecs eins eos ews ew ecur ess ek efs =
       let copied : take k ss ≡ standingAtLoad (recordAt s) (recordCount s) =
       ap (take k) ess ∙ overlay-list (standingAtLoad (recordAt s) (recordCount s)) (T .standing) k ek in
@@ -163,7 +163,7 @@ module _ (s cs is os ws cur fol std : List ℕ) where
           (p .judged, f .components, f .inputs, f .outputs, f .wires, f .current, f .following, f .standing)
 
       pub load-done : (cs' is' os' ws' cur' fol' std' : List ℕ) (c : Counts)
-          → tablesOf cs' is' os' ws' cur' fol' std' c ≡ loaded (recordAt s) (recordCount s) (lent c)
+          → tablesOf cs' is' os' ws' cur' fol' std' c ≡ drawingTables (recordAt s) (recordCount s) (lent c)
           → (m : Counts) → Loads s (lent m) (Done c) (tablesOf cs' is' os' ws' cur' fol' std' c)
-      unfolding loadTables loaded
+      unfolding loadTables drawingTables
       load-done cs' is' os' ws' cur' fol' std' c d m = rw (sym (h m) ∙ e) (refl, d)

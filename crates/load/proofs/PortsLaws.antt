@@ -24,11 +24,11 @@ use Rattle.component.specs.Drawing.{primitivesBefore, outputsBefore}
 use Rattle.flatten.specs.Verdict.{verdict}
 use Rattle.leads.proofs.Accepted.{Passed, accepted-passed}
 use Rattle.leads.proofs.Primitives.{primitivesBefore-sound, primitive-obeyed}
-use Rattle.leads.proofs.Theorems.{accepted-outputs-bound}
+use Rattle.leads.proofs.WireTheorems.{accepted-outputs-bound}
 use Rattle.load.specs.declared.rows.Drawn.{Drawn}
 use Rattle.load.specs.declared.rows.Drawn.the-variants.{Primitive, Other}
 use Rattle.load.specs.Load.{primitives}
-use Rattle.load.specs.Laying.{seenIf, seen, outputsBy, startingOf, outputsAt}
+use Rattle.load.specs.Laying.{seenIf, seen, outputsBy, startingOf, outputsLaid}
 use Rattle.load.proofs.LayingLaws.{joined-keep, Laid, laid-room, laid-step, laid-end}
 
 -- Laying the outputs of one record: it has none; a Const's; any other primitive's.
@@ -80,9 +80,9 @@ starting-length f o = by-kind (is Const f) refl
 
 -- The starting values of the primitives, record by record.
 pub outputs-joined : (at : ℕ → Record) (n p : ℕ)
-    → joined (startingOf at) (primitivesBefore at p) ≡ joined (outputsAt at) (from 0 p)
+    → joined (startingOf at) (primitivesBefore at p) ≡ joined (outputsLaid at) (from 0 p)
 outputs-joined at n p =
-    joined-keep (λ q. isPrimitive (at q)) (startingOf at) (outputsAt at) (λ q. by-kind q (isPrimitive (at q)))
+    joined-keep (λ q. isPrimitive (at q)) (startingOf at) (outputsLaid at) (λ q. by-kind q (isPrimitive (at q)))
     (from 0 p)
   where
     by-kind : (q : ℕ) (b : Bool) → cond b (startingOf at q) [] ≡ outputsBy (seenIf b (at q))
@@ -100,7 +100,7 @@ starting-before at n d p =
 -- Laying the outputs of an accepted file, in a table t of full size.
 module _ (s : List ℕ) (accepted : verdict s ≡ Accepted) where
   module _ (t : List ℕ) (full : 1024 ≤ length t) where
-    outputs-all : length (joined (outputsAt (recordAt s)) (from 0 (recordCount s))) ≤ length t
+    outputs-all : length (joined (outputsLaid (recordAt s)) (from 0 (recordCount s))) ≤ length t
     outputs-all =
         omega (
           arith,
@@ -109,7 +109,7 @@ module _ (s : List ℕ) (accepted : verdict s ≡ Accepted) where
           accepted-outputs-bound s accepted,
         )
 
-    module _ (p : ℕ) (u : List ℕ) (k : ℕ) (laid : Laid (outputsAt (recordAt s)) p t u k) where
+    module _ (p : ℕ) (u : List ℕ) (k : ℕ) (laid : Laid (outputsLaid (recordAt s)) p t u k) where
       pub outputs-end : p ≡ recordCount s
           → u ≡ overlay (joined (startingOf (recordAt s)) (primitives (recordAt s) (recordCount s))) t
       outputs-end e =
@@ -126,5 +126,5 @@ module _ (s : List ℕ) (accepted : verdict s ≡ Accepted) where
             )
 
         pub outputs-step : (v : List ℕ) (m : ℕ) → v ≡ sets u k (outputsBy drawn) → m ≡ k + length (outputsBy drawn)
-            → Laid (outputsAt (recordAt s)) (p + 1) t v m
+            → Laid (outputsLaid (recordAt s)) (p + 1) t v m
         outputs-step v m ev em = laid-step _ t p u k laid (outputsBy drawn) v m (ap outputsBy ed) ev em

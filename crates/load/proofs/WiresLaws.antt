@@ -26,8 +26,8 @@ use Rattle.component.specs.declared.Says.{Says}
 use Rattle.component.specs.declared.Says.the-variants.{Connection}
 use Rattle.component.specs.declared.Reading.{Reading}
 use Rattle.component.specs.declared.Reading.the-variants.{Taken, Refused}
-use Rattle.component.specs.Reading.{said}
-use Rattle.component.specs.Record.{recordAt, recordCount, formOf, ownerOf, fromOf, outputOf, isPrimitive}
+use Rattle.component.specs.Reading.{said, formOf, ownerOf}
+use Rattle.component.specs.Record.{recordAt, recordCount, fromOf, outputOf, isPrimitive}
 use Rattle.component.specs.declared.Verdict.the-variants.{Accepted}
 use Rattle.component.specs.Drawing.{deepest, child}
 use Rattle.component.proofs.Says.{the-type}
@@ -36,14 +36,14 @@ use Rattle.flatten.specs.declared.Pin.{Pin}
 use Rattle.flatten.specs.declared.Wire.{Wire}
 use Rattle.flatten.specs.declared.descent.Entered.{Entered}
 use Rattle.flatten.specs.declared.descent.Entered.the-variants.{To, Nothing}
-use Rattle.flatten.specs.Descent.{source, targets, sourceOf, targetsOf, wiresAt, wires, flat, flatPin, flatWires}
-use Rattle.flatten.specs.Steps.{entered, IsStretch}
+use Rattle.flatten.specs.Descent.{outputBelow, inputsBelow, comesFrom, goesTo, wiresAt, wires, flat, flatPin, flatWires}
+use Rattle.flatten.specs.Searches.{entered, IsStretch}
 use Rattle.flatten.specs.Verdict.{verdict}
 use Rattle.flatten.proofs.DescentLaws.{given, targets-bottom, targets-ends, targets-stretch, given-to, given-nothing}
 use Rattle.flatten.proofs.DescentLaws.{joined-end, source-is, targets-are, form-is}
 use Rattle.leads.proofs.Accepted.{Passed, accepted-sized, accepted-passed}
 use Rattle.leads.proofs.Components.{primitive-component, component-number}
-use Rattle.leads.proofs.Descent.{source-sound}
+use Rattle.leads.proofs.DescentLeads.{source-sound}
 use Rattle.leads.proofs.Wires.{connection-ends}
 use Rattle.leads.proofs.Ends.{from-there}
 use Rattle.leads.proofs.FlatWires.{flatWire, flatWires-bound}
@@ -57,29 +57,29 @@ led s n f ts = joined (leadWords (recordAt s) n f) ts
 pub record Leading (s : List ℕ) (n d c i : ℕ) (f : Pin) (t : List ℕ) (k q e : ℕ) (u : List ℕ) (m : ℕ) : Type 0 where
   pub size : length u ≡ length t
   pub table : sets u m (led s n f (joined (given (recordAt s) n (d - 1) c i) (from q (e - q))))
-      ≡ sets t k (led s n f (targets (recordAt s) n d c i))
+      ≡ sets t k (led s n f (inputsBelow (recordAt s) n d c i))
   pub place : m + length (led s n f (joined (given (recordAt s) n (d - 1) c i) (from q (e - q))))
-      ≡ k + length (led s n f (targets (recordAt s) n d c i))
+      ≡ k + length (led s n f (inputsBelow (recordAt s) n d c i))
 
 module _ (s : List ℕ) (n d c i : ℕ) (f : Pin) (t : List ℕ) (k : ℕ) where
   -- No depth left.
-  pub lead-bottom : d ≡ 0 → Written t k (led s n f (targets (recordAt s) n d c i)) t k
+  pub lead-bottom : d ≡ 0 → Written t k (led s n f (inputsBelow (recordAt s) n d c i)) t k
   lead-bottom h =
-      let e : led s n f (targets (recordAt s) n d c i) ≡ [] = ap (led s n f) (targets-bottom (recordAt s) n d c i h) in
+      let e : led s n f (inputsBelow (recordAt s) n d c i) ≡ [] = ap (led s n f) (targets-bottom (recordAt s) n d c i h) in
       record { table = ap (sets t k) (sym e); place = omega (arith, ap (λ (l : List ℕ). length l) e) }
 
   module _ (b : Bool) (h : d ≡ 0 → ⊥) (eb : b ≡ isPrimitive (recordAt s c)) where
     -- A primitive: one wire.
     module _ (p : b ≡ true) where
-      led-here : led s n f (targets (recordAt s) n d c i) ≡ f .comp ∷ f .port ∷ flat (recordAt s) n c ∷ i ∷ []
+      led-here : led s n f (inputsBelow (recordAt s) n d c i) ≡ f .comp ∷ f .port ∷ flat (recordAt s) n c ∷ i ∷ []
       led-here = ap (led s n f) (targets-ends (recordAt s) n d c i h (sym eb ∙ p))
 
-      pub lead-room : k + length (led s n f (targets (recordAt s) n d c i)) ≤ length t → k + 4 ≤ length t
+      pub lead-room : k + length (led s n f (inputsBelow (recordAt s) n d c i)) ≤ length t → k + 4 ≤ length t
       lead-room room = omega (arith, ap (λ (l : List ℕ). length l) led-here)
 
       pub lead-here : (u : List ℕ) (x : Pin) → x ≡ flatPin (recordAt s) n (record { comp = c; port = i })
           → u ≡ sets t k (wireWords (record { src = f; dst = x }))
-          → Written t k (led s n f (targets (recordAt s) n d c i)) u (k + 4)
+          → Written t k (led s n f (inputsBelow (recordAt s) n d c i)) u (k + 4)
       lead-here u x ex eu =
           record {
             table =
@@ -105,22 +105,22 @@ module _ (s : List ℕ) (n d c i : ℕ) (f : Pin) (t : List ℕ) (k : ℕ) where
       rest = led s n f (joined (given (recordAt s) n (d - 1) c i) (from (q + 1) (e - (q + 1))))
 
       now-led : List ℕ
-      now-led = led s n f (targets (recordAt s) n (d - 1) x j)
+      now-led = led s n f (inputsBelow (recordAt s) n (d - 1) x j)
 
       led-on : led s n f (joined (given (recordAt s) n (d - 1) c i) (from q (e - q))) ≡ now-led ++ rest
       unfolding rest now-led
       led-on =
           ap (led s n f) (given-to (recordAt s) n (d - 1) c i q e x j l (sym eg ∙ h))
-          ∙ joined-append (leadWords (recordAt s) n f) (targets (recordAt s) n (d - 1) x j)
+          ∙ joined-append (leadWords (recordAt s) n f) (inputsBelow (recordAt s) n (d - 1) x j)
           (joined (given (recordAt s) n (d - 1) c i) (from (q + 1) (e - (q + 1))))
 
-      pub leading-room : k + length (led s n f (targets (recordAt s) n d c i)) ≤ length t
-          → m + length (led s n f (targets (recordAt s) n (d - 1) x j)) ≤ length u
+      pub leading-room : k + length (led s n f (inputsBelow (recordAt s) n d c i)) ≤ length t
+          → m + length (led s n f (inputsBelow (recordAt s) n (d - 1) x j)) ≤ length u
       unfolding now-led
       leading-room room =
           omega (arith, inv .size, inv .place, ap (λ (y : List ℕ). length y) led-on, length-append now-led rest)
 
-      pub leading-to : (v : List ℕ) (w : ℕ) → Written u m (led s n f (targets (recordAt s) n (d - 1) x j)) v w
+      pub leading-to : (v : List ℕ) (w : ℕ) → Written u m (led s n f (inputsBelow (recordAt s) n (d - 1) x j)) v w
           → Leading s n d c i f t k (q + 1) e v w
       unfolding rest now-led
       leading-to v w y =
@@ -149,7 +149,7 @@ module _ (s : List ℕ) (n d c i : ℕ) (f : Pin) (t : List ℕ) (k : ℕ) where
           place = ap (λ (ts : List Pin). m + length (led s n f ts)) (sym y) ∙ inv .place;
         }
 
-    pub leading-end : e ≤ q → Written t k (led s n f (targets (recordAt s) n d c i)) u m
+    pub leading-end : e ≤ q → Written t k (led s n f (inputsBelow (recordAt s) n d c i)) u m
     leading-end l =
         let y : led s n f (joined (given (recordAt s) n (d - 1) c i) (from q (e - q))) ≡ [] =
         ap (led s n f) (joined-end (given (recordAt s) n (d - 1) c i) q e l) in
@@ -190,13 +190,13 @@ module _ (s : List ℕ) (n : ℕ) where
   module _ (p : ℕ) (v : Reading) (e : said v ≡ recordAt s p) (w a b : ℕ) (f g : ChildNo) (r : Says) (h : v ≡ Taken w r)
       (y : r ≡ Connection f a g b) where
     module _ (m c : ℕ) (x : Pin) (em : m ≡ deepest) (ec : c ≡ child (recordAt s) n w (f .0))
-        (ex : x ≡ source (recordAt s) n m c a) where
-      from-source : x ≡ sourceOf (recordAt s) n p
+        (ex : x ≡ outputBelow (recordAt s) n m c a) where
+      from-source : x ≡ comesFrom (recordAt s) n p
       from-source = source-is s n p v e w a b f g r h y m c x em ec ex
 
       -- The source is a primitive's, and its number is below 256.
       pub source-number : (cs lo hi fs : List ℕ) → Ready s n cs lo hi fs → p < n → x .comp < 256
-      unfolding sourceOf
+      unfolding comesFrom
       source-number cs lo hi fs ready l =
           let d = subst (Passed (recordAt s)) (sym (ready .count)) (accepted-passed s (ready .accepted)) in
           let there = connection-ends (recordAt s) n d p l (form-is s n p v e w a b f g r h y) .0 in
@@ -204,25 +204,25 @@ module _ (s : List ℕ) (n : ℕ) where
           (child (recordAt s) n (ownerOf (recordAt s p)) (fromOf (recordAt s p)))
           (outputOf (recordAt s p)) (zero-add deepest) refl there in
           rw from-source
-          (component-number (recordAt s) n d (sourceOf (recordAt s) n p .comp)
-          (primitive-component (recordAt s (sourceOf (recordAt s) n p .comp))
+          (component-number (recordAt s) n d (comesFrom (recordAt s) n p .comp)
+          (primitive-component (recordAt s (comesFrom (recordAt s) n p .comp))
           (from-there (recordAt s) n d _ _ _ there comes .of-primitive)))
 
       module _ (l q : ℕ) (i : Pin) (el : l ≡ deepest) (eq : q ≡ child (recordAt s) n w (g .0))
           (ei : i ≡ flatPin (recordAt s) n x) where
-        pub wires-are : led s n i (targets (recordAt s) n l q b) ≡ wiresGiven (recordAt s) n p
+        pub wires-are : led s n i (inputsBelow (recordAt s) n l q b) ≡ wiresGiven (recordAt s) n p
         wires-are =
             ap (led s n i) (targets-are s n p v e w a b f g r h y l q el eq)
-            ∙ ap (λ (z : Pin). led s n z (targetsOf (recordAt s) n p)) (ei ∙ ap (flatPin (recordAt s) n) from-source)
+            ∙ ap (λ (z : Pin). led s n z (goesTo (recordAt s) n p)) (ei ∙ ap (flatPin (recordAt s) n) from-source)
             ∙ ap (λ (z : Bool). cond z
-            (led s n (flatPin (recordAt s) n (sourceOf (recordAt s) n p)) (targetsOf (recordAt s) n p)) [])
+            (led s n (flatPin (recordAt s) n (comesFrom (recordAt s) n p)) (goesTo (recordAt s) n p)) [])
             (sym (eq-eqb (formOf (recordAt s p)) 2 (form-is s n p v e w a b f g r h y)))
 
         pub connect-room : (t : List ℕ) (k : ℕ) → k + length (wiresGiven (recordAt s) n p) ≤ length t
-            → k + length (led s n i (targets (recordAt s) n l q b)) ≤ length t
+            → k + length (led s n i (inputsBelow (recordAt s) n l q b)) ≤ length t
         connect-room t k room = omega (arith, ap (λ (z : List ℕ). length z) wires-are)
 
-        pub connect-written : (t u : List ℕ) (k v : ℕ) → Written t k (led s n i (targets (recordAt s) n l q b)) u v
+        pub connect-written : (t u : List ℕ) (k v : ℕ) → Written t k (led s n i (inputsBelow (recordAt s) n l q b)) u v
             → Written t k (wiresGiven (recordAt s) n p) u v
         connect-written t u k v h = subst (λ (z : List ℕ). Written t k z u v) wires-are h
 
@@ -248,10 +248,10 @@ module _ (at : ℕ → Record) (n : ℕ) where
       ∙ (λ j. joined (λ p. by-form p (eqb (formOf (at p)) 2) j) (from 0 n))
     where
       by-form : (p : ℕ) (b : Bool) → joined (λ (w : Wire). wireWords (flatWire at n w)) (cond b (wiresAt at n p) [])
-          ≡ cond b (joined (leadWords at n (flatPin at n (sourceOf at n p))) (targetsOf at n p)) []
+          ≡ cond b (joined (leadWords at n (flatPin at n (comesFrom at n p))) (goesTo at n p)) []
       by-form p true =
-          joined-map (λ (w : Wire). wireWords (flatWire at n w)) (λ t. record { src = sourceOf at n p; dst = t })
-          (targetsOf at n p)
+          joined-map (λ (w : Wire). wireWords (flatWire at n w)) (λ t. record { src = comesFrom at n p; dst = t })
+          (goesTo at n p)
       by-form p false = refl
 
   pub wires-length : length (joined (wiresGiven at n) (from 0 n)) ≡ 4 * length (flatWires at n)

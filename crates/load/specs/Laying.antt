@@ -16,12 +16,13 @@ use Rattle.primitive.specs.Kinds.{is}
 use Rattle.primitive.specs.Evaluate.{starting}
 use Rattle.component.specs.declared.Id.{Id}
 use Rattle.component.specs.declared.Record.{Record}
-use Rattle.component.specs.Record.{recordAt, recordCount, formOf, fieldsOf, idOf, isPrimitive}
+use Rattle.component.specs.Record.{recordAt, recordCount, fieldsOf, isPrimitive}
+use Rattle.component.specs.Reading.{idOf, formOf}
 use Rattle.component.specs.Drawing.{child, primitivesBefore, inputsBefore, outputsBefore}
 use Rattle.component.specs.Index.{IsTable, IsRange}
 use Rattle.component.specs.declared.Verdict.the-variants.{Accepted}
 use Rattle.flatten.specs.declared.Pin.{Pin}
-use Rattle.flatten.specs.Descent.{targets, sourceOf, targetsOf, flat, flatPin}
+use Rattle.flatten.specs.Descent.{inputsBelow, comesFrom, goesTo, flat, flatPin}
 use Rattle.flatten.specs.Verdict.{verdict}
 use Rattle.load.specs.declared.names.Stood.{Stood}
 use Rattle.load.specs.declared.rows.Drawn.{Drawn}
@@ -72,8 +73,8 @@ stoodBy Other s = s
 abbrev pub startingOf : (ℕ → Record) → ℕ → List ℕ
 startingOf at p = starting (fieldsOf (at p))
 
-abbrev pub outputsAt : (ℕ → Record) → ℕ → List ℕ
-outputsAt at p = outputsBy (seen (at p))
+abbrev pub outputsLaid : (ℕ → Record) → ℕ → List ℕ
+outputsLaid at p = outputsBy (seen (at p))
 
 module _ (at : ℕ → Record) (n : ℕ) where
   abbrev pub beforeAt : ℕ → Before
@@ -95,11 +96,11 @@ module _ (at : ℕ → Record) (n : ℕ) where
   leadWords f t = wireWords (record { src = f; dst = flatPin at n t })
 
   abbrev pub reached : Goal → List Pin
-  reached g = targets at n (g .depth) (g .comp) (g .port)
+  reached g = inputsBelow at n (g .depth) (g .comp) (g .port)
 
   abbrev pub wiresGiven : ℕ → List ℕ
   wiresGiven p =
-      cond (eqb (formOf (at p)) 2) (joined (leadWords (flatPin at n (sourceOf at n p))) (targetsOf at n p)) []
+      cond (eqb (formOf (at p)) 2) (joined (leadWords (flatPin at n (comesFrom at n p))) (goesTo at n p)) []
 
 pub record Ready (s : List ℕ) (n : ℕ) (cs lo hi fs : List ℕ) : Type 0 where
   pub accepted : verdict s ≡ Accepted

@@ -11,7 +11,7 @@ use Rattle.primitive.specs.Evaluate.{starting}
 use Rattle.component.specs.declared.Record.{Record}
 use Rattle.component.specs.declared.Verdict.{Verdict}
 use Rattle.component.specs.declared.Verdict.the-variants.{Accepted, Refused}
-use Rattle.component.specs.Record.{recordAt, recordCount, fieldsOf, idOf, inputsOf, outputsOf}
+use Rattle.component.specs.Record.{recordAt, recordCount, fieldsOf, inputsOf, outputsOf}
 use Rattle.component.specs.Drawing.{primitivesBefore, inputsBefore, outputsBefore}
 use Rattle.flatten.specs.declared.Wire.{Wire}
 use Rattle.tables.specs.declared.Answer.{Answer}
@@ -31,7 +31,7 @@ module _ (at : ℕ → Record) (n : ℕ) where
   -- The words of a primitive's entry; its ports follow those of the primitives before.
   abbrev pub componentWords : ℕ → List ℕ
   componentWords x =
-      fieldsOf (at x) .kind ∷ idOf (at x) ∷ fieldsOf (at x) .width ∷ fieldsOf (at x) .parameter ∷ inputsOf (at x) ∷ outputsOf (at x)
+      fieldsOf (at x) .kind ∷ (at x .id) ∷ fieldsOf (at x) .width ∷ fieldsOf (at x) .parameter ∷ inputsOf (at x) ∷ outputsOf (at x)
       ∷ inputsBefore at x ∷ outputsBefore at x ∷ []
 
   -- The standing list at load: every Const and Clock, ascending.
@@ -39,8 +39,8 @@ module _ (at : ℕ → Record) (n : ℕ) where
   standingAtLoad = map (flat at n) (keep (λ x. is Const (fieldsOf (at x)) || is Clock (fieldsOf (at x))) primitives)
 
   -- The tables after the load of an accepted drawing: all ports 0, a Const's output its value; following a copy of standing; current all components.
-  unfoldable pub loaded : Tables → Tables
-  loaded T =
+  unfoldable pub drawingTables : Tables → Tables
+  drawingTables T =
       tablesOf (overlay (joined componentWords primitives) (T .components)) (overlay (replicate (inputsBefore at n) 0) (T .inputs))
       (overlay (joined (λ x. starting (fieldsOf (at x))) primitives) (T .outputs))
       (overlay (joined wireWords (flatWires at n)) (T .wires)) (overlay (from 0 (length primitives)) (T .current))
@@ -58,7 +58,7 @@ tablesBy Accepted new old = new
 tablesBy (Refused r) new old = old
 
 unfoldable pub loadTables : List ℕ → Tables → Tables
-loadTables file T = tablesBy (loadVerdict file T) (loaded (recordAt file) (recordCount file) T) T
+loadTables file T = tablesBy (loadVerdict file T) (drawingTables (recordAt file) (recordCount file) T) T
 
 -- The promise of `load`: its answer gives what the verdict gives, with the new counts where it is accepted.
 abbrev pub Loads : List ℕ → Tables → Answer → Tables → Type 0

@@ -12,7 +12,7 @@ ghost use Rattle.component.specs.declared.Verdict.the-variants.{Accepted};
 ghost use Rattle.flatten.specs.Verdict.{verdict};
 ghost use Rattle.tables.specs.declared.Counts.{Counts};
 ghost use Rattle.tables.specs.Tables.{tablesOf, countsAfter};
-ghost use Rattle.load.specs.Load.{loaded, loadVerdict, Loads};
+ghost use Rattle.load.specs.Load.{drawingTables, loadVerdict, Loads};
 use component::Verdict;
 use names::count_up;
 use names::lay_standing;
@@ -39,7 +39,7 @@ fn fill(
     requires { ⌜ (verdict (now file) ≡ Accepted) × (2048 ≤ length (now components)) × (1024 ≤ length (now inputs)) × (1024 ≤ length (now outputs))
         × (4096 ≤ length (now wires)) × (256 ≤ length (now current)) × (256 ≤ length (now following)) × (256 ≤ length (now standing)) ⌝ }
     ensures { λ r. ⌜ tablesOf (now (components .exit)) (now (inputs .exit)) (now (outputs .exit)) (now (wires .exit)) (now (current .exit))
-        (now (following .exit)) (now (standing .exit)) r ≡ loaded (recordAt (now (file .entry))) (recordCount (now (file .entry)))
+        (now (following .exit)) (now (standing .exit)) r ≡ drawingTables (recordAt (now (file .entry))) (recordCount (now (file .entry)))
         (tablesOf (now (components .entry)) (now (inputs .entry)) (now (outputs .entry)) (now (wires .entry)) (now (current .entry))
         (now (following .entry)) (now (standing .entry)) r) ⌝ }
 {

@@ -10,7 +10,7 @@ ghost use Rattle.flatten.specs.Verdict.{verdict};
 ghost use Rattle.load.specs.Load.{primitives, componentWords};
 ghost use Rattle.load.specs.Laying.{seen, componentBy, rowBy, beforeBy, beforeAt, outputsBy, startingOf};
 use component::Id;
-use component::Seen;
+use component::Stands;
 use component::component_at;
 use primitive::Fields;
 use primitive::Kind;
@@ -32,7 +32,7 @@ pub struct Before {
 pub(crate) fn drawn_at(file: &[u8], p: usize) -> Drawn
     ensures { λ r. ⌜ r ≡ seen (recordAt (now (file .entry)) p) ⌝ }
 {
-    let Seen::Component { id, fields, .. } = component_at(file, p) else {
+    let Stands::Component { id, fields, .. } = component_at(file, p) else {
         return Drawn::Other;
     };
     if primitive::is_primitive(fields) {

@@ -14,7 +14,8 @@ use lib.Dec.{ltb}
 use Rattle.lists.specs.Lists.{every, total}
 use Rattle.lists.proofs.MembersLaws.{In, every-complete, from0-sound}
 use Rattle.component.specs.declared.Record.{Record}
-use Rattle.component.specs.Record.{fieldsOf, idOf, inputsOf, outputsOf, isPrimitive}
+use Rattle.component.specs.Record.{fieldsOf, inputsOf, outputsOf, isPrimitive}
+use Rattle.component.specs.Reading.{idOf}
 use Rattle.component.specs.Drawing.{primitivesBefore, inputsBefore, outputsBefore}
 use Rattle.flatten.specs.declared.Pin.{Pin}
 use Rattle.flatten.specs.declared.Wire.{Wire}
@@ -27,7 +28,7 @@ use Rattle.leads.proofs.Primitives.{flat-below, flat-inj, flat-onto, portsBefor
 use Rattle.leads.proofs.FlatWires.{flatWires-sound, leads-flatWires, flatWires-lead}
 use Rattle.tables.specs.Tables.{Tables, fieldsAt, idAt, firstInput, firstOutput, inputPlace}
 use Rattle.tables.specs.Tables.{indexes, wiresIn}
-use Rattle.load.specs.Load.{primitives, loaded}
+use Rattle.load.specs.Load.{primitives, drawingTables}
 use Rattle.net.specs.Net.{isOutput, isInput}
 use Rattle.loaded.proofs.Entries.{loaded-wires, loaded-fields, loaded-id, loaded-firstInput, loaded-firstOutput}
 use Rattle.tables.proofs.SameLaws.{SameWiring, sameWiring-word, sameWiring-fields, sameWiring-wires}
@@ -44,8 +45,8 @@ pub record IsDrawn (at : ℕ → Record) (n : ℕ) (U : Tables) : Type 0 where
   pub wires : wiresIn U ≡ flatWires at n
 
 -- A load of a drawing that passes every check leaves such tables.
-pub loaded-drawn : (at : ℕ → Record) (n : ℕ) → Passed at n → (T : Tables) → IsDrawn at n (loaded at n T)
-unfolding loaded
+pub loaded-drawn : (at : ℕ → Record) (n : ℕ) → Passed at n → (T : Tables) → IsDrawn at n (drawingTables at n T)
+unfolding drawingTables
 loaded-drawn at n d T =
     record {
       component-count = refl;

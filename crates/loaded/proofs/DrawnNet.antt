@@ -16,7 +16,8 @@ use Rattle.value.specs.Value.{below}
 use Rattle.primitive.specs.declared.table.Fields.{Fields}
 use Rattle.primitive.specs.Kinds.{primitive, obeys, inputWidth, outputWidth}
 use Rattle.component.specs.declared.Record.{Record}
-use Rattle.component.specs.Record.{fieldsOf, idOf, isPrimitive}
+use Rattle.component.specs.Record.{fieldsOf, isPrimitive}
+use Rattle.component.specs.Reading.{idOf}
 use Rattle.component.specs.Drawing.{primitivesBefore, inputsBefore, outputsBefore}
 use Rattle.flatten.specs.declared.Pin.{Pin}
 use Rattle.flatten.specs.declared.Wire.{Wire}
@@ -108,10 +109,10 @@ module _ (at : ℕ → Record) (n : ℕ) (p : Passed at n) (U : Tables) (d : IsD
           let enters = wires-enter at n p w (r .1) in
           let out = drawn-isOutput at n p U d (w .src) leaves in
           let into = drawn-isInput at n p U d (w .dst) enters in
-          let source = d .fields (w .src .comp) (leaves .of-primitive) in
+          let outputBelow = d .fields (w .src .comp) (leaves .of-primitive) in
           let target = d .fields (w .dst .comp) (enters .of-primitive) in
           ap fit (r .2)
-          ∙ (λ j. out j && into j && eqb (outputWidth (source j)) (inputWidth (target j)))
+          ∙ (λ j. out j && into j && eqb (outputWidth (outputBelow j)) (inputWidth (target j)))
           ∙ eq-eqb _ _ (wires-width at n p w (r .1))
 
   -- What a wire enters, by flat index, is an input of a primitive.

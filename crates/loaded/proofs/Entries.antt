@@ -9,15 +9,16 @@ use native.Mathlib.Omega.{arith}
 use lib.ListN.{length, getD}
 use Rattle.lists.proofs.OverlayLaws.{overlay-entry, map-indexes}
 use Rattle.component.specs.declared.Record.{Record}
-use Rattle.component.specs.Record.{fieldsOf, idOf, isPrimitive}
+use Rattle.component.specs.Record.{fieldsOf, isPrimitive}
+use Rattle.component.specs.Reading.{idOf}
 use Rattle.component.specs.Drawing.{inputsBefore, outputsBefore}
 use Rattle.flatten.specs.declared.Wire.{Wire}
 use Rattle.flatten.specs.Descent.{pin, flat, flatWires}
 use Rattle.leads.proofs.Accepted.{Passed}
 use Rattle.leads.proofs.Wires.{wire}
 use Rattle.leads.proofs.Primitives.{primitive-below, flat-below, flat-place}
-use Rattle.tables.specs.Tables.{Tables, wordOf, fieldsAt, idAt, firstInput, firstOutput, wireAt, wiresIn}
-use Rattle.load.specs.Load.{wireWords, primitives, componentWords, loaded}
+use Rattle.tables.specs.Tables.{Tables, wordIn, fieldsAt, idAt, firstInput, firstOutput, wireAt, wiresIn}
+use Rattle.load.specs.Load.{wireWords, primitives, componentWords, drawingTables}
 
 -- What stands past the last wire; no law depends on it.
 abbrev noWire : Wire
@@ -27,39 +28,39 @@ noWire = wire (pin 0 0) (pin 0 0)
 module _ (at : ℕ → Record) (n : ℕ) (T : Tables) where
   -- Word k of wire i.
   wire-word : (i k : ℕ) → i < length (flatWires at n) → k < 4
-      → getD (loaded at n T .wires) (4 * i + k) 0 ≡ getD (wireWords (getD (flatWires at n) i noWire)) k 0
-  unfolding loaded
+      → getD (drawingTables at n T .wires) (4 * i + k) 0 ≡ getD (wireWords (getD (flatWires at n) i noWire)) k 0
+  unfolding drawingTables
   wire-word i k h l =
       overlay-entry wireWords 4 (λ w. refl) (flatWires at n) (T .wires) i k noWire h l
 
   loaded-wire : (i : ℕ) → i < length (flatWires at n)
-      → wireAt (loaded at n T) i ≡ getD (flatWires at n) i noWire
+      → wireAt (drawingTables at n T) i ≡ getD (flatWires at n) i noWire
   loaded-wire i h =
       let z : 4 * i ≡ 4 * i + 0 = omega arith in
-      let a = ap (λ (p : ℕ). getD (loaded at n T .wires) p 0) z ∙ wire-word i 0 h (omega arith) in
+      let a = ap (λ (p : ℕ). getD (drawingTables at n T .wires) p 0) z ∙ wire-word i 0 h (omega arith) in
       let b = wire-word i 1 h (omega arith) in
       let c = wire-word i 2 h (omega arith) in
       let e = wire-word i 3 h (omega arith) in
       λ j. wire (pin (a j) (b j)) (pin (c j) (e j))
 
   -- The wires of the tables are those of the drawing, by flat indexes and in order.
-  pub loaded-wires : wiresIn (loaded at n T) ≡ flatWires at n
-  unfolding loaded
-  loaded-wires = map-indexes (wireAt (loaded at n T)) noWire (flatWires at n) loaded-wire
+  pub loaded-wires : wiresIn (drawingTables at n T) ≡ flatWires at n
+  unfolding drawingTables
+  loaded-wires = map-indexes (wireAt (drawingTables at n T)) noWire (flatWires at n) loaded-wire
 
 -- The component table of a drawing that passes every check.
 module _ (at : ℕ → Record) (n : ℕ) (d : Passed at n) (T : Tables) where
   -- The eight words of a primitive's entry are those that its record says.
   pub loaded-word : (c k : ℕ) → isPrimitive (at c) ≡ true → k < 8
-      → wordOf (loaded at n T) (flat at n c) k ≡ getD (componentWords at n c) k 0
-  unfolding loaded
+      → wordIn ((drawingTables at n T) .components) (flat at n c) k ≡ getD (componentWords at n c) k 0
+  unfolding drawingTables
   loaded-word c k e h =
       overlay-entry (componentWords at n) 8 (λ x. refl) (primitives at n) (T .components) (flat at n c) k n
       (flat-below at n d c e) h
       ∙ ap (λ (x : ℕ). getD (componentWords at n x) k 0) (flat-place at n c n n e (primitive-below at n d c e))
 
   -- At the flat index of a primitive stand its record's fields,
-  pub loaded-fields : (c : ℕ) → isPrimitive (at c) ≡ true → fieldsAt (loaded at n T) (flat at n c) ≡ fieldsOf (at c)
+  pub loaded-fields : (c : ℕ) → isPrimitive (at c) ≡ true → fieldsAt (drawingTables at n T) (flat at n c) ≡ fieldsOf (at c)
   loaded-fields c e =
       let kind = loaded-word c 0 e (omega arith) in
       let width = loaded-word c 2 e (omega arith) in
@@ -69,14 +70,14 @@ module _ (at : ℕ → Record) (n : ℕ) (d : Passed at n) (T : Tables) where
       λ j. record { kind = kind j; inputs = inputs j; outputs = outputs j; width = width j; parameter = parameter j }
 
   -- its id,
-  pub loaded-id : (c : ℕ) → isPrimitive (at c) ≡ true → idAt (loaded at n T) (flat at n c) ≡ idOf (at c)
+  pub loaded-id : (c : ℕ) → isPrimitive (at c) ≡ true → idAt (drawingTables at n T) (flat at n c) ≡ idOf (at c)
   loaded-id c e = loaded-word c 1 e (omega arith)
 
   -- and its ports start behind those of the primitives before it.
   pub loaded-firstInput : (c : ℕ) → isPrimitive (at c) ≡ true
-      → firstInput (loaded at n T) (flat at n c) ≡ inputsBefore at c
+      → firstInput (drawingTables at n T) (flat at n c) ≡ inputsBefore at c
   loaded-firstInput c e = loaded-word c 6 e (omega arith)
 
   pub loaded-firstOutput : (c : ℕ) → isPrimitive (at c) ≡ true
-      → firstOutput (loaded at n T) (flat at n c) ≡ outputsBefore at c
+      → firstOutput (drawingTables at n T) (flat at n c) ≡ outputsBefore at c
   loaded-firstOutput c e = loaded-word c 7 e (omega arith)

@@ -1,10 +1,10 @@
 pub mod Entries
 pub mod Starting
-pub mod Ports
+pub mod LoadedPorts
 pub mod Sizes
 pub mod Drawn
 pub mod DrawnNet
 pub mod LoadedNet
 pub mod Bytes
-pub mod Net
-pub mod Theorems
+pub mod LoadNet
+pub mod LoadTheorems

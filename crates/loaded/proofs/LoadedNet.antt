@@ -26,13 +26,13 @@ use Rattle.leads.proofs.Primitives.{primitivesBefore-distinct, primitives-bound
 use Rattle.leads.proofs.FlatWires.{flatWires-bound}
 use Rattle.tables.specs.Tables.{Tables, fieldsAt, firstOutput, inputsAt, outputsAt, currentList, followingList}
 use Rattle.tables.specs.Tables.{standingList}
-use Rattle.load.specs.Load.{primitives, standingAtLoad, loaded}
-use Rattle.load.proofs.NamesLaws.{standing-bound}
+use Rattle.load.specs.Load.{primitives, standingAtLoad, drawingTables}
+use Rattle.load.proofs.StandingLaws.{standing-bound}
 use Rattle.load.proofs.PortsLaws.{starting-length}
 use Rattle.net.specs.Net.{countsWithin, valuesFit, constsHeld, names}
 use Rattle.loaded.proofs.Starting.{zeros-fit, starting-fits, starting-const}
 use Rattle.loaded.proofs.Entries.{loaded-fields}
-use Rattle.loaded.proofs.Ports.{loaded-inputs, loaded-outputs}
+use Rattle.loaded.proofs.LoadedPorts.{loaded-inputs, loaded-outputs}
 use Rattle.loaded.proofs.Sizes.{loaded-current, loaded-following, loaded-standing}
 use Rattle.loaded.proofs.Drawn.{loaded-drawn, drawn-every}
 
@@ -43,11 +43,11 @@ named U xs h = names-complete (U .counts .components) xs h
 
 module _ (at : ℕ → Record) (n : ℕ) (d : Passed at n) (T : Tables) where
   abbrev L : Tables
-  L = loaded at n T
+  L = drawingTables at n T
 
   -- Counts are within the limits.
-  pub loaded-countsWithin : countsWithin (loaded at n T .counts) ≡ true
-  unfolding countsWithin loaded
+  pub loaded-countsWithin : countsWithin (drawingTables at n T .counts) ≡ true
+  unfolding countsWithin drawingTables
   loaded-countsWithin =
       rw (
         le-leb _ _ (primitives-bound at n d),
@@ -58,7 +58,7 @@ module _ (at : ℕ → Record) (n : ℕ) (d : Passed at n) (T : Tables) where
       )
 
   -- Values fit.
-  pub loaded-valuesFit : valuesFit (loaded at n T) ≡ true
+  pub loaded-valuesFit : valuesFit (drawingTables at n T) ≡ true
   unfolding valuesFit
   loaded-valuesFit =
       drawn-every at n L (loaded-drawn at n d T)
@@ -90,7 +90,7 @@ module _ (at : ℕ → Record) (n : ℕ) (d : Passed at n) (T : Tables) where
       ∙ ap (λ (l : List ℕ). getD l 0 0) (loaded-outputs at n d T c e ∙ starts)
 
   -- Each Const's output is its value.
-  pub loaded-constsHeld : constsHeld (loaded at n T) ≡ true
+  pub loaded-constsHeld : constsHeld (drawingTables at n T) ≡ true
   unfolding constsHeld
   loaded-constsHeld =
       drawn-every at n L (loaded-drawn at n d T)
@@ -107,15 +107,15 @@ module _ (at : ℕ → Record) (n : ℕ) (d : Passed at n) (T : Tables) where
       by-kind c e false k = refl
 
   -- Each list names existing components without repeats: the current list,
-  pub loaded-names-current : names (loaded at n T) (currentList (loaded at n T)) ≡ true
-  unfolding loaded
+  pub loaded-names-current : names (drawingTables at n T) (currentList (drawingTables at n T)) ≡ true
+  unfolding drawingTables
   loaded-names-current =
       ap (names L) (loaded-current at n T)
       ∙ named L (from 0 (flat at n n))
       (record { exist = from0-sound (flat at n n); once = distinct-from 0 (flat at n n) })
 
   standing-names : names L (standingAtLoad at n) ≡ true
-  unfolding loaded
+  unfolding drawingTables
   standing-names =
       named L (standingAtLoad at n)
       (record {
@@ -138,9 +138,9 @@ module _ (at : ℕ → Record) (n : ℕ) (d : Passed at n) (T : Tables) where
       of-primitive c h = primitivesBefore-sound at n c n (keep-sound test c (primitives at n) h .1) .0
 
   -- the following list,
-  pub loaded-names-following : names (loaded at n T) (followingList (loaded at n T)) ≡ true
+  pub loaded-names-following : names (drawingTables at n T) (followingList (drawingTables at n T)) ≡ true
   loaded-names-following = ap (names L) (loaded-following at n T) ∙ standing-names
 
   -- and the standing list.
-  pub loaded-names-standing : names (loaded at n T) (standingList (loaded at n T)) ≡ true
+  pub loaded-names-standing : names (drawingTables at n T) (standingList (drawingTables at n T)) ≡ true
   loaded-names-standing = ap (names L) (loaded-standing at n T) ∙ standing-names

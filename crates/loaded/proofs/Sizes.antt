@@ -18,35 +18,35 @@ use Rattle.leads.proofs.FlatWires.{flatWires-bound}
 use Rattle.tables.proofs.SizesLaws.{fullSize-sound}
 use Rattle.tables.proofs.SameLaws.{SameLengths}
 use Rattle.tables.specs.Tables.{Tables, fullSize, currentList, followingList, standingList}
-use Rattle.load.specs.Load.{wireWords, primitives, componentWords, standingAtLoad, loaded}
+use Rattle.load.specs.Load.{wireWords, primitives, componentWords, standingAtLoad, drawingTables}
 use Rattle.load.specs.Laying.{startingOf}
-use Rattle.load.proofs.NamesLaws.{standing-bound}
+use Rattle.load.proofs.StandingLaws.{standing-bound}
 use Rattle.load.proofs.PortsLaws.{starting-before}
 
 -- The three lists.
 module _ (at : ℕ → Record) (n : ℕ) (T : Tables) where
   -- The current list names all components;
-  pub loaded-current : currentList (loaded at n T) ≡ from 0 (length (primitives at n))
-  unfolding loaded
+  pub loaded-current : currentList (drawingTables at n T) ≡ from 0 (length (primitives at n))
+  unfolding drawingTables
   loaded-current =
       let all = from 0 (length (primitives at n)) in
       ap (λ (k : ℕ). take k (overlay all (T .current))) (sym (from-length 0 (length (primitives at n))))
       ∙ overlay-front all (T .current)
 
   -- the following and the standing list name every Const and Clock, ascending.
-  pub loaded-following : followingList (loaded at n T) ≡ standingAtLoad at n
-  unfolding loaded
+  pub loaded-following : followingList (drawingTables at n T) ≡ standingAtLoad at n
+  unfolding drawingTables
   loaded-following = overlay-front (standingAtLoad at n) (T .following)
 
-  pub loaded-standing : standingList (loaded at n T) ≡ standingAtLoad at n
-  unfolding loaded
+  pub loaded-standing : standingList (drawingTables at n T) ≡ standingAtLoad at n
+  unfolding drawingTables
   loaded-standing = overlay-front (standingAtLoad at n) (T .standing)
 
 -- What the load of a drawing that passes every check writes has room in tables of full size, so that they keep their
 -- lengths.
 module _ (at : ℕ → Record) (n : ℕ) (d : Passed at n) where
-  pub loaded-lengths : (T : Tables) → fullSize T ≡ true → SameLengths T (loaded at n T)
-  unfolding loaded
+  pub loaded-lengths : (T : Tables) → fullSize T ≡ true → SameLengths T (drawingTables at n T)
+  unfolding drawingTables
   loaded-lengths T full =
       let s = fullSize-sound T full in
       let few = primitives-bound at n d in

@@ -6,7 +6,8 @@ use mathlib.Core.List.{List, []}
 use Prim.Native.Nat.{ℕ}
 use Rattle.tables.specs.declared.Counts.{Counts}
 use Rattle.tables.specs.Tables.{Tables}
-use Rattle.net.specs.Net.{countsWithin, lent, kindsObeyed, idsDistinct, portsFollow, valuesFit, constsHeld, wiresFit, inputsOnce, isCircuit}
+use Rattle.net.specs.Net.{countsWithin, kindsObeyed, idsDistinct, portsFollow, valuesFit, constsHeld, wiresFit, inputsOnce, isCircuit}
+use Rattle.net.specs.Parts.{lent}
 
 module _ (cs is os ws : List ℕ) (m : Counts) where
   abbrev T : Tables

@@ -13,13 +13,14 @@ use Rattle.lists.proofs.ListsLaws.{and-left, and-right, every-from, every-end}
 use Rattle.primitive.specs.Kinds.{primitive, obeys, inputWidth, outputWidth}
 use Rattle.flatten.specs.declared.Wire.{Wire}
 use Rattle.tables.specs.declared.Counts.{Counts}
-use Rattle.tables.specs.Tables.{Tables, wordIn, fieldsIn, fieldsFit, fieldsAt, firstInput, firstOutput, inputPlace, wireAt}
+use Rattle.tables.specs.Tables.{Tables, wordIn, fieldsIn, fieldsAt, firstInput, firstOutput, inputPlace, wireAt}
+use Rattle.tables.specs.Words.{fieldsFit}
 use Rattle.tables.proofs.RowsLaws.{obeyed-fit, fieldsFit-inputs, fieldsFit-outputs}
 use Rattle.tables.proofs.PartsLaws.{AllTrue, parts-sound}
-use Rattle.net.specs.Net.{countsWithin, lent, kindsObeyed, portsFollow, isOutput, isInput, wiresFit, inputsOnce}
-use Rattle.net.proofs.StepsLaws.{every-map, map-map, total-room}
+use Rattle.net.specs.Net.{countsWithin, kindsObeyed, portsFollow, isOutput, isInput, wiresFit, inputsOnce}
+use Rattle.net.specs.Parts.{lent, targetIn, placeIn, wireRight, PortsInside}
+use Rattle.net.proofs.LoopsLaws.{every-map, map-map, total-room}
 use Rattle.net.specs.Net.{obeyedAt, inputSum, outputSum, followAt}
-use Rattle.net.specs.Parts.{targetIn, placeIn, wireRight, PortsInside}
 
 -- "counts are within these limits"
 pub record Within (m : Counts) : Type 0 where

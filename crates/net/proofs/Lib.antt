@@ -1,4 +1,4 @@
-pub mod StepsLaws
+pub mod LoopsLaws
 pub mod MarksLaws
 pub mod ClausesLaws
 pub mod CircuitLaws

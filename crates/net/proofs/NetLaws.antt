@@ -23,9 +23,9 @@ use Rattle.tables.specs.declared.Counts.{Counts}
 use Rattle.tables.specs.Tables.{Tables, fullSize, wordIn, fieldsAt, firstOutput, inputPlace, inputsAt, outputsAt, wireAt, wiresIn, currentList, followingList, standingList}
 use Rattle.tables.proofs.PartsLaws.{AllTrue, parts-sound, parts-complete}
 use Rattle.tables.proofs.SizesLaws.{Full, fullSize-sound}
-use Rattle.net.specs.Net.{countsWithin, lent, kindsObeyed, idsDistinct, portsFollow, valuesFit, constsHeld, isOutput, isInput, wiresFit, inputsOnce, names, isCircuit, isNet, netNumber}
+use Rattle.net.specs.Net.{countsWithin, kindsObeyed, idsDistinct, portsFollow, valuesFit, constsHeld, isOutput, isInput, wiresFit, inputsOnce, names, isCircuit, isNet, netNumber}
+use Rattle.net.specs.Parts.{lent, targetIn, PlacesInside}
 use Rattle.net.specs.Net.{fitAt, heldAt}
-use Rattle.net.specs.Parts.{targetIn, PlacesInside}
 use Rattle.net.proofs.ClausesLaws.{Within, countsWithin-sound, portsFollow-inputs}
 
 -- The clauses.

@@ -4,8 +4,9 @@ ghost use mathlib.Core.List.{[], map};
 ghost use Prim.Native.Nat.{_-_, _≤_};
 ghost use Rattle.lists.specs.Lists.{from, every, has, distinct};
 ghost use Rattle.value.specs.Value.{below};
-ghost use Rattle.net.specs.Net.{lent, idsDistinct};
-ghost use Rattle.tables.specs.Tables.{idIn};
+ghost use Rattle.net.specs.Net.{idsDistinct};
+ghost use Rattle.net.specs.Parts.{lent};
+ghost use Rattle.net.specs.Parts.{idIn};
 use tables::Counts;
 
 // Whether the id of each of the first count components has 32 bits.

@@ -3,7 +3,8 @@ ghost use mathlib.Core.Path.{_≡_};
 ghost use mathlib.Core.List.{[]};
 ghost use Prim.Native.Nat.{_≤_};
 ghost use lib.ListN.{length, take};
-ghost use Rattle.net.specs.Net.{lent, names};
+ghost use Rattle.net.specs.Net.{names};
+ghost use Rattle.net.specs.Parts.{lent};
 use tables::Counts;
 
 // Whether the first `count` entries of a list name components, none twice: each component that is named is marked.

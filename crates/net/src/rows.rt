@@ -3,7 +3,8 @@ ghost use mathlib.Core.Path.{_≡_};
 ghost use mathlib.Core.Bool.{true};
 ghost use mathlib.Core.List.{[]};
 ghost use Prim.Native.Nat.{_<_, _≤_};
-ghost use Rattle.net.specs.Net.{lent, kindsObeyed, portsFollow};
+ghost use Rattle.net.specs.Net.{kindsObeyed, portsFollow};
+ghost use Rattle.net.specs.Parts.{lent};
 ghost use Rattle.net.specs.Net.{obeyedAt};
 use tables::Counts;
 

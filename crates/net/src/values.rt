@@ -6,10 +6,11 @@ ghost use Prim.Native.Nat.{_+_, _<_, _≤_};
 ghost use lib.ListN.{length};
 ghost use Rattle.lists.specs.Lists.{every};
 ghost use Rattle.value.specs.Value.{below};
-ghost use Rattle.tables.specs.Tables.{fieldsIn, fieldsFit, numbers};
-ghost use Rattle.net.specs.Net.{lent, kindsObeyed, valuesFit, constsHeld};
+ghost use Rattle.tables.specs.Tables.{fieldsIn, numbers};
+ghost use Rattle.tables.specs.Words.{fieldsFit};
+ghost use Rattle.net.specs.Net.{kindsObeyed, valuesFit, constsHeld};
+ghost use Rattle.net.specs.Parts.{lent, InputsInside, OutputsInside, PortsInside};
 ghost use Rattle.net.specs.Net.{fitAt, heldAt};
-ghost use Rattle.net.specs.Parts.{InputsInside, OutputsInside, PortsInside};
 use tables::Counts;
 
 // Whether the numbers of `count` ports that start at `start` lie below 2^width.

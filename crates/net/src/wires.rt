@@ -3,8 +3,8 @@ ghost use mathlib.Core.Path.{_≡_};
 ghost use mathlib.Core.Bool.{true};
 ghost use mathlib.Core.List.{[]};
 ghost use Prim.Native.Nat.{_<_, _≤_};
-ghost use Rattle.net.specs.Net.{lent, kindsObeyed, wiresFit, inputsOnce};
-ghost use Rattle.net.specs.Parts.{targetIn, placeIn, PlacesInside, wireRight};
+ghost use Rattle.net.specs.Net.{kindsObeyed, wiresFit, inputsOnce};
+ghost use Rattle.net.specs.Parts.{lent, targetIn, placeIn, PlacesInside, wireRight};
 use tables::Counts;
 
 // Whether the ends of wire k exist and have equal widths.

@@ -15,8 +15,9 @@ use Rattle.lists.proofs.ListsLaws.{or-left, or-right, refusal-first, refusal-re
 use Rattle.value.specs.Value.{below}
 use Rattle.primitive.specs.declared.table.Fields.{Fields}
 use Rattle.primitive.specs.declared.answers.Evaluated.the-variants.{Done, Refused}
-use Rattle.primitive.specs.Kinds.{kept, unknown, primitive, obeys, inputWidth, outputWidth}
-use Rattle.primitive.specs.Evaluate.{fitting, Own, outputsAfter, evaluateNumber, evaluateOutputs, evaluatedGives}
+use Rattle.primitive.specs.Kinds.{forCustom, unknown, primitive, obeys, inputWidth, outputWidth}
+use Rattle.primitive.specs.Evaluate.{fitting, outputsAfter, evaluateNumber, evaluateOutputs, evaluatedGives}
+use Rattle.primitive.specs.Own.{Own}
 use Rattle.primitive.specs.Given.{giving}
 
 -- Value i has width w and a number below 2^w.
@@ -51,11 +52,11 @@ module _ (f : Fields) (xs vs ys ws : List ℕ) where
   allFit = fitting (inputWidth f) (f .inputs) xs vs && fitting (outputWidth f) (f .outputs) ys ws
 
   -- The number at each return.
-  pub number-7 : kept (f .kind) ≡ true → 7 ≡ evaluateNumber f xs vs ys ws
+  pub number-7 : forCustom (f .kind) ≡ true → 7 ≡ evaluateNumber f xs vs ys ws
   unfolding evaluateNumber
   number-7 a = rw a
 
-  module _ (a : kept (f .kind) ≡ false) where
+  module _ (a : forCustom (f .kind) ≡ false) where
     pub number-8 : unknown (f .kind) ≡ true → 8 ≡ evaluateNumber f xs vs ys ws
     unfolding evaluateNumber
     number-8 b = rw (a, b)
@@ -112,7 +113,7 @@ module _ (f : Fields) (xs vs ys ws : List ℕ) where
     unfolding evaluateNumber checks
     past-8 =
         refusal-rest 8 (unknown (f .kind)) ((9 if not (primitive f && obeys f)) ∷ (2 if lacking) ∷ (19 if not allFit) ∷ []) (λ q. omega arith)
-        (refusal-rest 7 (kept (f .kind)) ((8 if unknown (f .kind)) ∷ (9 if not (primitive f && obeys f)) ∷ (2 if lacking) ∷ (19 if not allFit) ∷ []) (λ q. omega arith) z)
+        (refusal-rest 7 (forCustom (f .kind)) ((8 if unknown (f .kind)) ∷ (9 if not (primitive f && obeys f)) ∷ (2 if lacking) ∷ (19 if not allFit) ∷ []) (λ q. omega arith) z)
 
     pub passed-obeys : (primitive f && obeys f) ≡ true
     unfolding checks

@@ -15,7 +15,8 @@ use Rattle.primitive.specs.declared.kinds.Kind.{Kind}
 use Rattle.primitive.specs.declared.kinds.Kind.the-variants.{Composite, And, Or, Not, Nand, Nor, Xor, Switch, Input, Output, Splitter, Joiner, Clock, Const}
 use Rattle.primitive.specs.declared.table.Fields.{Fields}
 use Rattle.primitive.specs.Kinds.{numberOf, kindOf, primitive, obeys, row, only, inputWidth, outputWidth}
-use Rattle.primitive.specs.Evaluate.{one, allHigh, anyHigh, oddHigh, clockHigh, join, rule, outputsAfter, Own}
+use Rattle.primitive.specs.Evaluate.{one, allHigh, anyHigh, oddHigh, clockHigh, join, rule, outputsAfter}
+use Rattle.primitive.specs.Own.{Own}
 use Rattle.primitive.proofs.KindsLaws.{numberOf-kindOf}
 use Rattle.primitive.proofs.RulesLaws.{join-lt}
 use Rattle.primitive.proofs.UpdateLaws.{Inside, InRow, obeyed-row, obeyed-primitive, leaves, outputsAfter-rule, outputsAfter-left}
@@ -71,8 +72,8 @@ module _ (f : Fields) (xs : List ℕ) (t : ℕ) (all : length xs ≡ f .inputs) 
   rule-length Const r l n = absurd (false≢true (sym l))
 
   -- What it gives fits, where its inputs do.
-  rule-fits : (k : Kind) → InRow (row k c p) f → leaves k ≡ false → allBelow (row k c p .entering) xs ≡ true
-      → allBelow (row k c p .leaving) (rule k p xs t) ≡ true
+  rule-fits : (k : Kind) → InRow (row k c p) f → leaves k ≡ false → allBelow (row k c p .inward) xs ≡ true
+      → allBelow (row k c p .outward) (rule k p xs t) ≡ true
   rule-fits Composite r l e = refl
   rule-fits And r l e = one-below (allHigh xs)
   rule-fits Or r l e = one-below (anyHigh xs)

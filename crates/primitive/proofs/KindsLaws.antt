@@ -12,7 +12,7 @@ use lib.Dec.{eqb}
 use lib.ListN.{List·getD-eq-default}
 use Rattle.lists.specs.Lists.{from}
 use Rattle.lists.proofs.ListsLaws.{every-from}
-use Rattle.primitive.specs.Kinds.{kinds, numberOf, kindOf, kept, unknown, seenAs, row, rowOf}
+use Rattle.primitive.specs.Kinds.{kinds, numberOf, kindOf, forCustom, unknown, seenAs, row, rowOf}
 use Rattle.primitive.specs.declared.table.Fields.{Fields}
 use Rattle.primitive.specs.declared.table.Row.{Row}
 use Rattle.primitive.specs.declared.kinds.Kind.{Kind}
@@ -50,14 +50,14 @@ numberOf-kindOf n h = eqb-true (numberOf (kindOf n)) n (every-from (λ i. eqb (n
 -- The three things that a number can be read as.
 seenAs-cases : (n : ℕ) →
     ((n ≡ 14) × (seenAs n ≡ Kept)) ⊎ (((15 ≤ n) × (seenAs n ≡ Unknown)) ⊎ ((n < 14) × (seenAs n ≡ Known (kindOf n))))
-seenAs-cases n = by-kept (kept n) refl
+seenAs-cases n = by-kept (forCustom n) refl
   where
-    by-unknown : (b : Bool) → kept n ≡ false → unknown n ≡ b
+    by-unknown : (b : Bool) → forCustom n ≡ false → unknown n ≡ b
         → ((15 ≤ n) × (seenAs n ≡ Unknown)) ⊎ ((n < 14) × (seenAs n ≡ Known (kindOf n)))
     by-unknown true q u = inl (leb-true 15 n u, rw (q, u))
     by-unknown false q u = inr (omega (arith, leb-false 15 n u, eqb-false n 14 q), rw (q, u))
 
-    by-kept : (b : Bool) → kept n ≡ b
+    by-kept : (b : Bool) → forCustom n ≡ b
         → ((n ≡ 14) × (seenAs n ≡ Kept)) ⊎ (((15 ≤ n) × (seenAs n ≡ Unknown)) ⊎ ((n < 14) × (seenAs n ≡ Known (kindOf n))))
     by-kept true q = inl (eqb-true n 14 q, rw q)
     by-kept false q = inr (by-unknown (unknown n) q refl)

@@ -13,7 +13,7 @@ use Rattle.primitive.specs.declared.kinds.Seen.the-variants.{Known, Kept
 use Rattle.primitive.specs.declared.table.Fields.{Fields}
 use Rattle.primitive.specs.declared.table.Span.{Span}
 use Rattle.primitive.specs.declared.table.Row.{Row}
-use Rattle.primitive.specs.Kinds.{numberOf, seenAs, kept, unknown, kindOf, primitive, row, rowOf, spans, inputsRight, outputsRight, widthRight, parameterRight, obeys}
+use Rattle.primitive.specs.Kinds.{numberOf, seenAs, forCustom, unknown, kindOf, primitive, row, rowOf, spans, obeys}
 use Rattle.primitive.specs.Evaluate.{rule, functionOf, outputsAfter}
 use Rattle.primitive.proofs.KindsLaws.{kindOf-numberOf, seenAs-kind}
 
@@ -32,9 +32,22 @@ pub record InRow (r : Row) (f : Fields) : Type 0 where
   pub width : Inside (r .width) (f .width)
   pub parameter : Inside (r .parameter) (f .parameter)
 
+-- The columns of the table, as tests of a component.
+abbrev inputsRight : Fields → Bool
+inputsRight f = spans (rowOf f .inputs) (f .inputs)
+
+abbrev outputsRight : Fields → Bool
+outputsRight f = spans (rowOf f .outputs) (f .outputs)
+
+abbrev widthRight : Fields → Bool
+widthRight f = spans (rowOf f .width) (f .width)
+
+abbrev parameterRight : Fields → Bool
+parameterRight f = spans (rowOf f .parameter) (f .parameter)
+
 module _ (f : Fields) (o : obeys f ≡ true) where
   abbrev to-inputs : Bool
-  to-inputs = (not (kept (f .kind)) && not (unknown (f .kind))) && inputsRight f
+  to-inputs = (not (forCustom (f .kind)) && not (unknown (f .kind))) && inputsRight f
 
   abbrev to-width : Bool
   to-width = (to-inputs && outputsRight f) && widthRight f
@@ -46,7 +59,7 @@ module _ (f : Fields) (o : obeys f ≡ true) where
       let u : (to-inputs && outputsRight f) ≡ true = and-left (to-inputs && outputsRight f) (widthRight f) w in
       let i : to-inputs ≡ true = and-left to-inputs (outputsRight f) u in
       record {
-        inputs = inside (rowOf f .inputs) (f .inputs) (and-right (not (kept (f .kind)) && not (unknown (f .kind))) (inputsRight f) i);
+        inputs = inside (rowOf f .inputs) (f .inputs) (and-right (not (forCustom (f .kind)) && not (unknown (f .kind))) (inputsRight f) i);
         outputs = inside (rowOf f .outputs) (f .outputs) (and-right to-inputs (outputsRight f) u);
         width = inside (rowOf f .width) (f .width) (and-right (to-inputs && outputsRight f) (widthRight f) w);
         parameter = inside (rowOf f .parameter) (f .parameter) (and-right to-width (parameterRight f) o);

@@ -6,7 +6,7 @@
 -- Assumes nothing.
 use Prim.Native.Nat.{ℕ, _+_, _*_, _%_}
 use mathlib.Core.Path.{_≡_}
-use mathlib.Core.Bool.{Bool, true, cond, not, _&&_, _||_}
+use mathlib.Core.Bool.{Bool, cond, not, _&&_, _||_}
 use mathlib.Core.List.{List, [], _∷_, map}
 use lib.ListN.{length, getD, take, replicate}
 use lib.Seq.{sets}
@@ -19,7 +19,7 @@ use Rattle.primitive.specs.declared.table.Fields.{Fields}
 use Rattle.primitive.specs.declared.answers.Evaluated.{Evaluated}
 use Rattle.primitive.specs.declared.answers.Evaluated.the-variants.{Done, Refused}
 use Rattle.primitive.specs.Given.{Given, done, declined, giving}
-use Rattle.primitive.specs.Kinds.{kindOf, kept, unknown, is, primitive, obeys, inputWidth, outputWidth}
+use Rattle.primitive.specs.Kinds.{kindOf, forCustom, unknown, is, primitive, obeys, inputWidth, outputWidth}
 
 -- A port is high.
 abbrev pub high : ℕ → Bool
@@ -81,12 +81,6 @@ functionOf f xs t = rule (kindOf (f .kind)) (f .parameter) xs t
 unfoldable pub outputsAfter : Fields → List ℕ → List ℕ → ℕ → List ℕ
 outputsAfter f xs ys t = cond (is Switch f || is Const f) ys (functionOf f xs t)
 
--- What an evaluation is handed: a primitive that obeys the table of kinds, with its own inputs xs and outputs ys and no others.
-pub record Own (f : Fields) (xs ys : List ℕ) : Type 0 where
-  pub obeyed : (primitive f && obeys f) ≡ true
-  pub all-inputs : length xs ≡ f .inputs
-  pub all-outputs : length ys ≡ f .outputs
-
 -- "At load all ports are 0, a Const's output its value."
 abbrev pub starting : Fields → List ℕ
 starting f = cond (is Const f) (f .parameter ∷ []) (replicate (f .outputs) 0)
@@ -100,7 +94,7 @@ fitting w k ns ws = every (λ i. eqb (getD ws i 0) w && below (getD ns i 0) w) (
 unfoldable pub evaluateNumber : Fields → List ℕ → List ℕ → List ℕ → List ℕ → ℕ
 evaluateNumber f xs vs ys ws =
     refusal
-    ((7 if kept (f .kind))
+    ((7 if forCustom (f .kind))
     ∷ (8 if unknown (f .kind))
     ∷ (9 if not (primitive f && obeys f))
     ∷ (2 if ltb (length xs) (f .inputs) || ltb (length vs) (f .inputs) || ltb (length ys) (f .outputs) || ltb (length ws) (f .outputs))

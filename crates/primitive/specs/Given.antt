@@ -3,8 +3,9 @@
 --   done xs      number 0, with these values
 --   declined r   a refusal's number and position, no values
 --   giving k xs  a call of number k: its values at 0, else refused "at position 0"
+--   spoken g     the host's number
 -- Assumes nothing.
-use Prim.Native.Nat.{ℕ}
+use Prim.Native.Nat.{ℕ, _+_, _*_}
 use mathlib.Core.Bool.{cond}
 use mathlib.Core.List.{List}
 use mathlib.Core.Option.{Option, none, some}
@@ -28,6 +29,10 @@ declined r = record { number = r .number; position = r .position; values = none 
 -- A refusal "at position 0".
 abbrev pub refusedBy : ℕ → Refusal
 refusedBy k = record { number = k; position = 0 }
+
+-- The host's number: "number times 65,536 plus position".
+abbrev pub spoken : Given → ℕ
+spoken g = 65536 * g .number + g .position
 
 -- A call of number k with these values: done at 0, else refused.
 abbrev pub giving : ℕ → List ℕ → Given

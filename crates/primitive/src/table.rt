@@ -29,8 +29,8 @@ pub struct Row {
     pub outputs: Span,
     pub width: Span,
     pub parameter: Span,
-    pub entering: u64,
-    pub leaving: u64,
+    pub inward: u64,
+    pub outward: u64,
 }
 
 // The most inputs or outputs of a component.
@@ -77,23 +77,16 @@ fn only(a: u64) -> Span
     Span { least: a, most: a }
 }
 
-fn line(
-    inputs: Span,
-    outputs: Span,
-    width: Span,
-    parameter: Span,
-    entering: u64,
-    leaving: u64,
-) -> Row
-    ensures { λ r. ⌜ r ≡ line inputs outputs width parameter entering leaving ⌝ }
+fn line(inputs: Span, outputs: Span, width: Span, parameter: Span, inward: u64, outward: u64) -> Row
+    ensures { λ r. ⌜ r ≡ line inputs outputs width parameter inward outward ⌝ }
 {
     Row {
         inputs,
         outputs,
         width,
         parameter,
-        entering,
-        leaving,
+        inward,
+        outward,
     }
 }
 
@@ -164,12 +157,12 @@ pub fn obeys(f: Fields) -> bool
 pub fn input_width(f: Fields) -> u64
     ensures { λ r. ⌜ r ≡ inputWidth f ⌝ }
 {
-    row_of(f).entering
+    row_of(f).inward
 }
 
 // The bits of each output.
 pub fn output_width(f: Fields) -> u64
     ensures { λ r. ⌜ r ≡ outputWidth f ⌝ }
 {
-    row_of(f).leaving
+    row_of(f).outward
 }

@@ -14,7 +14,7 @@ use Rattle.primitive.specs.Kinds.{is}
 use Rattle.primitive.specs.Evaluate.{outputsAfter}
 use Rattle.flatten.specs.declared.Wire.{Wire}
 use Rattle.tables.specs.Tables.{Tables, fieldsAt, firstInput, firstOutput, inputsAt, outputsAt, wiresIn}
-use Rattle.simulator.specs.Round.{State, edited}
+use Rattle.simulator.specs.Round.{State, editedState}
 use Rattle.simulator.specs.Calls.{driven}
 use Rattle.simulator.proofs.Evaluation.{is-other}
 use Rattle.simulator.proofs.Sound.{Sound}
@@ -89,9 +89,9 @@ module _ (T : Tables) (g : Sound T) (ran : Bool) (t i v : ℕ) (h : i < T .count
       (input-left T g i v h s b k d q ne) ∙ f)
 
   -- An edit that is not refused keeps the invariant.
-  pub edited-inv : Editable T i v → Inv T ran t (edited T i v s)
+  pub edited-inv : Editable T i v → Inv T ran t (editedState T i v s)
   edited-inv ok = by-case (edit-case T i v s ok)
     where
-      by-case : EditCase T i v s → Inv T ran t (edited T i v s)
+      by-case : EditCase T i v s → Inv T ran t (editedState T i v s)
       by-case (switch k p e) = rw e (switched-inv k)
       by-case (input k f p e) = rw e (fed-inv k f)

@@ -21,7 +21,7 @@ use Rattle.primitive.specs.declared.kinds.Kind.the-variants.{Switch, Input, Con
 use Rattle.primitive.specs.Kinds.{is, inputWidth, outputWidth}
 use Rattle.flatten.specs.declared.Wire.{Wire}
 use Rattle.tables.specs.Tables.{Tables, fieldsAt, firstInput, firstOutput, numbers, inputsAt, outputsAt, wiresIn}
-use Rattle.simulator.specs.Round.{State, edited}
+use Rattle.simulator.specs.Round.{State, editedState}
 use Rattle.simulator.specs.Calls.{driven, editNumber}
 use Rattle.simulator.proofs.EditsLaws.{edit-there, edit-settable, edit-fits}
 use Rattle.simulator.proofs.Ports.{Off, off-apart, numbers-cong}
@@ -78,13 +78,13 @@ fed T i v s = stood i s (set (s .inputs) (firstInput T i) v) (s .outputs)
 -- An edit is one of the two.
 pub data EditCase (T : Tables) (i v : ℕ) (s : State) : Type 0 where
   switch : is Switch (fieldsAt T i) ≡ true → below v (outputWidth (fieldsAt T i)) ≡ true
-      → edited T i v s ≡ switched T i v s → EditCase T i v s
+      → editedState T i v s ≡ switched T i v s → EditCase T i v s
   input : is Input (fieldsAt T i) ≡ true → driven T i ≡ false → below v (inputWidth (fieldsAt T i)) ≡ true
-      → edited T i v s ≡ fed T i v s
+      → editedState T i v s ≡ fed T i v s
       → EditCase T i v s
 
 pub edit-case : (T : Tables) (i v : ℕ) (s : State) → Editable T i v → EditCase T i v s
-unfolding edited switched fed
+unfolding editedState switched fed
 edit-case T i v s a = by-kind (a .settable) (a .value)
   where
     by-kind : (is Switch (fieldsAt T i) ≡ true) ⊎ ((is Input (fieldsAt T i) ≡ true) × (driven T i ≡ false))
@@ -215,9 +215,9 @@ module _ (T : Tables) (g : Sound T) (i v : ℕ) (h : i < T .counts .components) 
         room = omega (arith, one-input, a .inputs-length, g .inputs-in i h)
 
   -- An edit keeps what a net holds.
-  pub edited-held : Editable T i v → Held T (edited T i v s)
+  pub edited-held : Editable T i v → Held T (editedState T i v s)
   edited-held ok = by-case (edit-case T i v s ok)
     where
-      by-case : EditCase T i v s → Held T (edited T i v s)
+      by-case : EditCase T i v s → Held T (editedState T i v s)
       by-case (switch k b e) = rw e (switched-held k b)
       by-case (input k f b e) = rw e (fed-held k b)

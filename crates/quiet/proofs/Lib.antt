@@ -1,5 +1,5 @@
 pub mod Edited
-pub mod Kept
+pub mod EditKept
 pub mod Invariant
 pub mod EditInvariant
 pub mod Since

@@ -15,7 +15,7 @@ use Rattle.primitive.specs.Kinds.{is}
 use Rattle.flatten.specs.declared.Wire.{Wire}
 use Rattle.tables.specs.Tables.{Tables, fieldsAt, wiresIn, currentList, followingList, standingList}
 use Rattle.net.specs.Net.{netNumber}
-use Rattle.simulator.specs.Round.{State, stateOf, leave, round, edited as editedState, roundOf}
+use Rattle.simulator.specs.Round.{State, stateOf, leave, round, editedState as editedState, roundOf}
 use Rattle.simulator.specs.Calls.{roundTables, editNumber, editTables}
 use Rattle.simulator.proofs.Sound.{net-sound}
 use Rattle.simulator.proofs.Held.{Order, stored-order}

@@ -15,13 +15,13 @@ use Rattle.lists.proofs.NamesLaws.{appendNew-has, appendNew-kept}
 use Rattle.flatten.specs.declared.Wire.{Wire}
 use Rattle.tables.specs.Tables.{Tables, wiresIn, currentList, followingList, standingList}
 use Rattle.net.specs.Net.{netNumber}
-use Rattle.simulator.specs.Round.{State, stateOf, leave, wiresFrom, evaluated, send, visit, round, edited, roundOf}
+use Rattle.simulator.specs.Round.{State, stateOf, leave, wiresFrom, evaluated, send, visit, round, editedState, roundOf}
 use Rattle.simulator.specs.Calls.{roundTables, editNumber, editTables}
 use Rattle.simulator.proofs.Held.{foldl-keeps, written, SendCase, agrees, writes, send-case}
 use Rattle.simulator.proofs.EditsLaws.{edit-is-net}
 use Rattle.simulator.proofs.Left.{stateOf-leave}
 use Rattle.simulator.proofs.Kept.{by-number, roundTables-done, roundTables-net}
-use Rattle.quiet.proofs.Kept.{editTables-done, editTables-net}
+use Rattle.quiet.proofs.EditKept.{editTables-done, editTables-net}
 use Rattle.quiet.proofs.Invariant.{evaluated-standing}
 
 -- Within a round.
@@ -108,35 +108,35 @@ edits-net T e none = e
 edits-net T e (more {U = U} i v r) = editTables-net U i v (edits-net T e r)
 
 -- What every edit of a state keeps, edits of tables keep, refused ones too.
-edits-keep : (P : State → Type 0) → ((T : Tables) (i v : ℕ) → P (stateOf T) → P (edited T i v (stateOf T)))
+edits-keep : (P : State → Type 0) → ((T : Tables) (i v : ℕ) → P (stateOf T) → P (editedState T i v (stateOf T)))
     → (T : Tables) {U : Tables} → P (stateOf T) → AnyEdits T U → P (stateOf U)
 unfolding editTables
 edits-keep P f T p none = p
 edits-keep P f T p (more {U = U} i v r) =
     let q = edits-keep P f T p r in
-    by-number (λ (W : Tables). P (stateOf W)) (editNumber U i v) (leave U (edited U i v (stateOf U))) U
-    (λ e. subst P (sym (stateOf-leave U (edited U i v (stateOf U)))) (f U i v q)) q
+    by-number (λ (W : Tables). P (stateOf W)) (editNumber U i v) (leave U (editedState U i v (stateOf U))) U
+    (λ e. subst P (sym (stateOf-leave U (editedState U i v (stateOf U)))) (f U i v q)) q
 
 -- So no name is taken off a list.
 module _ (x : ℕ) where
   edits-current : (T : Tables) {U : Tables} → In x (currentList T) → AnyEdits T U → In x (currentList U)
-  unfolding edited
+  unfolding editedState
   edits-current = edits-keep (λ (s : State). In x (s .current)) (λ T i v m. m)
 
   edits-following : (T : Tables) {U : Tables} → In x (followingList T) → AnyEdits T U → In x (followingList U)
-  unfolding edited
+  unfolding editedState
   edits-following = edits-keep (λ (s : State). In x (s .following)) (λ T i v m. m)
 
   edits-standing : (T : Tables) {U : Tables} → In x (standingList T) → AnyEdits T U → In x (standingList U)
-  unfolding edited
+  unfolding editedState
   edits-standing = edits-keep (λ (s : State). In x (s .standing)) (λ T i v m. appendNew-kept i x (standingList T) m)
 
 -- An edit that is not refused names its component in the standing list.
 pub editTables-stands : (T : Tables) (i v : ℕ) → editNumber T i v ≡ 0 → In i (standingList (editTables T i v))
-unfolding edited
+unfolding editedState
 editTables-stands T i v e =
-    let p : stateOf (editTables T i v) ≡ edited T i v (stateOf T)
-    = ap stateOf (editTables-done T i v e) ∙ stateOf-leave T (edited T i v (stateOf T)) in
+    let p : stateOf (editTables T i v) ≡ editedState T i v (stateOf T)
+    = ap stateOf (editTables-done T i v e) ∙ stateOf-leave T (editedState T i v (stateOf T)) in
     subst (λ (s : State). In i (s .standing)) (sym p) (appendNew-has i (standingList T))
 
 -- After an edit of component i that is not refused, one of the next three rounds evaluates it: with U₁, U₂ and U₃ the

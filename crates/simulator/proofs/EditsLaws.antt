@@ -21,7 +21,7 @@ use Rattle.tables.specs.declared.Answer.the-variants.{Done, Refused}
 use Rattle.tables.specs.Tables.{Tables, tablesOf, fieldsAt, fieldsIn, wordIn, firstInput, firstOutput, standingList}
 use Rattle.net.specs.Net.{netNumber}
 use Rattle.net.proofs.NetLaws.{netNumber-net, netNumber-sizes}
-use Rattle.simulator.specs.Round.{leave, edited}
+use Rattle.simulator.specs.Round.{leave, editedState}
 use Rattle.simulator.specs.Calls.{driven, editNumber, editTables, Edits}
 use Rattle.simulator.specs.Asked.{ends, editRefusal}
 use Rattle.simulator.proofs.EndsLaws.{driven-ends}
@@ -76,21 +76,21 @@ module _ (T : Tables) (i v : ℕ) where
 
   pub edit-refused : (k : ℕ) → k ≡ netNumber T → (k ≡ 0 → ⊥) → k ≡ editNumber T i v
   unfolding editNumber
-  edit-refused k e ne = sym (number-refused T checks k e ne)
+  edit-refused k e ne = sym (number-refused T (refusal checks) k e ne)
 
   pub edit-net : netNumber T ≡ 0 → editRefusal (T .components) (T .wires) (T .counts) i v ≡ editNumber T i v
   unfolding editNumber editRefusal
-  edit-net z = sym (number-net T checks z ∙ rw (driven-ends T i))
+  edit-net z = sym (number-net T (refusal checks) z ∙ rw (driven-ends T i))
 
 -- Where none is given: the component and its port are there, and the standing list has room.
 module _ (T : Tables) (i v : ℕ) (z : editNumber T i v ≡ 0) where
   pub edit-is-net : netNumber T ≡ 0
   unfolding editNumber
-  edit-is-net = number-passed T (checks T i v) z
+  edit-is-net = number-passed T (refusal (checks T i v)) z
 
   rest : refusal (checks T i v) ≡ 0
   unfolding editNumber
-  rest = sym (number-net T (checks T i v) edit-is-net) ∙ z
+  rest = sym (number-net T (refusal (checks T i v)) edit-is-net) ∙ z
 
   to-18 : refusal (from-18 T i v) ≡ 0
   to-18 = refusal-rest 17 (leb (T .counts .components) i) (from-18 T i v) (λ q. omega arith) rest
@@ -169,7 +169,7 @@ module _ (cs ins outs ws cur fol std : List ℕ) (m : Counts) (i v : ℕ) where
       (en : n ≡ length (appendNew i (take (m .standing) std)))
       (es : std' ≡ overlay (appendNew i (take (m .standing) std)) std) where
     made : tablesOf cs ins' outs' ws cur fol std' (counted n) ≡ editTables came i v
-    unfolding editTables leave edited
+    unfolding editTables leave editedState
     made =
         let net = edit-is-net came i v z in
         rw (

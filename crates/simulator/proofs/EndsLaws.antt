@@ -16,9 +16,9 @@ use Rattle.lists.specs.Lists.{from, keep, any, overlay}
 use Rattle.lists.proofs.MembersLaws.{from-last, keep-append}
 use Rattle.flatten.specs.declared.Wire.{Wire}
 use Rattle.flatten.proofs.DescentLaws.{any-append, any-map}
-use Rattle.tables.specs.Tables.{Tables, wireAt, joins, sources, targetsIn, indexes}
+use Rattle.tables.specs.Tables.{Tables, wireAt, joins, sources, targets, indexes}
 use Rattle.simulator.specs.Calls.{driven}
-use Rattle.simulator.specs.Asked.{endOf, meets, met, ends, marked}
+use Rattle.simulator.specs.Asked.{endOf, meets, met, ends, markedBelow}
 
 -- One number more.
 any-last : (f : ℕ → Bool) (k : ℕ) → any f (from 0 (k + 1)) ≡ (any f (from 0 k) || f k)
@@ -56,16 +56,16 @@ module _ (ws old marks : List ℕ) (near far i k : ℕ)
 
 -- The list of one number more: marked, or not.
 module _ (marks : List ℕ) (j : ℕ) where
-  marked-here : getD marks j 0 ≡ 1 → marked marks (j + 1) ≡ marked marks j ++ (j ∷ [])
+  marked-here : getD marks j 0 ≡ 1 → markedBelow marks (j + 1) ≡ markedBelow marks j ++ (j ∷ [])
   marked-here e =
-      ap (marked marks) (add-one j) ∙ ap (keep (λ q. eqb (getD marks q 0) 1)) (from-last j)
+      ap (markedBelow marks) (add-one j) ∙ ap (keep (λ q. eqb (getD marks q 0) 1)) (from-last j)
       ∙ keep-append (λ q. eqb (getD marks q 0) 1) (from 0 j) (j ∷ []) ∙ rw (eq-eqb (getD marks j 0) 1 e)
 
-  marked-none : (getD marks j 0 ≡ 1 → ⊥) → marked marks (j + 1) ≡ marked marks j
+  marked-none : (getD marks j 0 ≡ 1 → ⊥) → markedBelow marks (j + 1) ≡ markedBelow marks j
   marked-none e =
-      ap (marked marks) (add-one j) ∙ ap (keep (λ q. eqb (getD marks q 0) 1)) (from-last j)
+      ap (markedBelow marks) (add-one j) ∙ ap (keep (λ q. eqb (getD marks q 0) 1)) (from-last j)
       ∙ keep-append (λ q. eqb (getD marks q 0) 1) (from 0 j) (j ∷ [])
-      ∙ rw (ne-eqb (getD marks j 0) 1 e) (append-nil (marked marks j))
+      ∙ rw (ne-eqb (getD marks j 0) 1 e) (append-nil (markedBelow marks j))
 
 -- One number more at the front of a table.
 overlay-snoc : (xs t : List ℕ) (x : ℕ) → length xs < length t
@@ -78,18 +78,18 @@ overlay-snoc xs t x h =
     rw n (a ∙ sym (append-snoc xs x (drop (suc (length xs)) t)))
 
 -- So, where the list so far stands at the front of the table:
-module _ (marks t u : List ℕ) (listed j : ℕ) (count : listed ≡ length (marked marks j))
-    (so-far : u ≡ overlay (marked marks j) t) where
+module _ (marks t u : List ℕ) (listed j : ℕ) (count : listed ≡ length (markedBelow marks j))
+    (so-far : u ≡ overlay (markedBelow marks j) t) where
   pub list-here : listed < length t → getD marks j 0 ≡ 1
-      → (listed + 1 ≡ length (marked marks (j + 1))) × (set u listed j ≡ overlay (marked marks (j + 1)) t)
+      → (listed + 1 ≡ length (markedBelow marks (j + 1))) × (set u listed j ≡ overlay (markedBelow marks (j + 1)) t)
   list-here h e =
-      let n : length (marked marks (j + 1)) ≡ length (marked marks j) + 1 =
+      let n : length (markedBelow marks (j + 1)) ≡ length (markedBelow marks j) + 1 =
       ap length (marked-here marks j e) ∙ simp length-append in
-      let l : length (marked marks j) < length t = omega arith in
-      (omega arith, rw (so-far, count, marked-here marks j e) (overlay-snoc (marked marks j) t j l))
+      let l : length (markedBelow marks j) < length t = omega arith in
+      (omega arith, rw (so-far, count, marked-here marks j e) (overlay-snoc (markedBelow marks j) t j l))
 
   pub list-none : (getD marks j 0 ≡ 1 → ⊥)
-      → (listed ≡ length (marked marks (j + 1))) × (u ≡ overlay (marked marks (j + 1)) t)
+      → (listed ≡ length (markedBelow marks (j + 1))) × (u ≡ overlay (markedBelow marks (j + 1)) t)
   list-none e = rw (marked-none marks j e) (count, so-far)
 
 -- Nothing is marked at first.
@@ -111,7 +111,7 @@ any-cong f g (x ∷ xs) e = rw (e x, any-cong f g xs e)
 -- So what is marked in the end are the components that wires join.
 pub marked-met : (ws marks : List ℕ) (size m near far i n : ℕ)
     → ((j : ℕ) → getD marks j 0 ≡ cond (meets ws m near far i j) 1 (getD (replicate size 0) j 0))
-    → marked marks n ≡ met ws m near far i n
+    → markedBelow marks n ≡ met ws m near far i n
 unfolding met
 marked-met ws marks size m near far i n e =
     keep-cong (λ j. eqb (getD marks j 0) 1) (meets ws m near far i) (from 0 n) each
@@ -147,8 +147,8 @@ sources-met T i =
     keep-cong (λ j. joins T j i) (meets (T .wires) (T .counts .wires) 2 0 i) (indexes T)
     (λ j. joins-meets T j i ∙ meets-back (T .wires) (T .counts .wires) 0 2 j i)
 
-pub targets-met : (T : Tables) (i : ℕ) → targetsIn T i ≡ met (T .wires) (T .counts .wires) 0 2 i (T .counts .components)
-unfolding targetsIn met
+pub targets-met : (T : Tables) (i : ℕ) → targets T i ≡ met (T .wires) (T .counts .wires) 0 2 i (T .counts .components)
+unfolding targets met
 targets-met T i =
     keep-cong (λ j. joins T i j) (meets (T .wires) (T .counts .wires) 0 2 i) (indexes T) (joins-meets T i)
 

@@ -21,7 +21,8 @@ use Rattle.lists.proofs.NamesLaws.{Names, names-append, names-strike}
 use Rattle.value.specs.Value.{below}
 use Rattle.primitive.specs.declared.kinds.Kind.the-variants.{Clock, Const}
 use Rattle.primitive.specs.Kinds.{is, inputWidth, outputWidth}
-use Rattle.primitive.specs.Evaluate.{outputsAfter, Own}
+use Rattle.primitive.specs.Evaluate.{outputsAfter}
+use Rattle.primitive.specs.Own.{Own}
 use Rattle.primitive.proofs.FitLaws.{outputsAfter-length, outputsAfter-fits}
 use Rattle.flatten.specs.declared.Wire.{Wire}
 use Rattle.tables.specs.Tables.{Tables, fieldsAt, firstInput, firstOutput, inputPlace, outputPlace, inputsAt, outputsAt, wiresIn}

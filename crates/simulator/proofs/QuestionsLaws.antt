@@ -4,15 +4,14 @@
 -- Assumes nothing.
 use mathlib.Core.Path.{_≡_, refl, sym, ap, _∙_}
 use mathlib.Core.Logic.{⊎-elim}
-use mathlib.Core.Bool.{Bool, true, false, cond, not, _||_, or-true, or-false}
+use mathlib.Core.Bool.{Bool, true, false, cond}
 use mathlib.Core.List.{List, [], _∷_}
 use Prim.Native.Nat.{ℕ, _+_, _*_, _≤_, _<_}
 use native.Mathlib.Omega.{arith}
-use borrow.Author.Tests.{eqb-true, ne-eqb, le-leb, lt-leb, lt-ltb, le-ltb, ltb-false}
+use borrow.Author.Tests.{eqb-true, eq-eqb, ne-eqb, le-leb, lt-leb, lt-ltb, le-ltb, ltb-false}
 use lib.ListN.{length, getD}
 use lib.Dec.{eqb, leb, ltb}
-use Rattle.lists.specs.Lists.{every, first, refusal, _if_, overlay}
-use Rattle.lists.proofs.ListsLaws.{or-right, refusal-first}
+use Rattle.lists.specs.Lists.{every, first, overlay}
 use Rattle.lists.proofs.MembersLaws.{or-cases}
 use Rattle.value.specs.Value.{level}
 use Rattle.primitive.specs.declared.kinds.Kind.the-variants.{Clock}
@@ -20,7 +19,8 @@ use Rattle.primitive.specs.declared.table.Fields.{Fields}
 use Rattle.primitive.specs.Kinds.{is, inputWidth, outputWidth}
 use Rattle.primitive.specs.Given.{Given, done, declined, refusedBy}
 use Rattle.tables.specs.Tables.{Tables, fullSize, fieldsAt, idAt, firstInput, firstOutput, indexes, currentList, wireAt, indexOf}
-use Rattle.net.specs.Net.{isNet, netNumber, lent}
+use Rattle.net.specs.Net.{netNumber, onNet}
+use Rattle.net.specs.Parts.{lent}
 use Rattle.net.proofs.ClausesLaws.{kindsObeyed-fit}
 use Rattle.net.proofs.NetLaws.{netNumber-net}
 use Rattle.simulator.specs.declared.Side.{Side}
@@ -33,45 +33,25 @@ use Rattle.simulator.specs.declared.Port.the-variants.{Is as PortIs, Ref
 use Rattle.simulator.specs.declared.Listed.{Listed}
 use Rattle.simulator.specs.declared.Listed.the-variants.{Count, Refused as NotListed}
 use Rattle.simulator.specs.Round.{calm}
-use Rattle.simulator.specs.Questions.{ofNet, AsksCalm, indexGives, found, AsksIndex, portCount, valueGives, valueOnNet, AsksValue, listNumber, Listing, AsksSources, AsksTargets}
+use Rattle.simulator.specs.Questions.{ofNet, AsksCalm, indexGives, indexFound, AsksIndex, portCount, valueGives, valueOnNet, AsksValue, listNumber, Listing, AsksSources, AsksTargets}
 use Rattle.simulator.specs.Asked.{isEnd, endOf, met, RowRight}
 use Rattle.simulator.proofs.Sound.{net-sound, wire-in}
 use Rattle.simulator.proofs.EndsLaws.{sources-met, targets-met}
 
--- A call that checks 2 and 16 and then others: the number of the first two, or of the others.
-module _ (T : Tables) (others : List (ℕ × Bool)) where
-  abbrev all : ℕ
-  all = refusal ((2 if not (fullSize T)) ∷ (16 if not (isNet T)) ∷ others)
+-- A call that checks 2 and 16 first: their number, or m, the number of the rest.
+module _ (T : Tables) (m : ℕ) where
+  pub number-refused : (k : ℕ) → k ≡ netNumber T → (k ≡ 0 → ⊥) → onNet T m ≡ k
+  number-refused k e ne = rw (← e, ne-eqb k 0 ne)
 
-  pub number-refused : (k : ℕ) → k ≡ netNumber T → (k ≡ 0 → ⊥) → all ≡ k
-  unfolding netNumber
-  number-refused k e ne = by-test (fullSize T) (isNet T) e
-    where
-      by-test : (a b : Bool) → k ≡ refusal ((2 if not a) ∷ (16 if not b) ∷ [])
-          → refusal ((2 if not a) ∷ (16 if not b) ∷ others) ≡ k
-      by-test true true q = absurd (ne q)
-      by-test true false q = sym q
-      by-test false b q = sym q
+  pub number-net : netNumber T ≡ 0 → onNet T m ≡ m
+  number-net e = rw (eq-eqb (netNumber T) 0 e)
 
-  pub number-net : netNumber T ≡ 0 → all ≡ refusal others
-  unfolding netNumber
-  number-net e = by-test (fullSize T) (isNet T) e
+  pub number-passed : onNet T m ≡ 0 → netNumber T ≡ 0
+  number-passed z = by-test (eqb (netNumber T) 0) refl z
     where
-      by-test : (a b : Bool) → refusal ((2 if not a) ∷ (16 if not b) ∷ []) ≡ 0
-          → refusal ((2 if not a) ∷ (16 if not b) ∷ others) ≡ refusal others
-      by-test true true q = refl
-      by-test true false q = absurd (omega arith)
-      by-test false b q = absurd (omega arith)
-
-  pub number-passed : all ≡ 0 → netNumber T ≡ 0
-  unfolding netNumber
-  number-passed z = by-test (fullSize T) (isNet T) z
-    where
-      by-test : (a b : Bool) → refusal ((2 if not a) ∷ (16 if not b) ∷ others) ≡ 0
-          → refusal ((2 if not a) ∷ (16 if not b) ∷ []) ≡ 0
-      by-test true true q = refl
-      by-test true false q = absurd (omega arith)
-      by-test false b q = absurd (omega arith)
+      by-test : (b : Bool) → eqb (netNumber T) 0 ≡ b → cond b m (netNumber T) ≡ 0 → netNumber T ≡ 0
+      by-test true q u = eqb-true (netNumber T) 0 q
+      by-test false q u = u
 
 -- An end of a wire is one of its four words.
 pub end-place : (e : ℕ) → isEnd e ≡ true → e < 4
@@ -118,13 +98,13 @@ calm-is T b z e = ap (λ (x : Bool). done (level x ∷ [])) e ∙ of-net T (done
 
 -- The index of an id.
 pub index-refused : (T : Tables) (id k : ℕ) → k ≡ netNumber T → (k ≡ 0 → ⊥) → AsksIndex T id (NoIndex (refusedBy k))
-index-refused T id = of-refused T (found (indexOf T id))
+index-refused T id = of-refused T (indexFound (indexOf T id))
 
 pub index-found : (T : Tables) (id : ℕ) (r : Index) → netNumber T ≡ 0
-    → indexGives r ≡ found (first (λ i. eqb (idAt T i) id) (indexes T))
+    → indexGives r ≡ indexFound (first (λ i. eqb (idAt T i) id) (indexes T))
     → AsksIndex T id r
 unfolding indexOf
-index-found T id r z e = e ∙ of-net T (found (indexOf T id)) z
+index-found T id r z e = e ∙ of-net T (indexFound (indexOf T id)) z
 
 -- A port's value.
 module _ (T : Tables) (side : Side) (i p : ℕ) where
@@ -163,40 +143,39 @@ module _ (T : Tables) (side : Side) (i p : ℕ) where
 
 -- Sources and targets: what is checked, in the order of the numbers.
 module _ (T : Tables) (i : ℕ) (list : List ℕ) where
+  -- What is asked of a net.
+  abbrev there : ℕ
+  there = cond (leb (T .counts .components) i) 17 0
+
   pub list-short : length list < 256 → 2 ≡ listNumber T i list
   unfolding listNumber
-  list-short h = rw (lt-ltb (length list) 256 h, or-true (not (fullSize T)))
+  list-short h = rw (lt-ltb (length list) 256 h)
 
-  long : 256 ≤ length list → listNumber T i list
-      ≡ refusal ((2 if not (fullSize T)) ∷ (16 if not (isNet T)) ∷ (17 if leb (T .counts .components) i) ∷ [])
+  long : 256 ≤ length list → listNumber T i list ≡ onNet T there
   unfolding listNumber
-  long h = rw (le-ltb (length list) 256 h, or-false (not (fullSize T)))
+  long h = rw (le-ltb (length list) 256 h)
 
   pub list-refused : (k : ℕ) → 256 ≤ length list → k ≡ netNumber T → (k ≡ 0 → ⊥) → k ≡ listNumber T i list
-  list-refused k h e ne = sym (long h ∙ number-refused T ((17 if leb (T .counts .components) i) ∷ []) k e ne)
+  list-refused k h e ne = sym (long h ∙ number-refused T there k e ne)
 
   pub list-none : 256 ≤ length list → netNumber T ≡ 0 → T .counts .components ≤ i → 17 ≡ listNumber T i list
-  list-none h z l =
-      sym (long h ∙ number-net T ((17 if leb (T .counts .components) i) ∷ []) z
-      ∙ rw (le-leb (T .counts .components) i l))
+  list-none h z l = sym (long h ∙ number-net T there z ∙ rw (le-leb (T .counts .components) i l))
 
   pub list-passed : 256 ≤ length list → netNumber T ≡ 0 → i < T .counts .components → 0 ≡ listNumber T i list
-  list-passed h z l =
-      sym (long h ∙ number-net T ((17 if leb (T .counts .components) i) ∷ []) z
-      ∙ rw (lt-leb (T .counts .components) i l))
+  list-passed h z l = sym (long h ∙ number-net T there z ∙ rw (lt-leb (T .counts .components) i l))
 
   -- and what holds where nothing was refused.
   module _ (z : listNumber T i list ≡ 0) where
     pub list-full : 256 ≤ length list
     unfolding listNumber
-    list-full =
-        ltb-false (length list) 256 (or-right (not (fullSize T)) (ltb (length list) 256)
-        (refusal-first 2 (not (fullSize T) || ltb (length list) 256)
-        ((16 if not (isNet T)) ∷ (17 if leb (T .counts .components) i) ∷ [])
-        (λ q. omega arith) z))
+    list-full = by-test (ltb (length list) 256) refl z
+      where
+        by-test : (b : Bool) → ltb (length list) 256 ≡ b → cond b 2 (onNet T there) ≡ 0 → 256 ≤ length list
+        by-test true q e = absurd (omega arith)
+        by-test false q e = ltb-false (length list) 256 q
 
     pub list-net : netNumber T ≡ 0
-    list-net = number-passed T ((17 if leb (T .counts .components) i) ∷ []) (sym (long list-full) ∙ z)
+    list-net = number-passed T there (sym (long list-full) ∙ z)
 
 -- The answer and the lent list, where m is the number and xs is listed.
 module _ (m : ℕ) (xs list : List ℕ) where

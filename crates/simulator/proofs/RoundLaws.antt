@@ -14,7 +14,7 @@ use Rattle.net.specs.Net.{names, netNumber}
 use Rattle.net.proofs.NetLaws.{netNumber-net, netNumber-sizes}
 use Rattle.simulator.specs.declared.rounds.Sizes.{Sizes}
 use Rattle.simulator.specs.Round.{State, leave, turn, evaluated, send, visit, round, roundOf}
-use Rattle.simulator.specs.Steps.{wiring, stateAt, CanRun, Listed}
+use Rattle.simulator.specs.Steps.{wiring, stateAt, CanRun, ListFits}
 use Rattle.simulator.proofs.Sound.{net-sound, net-within, current-in, following-in, wire-in, output-room, input-room}
 use Rattle.simulator.proofs.StepsLaws.{visits-current}
 
@@ -38,7 +38,7 @@ module _ (T : Tables) (z : netNumber T ≡ 0) where
         named = λ k h. g .target (wireAt T k) (wire-in T k h);
       }
 
-  pub net-current : Listed (wiring (T .components) (T .wires) (T .counts)) (T .counts .current) (T .current)
+  pub net-current : ListFits (wiring (T .components) (T .wires) (T .counts)) (T .counts .current) (T .current)
   unfolding names
   net-current =
       record {
@@ -49,7 +49,7 @@ module _ (T : Tables) (z : netNumber T ≡ 0) where
 
   -- The following list, copied to a table of full size.
   pub net-copied : (t t' : List ℕ) → 256 ≤ length t' → t' ≡ overlay (followingList T) t
-      → Listed (wiring (T .components) (T .wires) (T .counts)) (T .counts .following) t'
+      → ListFits (wiring (T .components) (T .wires) (T .counts)) (T .counts .following) t'
   unfolding names
   net-copied t t' h e =
       let k : take (T .counts .following) t' ≡ followingList T = copy-list (T .counts .following) (T .following) t t'

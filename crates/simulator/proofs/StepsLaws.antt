@@ -20,27 +20,28 @@ use Rattle.lists.proofs.NamesLaws.{names-sound, names-complete, names-append, n
 use Rattle.primitive.specs.declared.kinds.Kind.the-variants.{Clock}
 use Rattle.primitive.specs.declared.table.Fields.{Fields}
 use Rattle.primitive.specs.Kinds.{is}
-use Rattle.primitive.specs.Evaluate.{outputsAfter, Own}
+use Rattle.primitive.specs.Evaluate.{outputsAfter}
+use Rattle.primitive.specs.Own.{Own}
 use Rattle.primitive.proofs.FitLaws.{outputsAfter-length}
 use Rattle.flatten.specs.declared.Wire.{Wire}
 use Rattle.tables.specs.declared.Counts.{Counts}
-use Rattle.tables.specs.Tables.{Tables, wordOf, fieldsAt, firstInput, firstOutput, numbers, inputsAt, outputsAt, inputPlace, outputPlace, wireAt, wiresIn}
+use Rattle.tables.specs.Tables.{Tables, wordIn, fieldsAt, firstInput, firstOutput, numbers, inputsAt, outputsAt, inputPlace, outputPlace, wireAt, wiresIn}
 use Rattle.tables.proofs.NamedLaws.{overlay-list, overlay-count}
 use Rattle.net.specs.Net.{names}
 use Rattle.net.proofs.NetLaws.{names-existing}
 use Rattle.simulator.specs.Round.{State, wiresFrom, evaluated, send, visit}
-use Rattle.simulator.specs.Steps.{bare, wiring, stateAt, CanEvaluate, CanSend, CanRun, Listed, Step}
+use Rattle.simulator.specs.Steps.{uncounted, wiring, stateAt, CanEvaluate, CanSend, CanRun, ListFits, Step}
 use Rattle.simulator.proofs.Ports.{numbers-length}
 use Rattle.simulator.proofs.Held.{foldl-keeps, carried, received, written, SendCase, agrees, writes, send-case}
 
 -- Where the ends of wire k stand, as they are read.
 module _ (T : Tables) (k comp port first : ℕ) where
-  pub source-place : comp ≡ getD (T .wires) (4 * k) 0 → port ≡ getD (T .wires) (4 * k + 1) 0 → first ≡ wordOf T comp 7
+  pub source-place : comp ≡ getD (T .wires) (4 * k) 0 → port ≡ getD (T .wires) (4 * k + 1) 0 → first ≡ wordIn (T .components) comp 7
       → first + port ≡ outputPlace T (wireAt T k .src)
   source-place c p f = rw (f, c, p)
 
   pub target-place : comp ≡ getD (T .wires) (4 * k + 2) 0 → port ≡ getD (T .wires) (4 * k + 3) 0
-      → first ≡ wordOf T comp 6
+      → first ≡ wordIn (T .components) comp 6
       → first + port ≡ inputPlace T (wireAt T k .dst)
   target-place c p f = rw (f, c, p)
 
@@ -217,29 +218,29 @@ module _ (T : Tables) (i q n : ℕ) (s : State) (x : State) where
 
 -- A step of the bare components and wires is one of those with their counts.
 module _ (cs ws : List ℕ) (m : Counts) where
-  pub send-bare : (s : State) (w : Wire) → send (bare cs ws) s w ≡ send (wiring cs ws m) s w
+  pub send-bare : (s : State) (w : Wire) → send (uncounted cs ws) s w ≡ send (wiring cs ws m) s w
   unfolding send
   send-bare s w = refl
 
   -- Wire k of a net can be sent along.
-  pub runs-sends : (ins outs fol : List ℕ) (n k : ℕ) → CanRun (wiring cs ws m) ins outs → Listed (wiring cs ws m) n fol
+  pub runs-sends : (ins outs fol : List ℕ) (n k : ℕ) → CanRun (wiring cs ws m) ins outs → ListFits (wiring cs ws m) n fol
       → k < m .wires
-      → CanSend (bare cs ws) ins outs n fol (wireAt (bare cs ws) k)
+      → CanSend (uncounted cs ws) ins outs n fol (wireAt (uncounted cs ws) k)
   runs-sends ins outs fol n k g l h =
       record {
         source = g .source k h;
         target = g .target k h;
         count = l .count;
-        room = append-room (wiring cs ws m) (wireAt (bare cs ws) k .dst .comp) (take n fol) fol (l .named)
+        room = append-room (wiring cs ws m) (wireAt (uncounted cs ws) k .dst .comp) (take n fol) fol (l .named)
             (g .named k h) (g .few) (l .whole);
       }
 
   -- The list stays one of names.
   pub sent-listed : (ins outs fol ins' fol' : List ℕ) (n k r : ℕ) → CanRun (wiring cs ws m) ins outs
-      → Listed (wiring cs ws m) n fol → k < m .wires
+      → ListFits (wiring cs ws m) n fol → k < m .wires
       → Step r fol' (stateAt ins' outs (take r fol') [])
-      (send (bare cs ws) (stateAt ins outs (take n fol) []) (wireAt (bare cs ws) k))
-      → length fol' ≡ length fol → Listed (wiring cs ws m) r fol'
+      (send (uncounted cs ws) (stateAt ins outs (take n fol) []) (wireAt (uncounted cs ws) k))
+      → length fol' ≡ length fol → ListFits (wiring cs ws m) r fol'
   unfolding send
   sent-listed ins outs fol ins' fol' n k r g l h d e =
       record {
@@ -247,7 +248,7 @@ module _ (cs ws : List ℕ) (m : Counts) where
         count = d .count;
         named =
             ap (λ (u : State). names (wiring cs ws m) (u .following)) (d .state)
-            ∙ send-names (wiring cs ws m) (stateAt ins outs (take n fol) []) (wireAt (bare cs ws) k) (g .named k h)
+            ∙ send-names (wiring cs ws m) (stateAt ins outs (take n fol) []) (wireAt (uncounted cs ws) k) (g .named k h)
             (l .named);
       }
 
@@ -348,7 +349,7 @@ module _ (T : Tables) where
 -- What visits need at a turn, and keep.
 module _ (cs ws : List ℕ) (m : Counts) where
   pub runs-evaluates : (ins outs : List ℕ) (i : ℕ) → CanRun (wiring cs ws m) ins outs → i < m .components
-      → CanEvaluate (bare cs []) ins outs i
+      → CanEvaluate (uncounted cs []) ins outs i
   runs-evaluates ins outs i g h =
       record {
         few = omega (arith, g .few);
@@ -357,15 +358,15 @@ module _ (cs ws : List ℕ) (m : Counts) where
         outputs-in = g .outputs-in i h;
       }
 
-  pub evaluated-bare : (t i : ℕ) (s : State) → evaluated (bare cs []) t i s ≡ evaluated (wiring cs ws m) t i s
+  pub evaluated-bare : (t i : ℕ) (s : State) → evaluated (uncounted cs []) t i s ≡ evaluated (wiring cs ws m) t i s
   unfolding evaluated
   evaluated-bare t i s = refl
 
   pub visited-listed : (ins outs fol std : List ℕ) (s : State) (i t n r : ℕ) (fol' : List ℕ)
       → CanRun (wiring cs ws m) ins outs
-      → Listed (wiring cs ws m) n fol → s .following ≡ take r fol'
+      → ListFits (wiring cs ws m) n fol → s .following ≡ take r fol'
       → s ≡ visit (wiring cs ws m) (wiresIn (wiring cs ws m)) t (stateAt ins outs (take n fol) std) i
-      → r ≤ length fol' → length fol' ≡ length fol → Listed (wiring cs ws m) r fol'
+      → r ≤ length fol' → length fol' ≡ length fol → ListFits (wiring cs ws m) r fol'
   visited-listed ins outs fol std s i t n r fol' g l q e b k =
       record {
         whole = omega (arith, l .whole);
@@ -376,7 +377,7 @@ module _ (cs ws : List ℕ) (m : Counts) where
             (stateAt ins outs (take n fol) std) (l .named);
       }
 
-  pub listed-at : (n : ℕ) (t : List ℕ) (k i : ℕ) → Listed (wiring cs ws m) n t → k < n → i ≡ getD t k 0
+  pub listed-at : (n : ℕ) (t : List ℕ) (k i : ℕ) → ListFits (wiring cs ws m) n t → k < n → i ≡ getD t k 0
       → i < m .components
   listed-at n t k i l h e =
       let b : k < length (take n t) = omega (arith, length-take-le n t (l .count)) in

@@ -1,12 +1,12 @@
 -- What questions and edits ask, on the lists of words that a function inside this crate is handed. `sources`,
--- `targetsIn`, `driven` and `editNumber` are these on a net (proofs/EndsLaws, QuestionsLaws, EditsLaws);
+-- `targets`, `driven` and `editNumber` are these on a net (proofs/EndsLaws, QuestionsLaws, EditsLaws);
 -- only contracts of such functions cite them.
 --   isEnd e                  e is an end of a wire: 0 is where it comes from, 2 where it goes to
 --   endOf ws k e             the component at end e of wire k
 --   meets ws m near far i j  one of m wires has component i at its end `near` and component j at its end `far`
 --   met ws m near far i n    the components below n that wires join to component i so
 --   ends ws m e i            one of m wires has component i at its end e
---   marked marks n           the numbers below n that are marked
+--   markedBelow marks n           the numbers below n that are marked
 --   RowRight cs is os i      component i's words fit its fields, and its ports stand in their tables
 --   editRefusal cs ws m i v  the number of an edit, on a net
 -- Assumes nothing.
@@ -21,7 +21,8 @@ use Rattle.value.specs.Value.{below}
 use Rattle.primitive.specs.declared.kinds.Kind.the-variants.{Switch, Input}
 use Rattle.primitive.specs.Kinds.{is, inputWidth, outputWidth}
 use Rattle.tables.specs.declared.Counts.{Counts}
-use Rattle.tables.specs.Tables.{fieldsIn, fieldsFit}
+use Rattle.tables.specs.Tables.{fieldsIn}
+use Rattle.tables.specs.Words.{fieldsFit}
 use Rattle.net.specs.Parts.{InputsInside, OutputsInside}
 
 -- The ends of a wire, by the place of their component among its words.
@@ -45,8 +46,8 @@ abbrev pub ends : List ℕ → ℕ → ℕ → ℕ → Bool
 ends ws m e i = any (λ k. eqb (endOf ws k e) i) (from 0 m)
 
 -- The numbers below n that are marked, ascending.
-abbrev pub marked : List ℕ → ℕ → List ℕ
-marked marks n = keep (λ j. eqb (getD marks j 0) 1) (from 0 n)
+abbrev pub markedBelow : List ℕ → ℕ → List ℕ
+markedBelow marks n = keep (λ j. eqb (getD marks j 0) 1) (from 0 n)
 
 -- Component i's words fit its fields, and its ports stand in their tables.
 pub record RowRight (cs is os : List ℕ) (i : ℕ) : Type 0 where

@@ -1,9 +1,9 @@
 -- What the steps of a round are handed, and what a net gives them. Only contracts of functions of this crate cite it.
---   bare, wiring       the components and the wires, which no round writes: without the counts, and with them
+--   uncounted, wiring       the components and the wires, which no round writes: without the counts, and with them
 --   stateAt            the ports and the two lists that a round changes as it goes; no step reads the current list
 --   CanEvaluate, CanSend   component i can be evaluated; wire w can be sent along, and its target appended
 --   CanRun               all components and all wires can
---   Listed T n t       the first n entries of the table t name components of T, none twice
+--   ListFits T n t       the first n entries of the table t name components of T, none twice
 -- Assumes nothing.
 use Prim.Native.Nat.{ℕ, _+_, _≤_, _<_}
 use mathlib.Core.Path.{_≡_}
@@ -24,8 +24,8 @@ abbrev pub noCounts : Counts
 noCounts = record { components = 0; inputs = 0; outputs = 0; wires = 0; current = 0; following = 0; standing = 0 }
 
 -- The components and the wires.
-abbrev pub bare : List ℕ → List ℕ → Tables
-bare cs ws = tablesOf cs [] [] ws [] [] [] noCounts
+abbrev pub uncounted : List ℕ → List ℕ → Tables
+uncounted cs ws = tablesOf cs [] [] ws [] [] [] noCounts
 
 -- How many there are besides.
 abbrev pub wiring : List ℕ → List ℕ → Counts → Tables
@@ -61,7 +61,7 @@ pub record CanRun (T : Tables) (is os : List ℕ) : Type 0 where
   pub named : (k : ℕ) → k < T .counts .wires → wireAt T k .dst .comp < T .counts .components
 
 -- A list in a table of full size.
-pub record Listed (T : Tables) (n : ℕ) (t : List ℕ) : Type 0 where
+pub record ListFits (T : Tables) (n : ℕ) (t : List ℕ) : Type 0 where
   pub whole : 256 ≤ length t
   pub count : n ≤ length t
   pub named : names T (take n t) ≡ true

@@ -11,10 +11,10 @@ ghost use Rattle.primitive.specs.declared.kinds.Kind.the-variants.{Clock};
 ghost use Rattle.primitive.specs.Kinds.{is};
 ghost use Rattle.primitive.specs.Given.{done, declined, refusedBy};
 ghost use Rattle.tables.specs.Tables.{tablesOf, wordIn, fieldsIn};
-ghost use Rattle.net.specs.Net.{lent};
-ghost use Rattle.simulator.specs.Questions.{AsksCalm, indexGives, found, AsksIndex, valueGives, valueOnNet, AsksValue};
+ghost use Rattle.net.specs.Parts.{lent};
+ghost use Rattle.simulator.specs.Questions.{AsksCalm, indexGives, indexFound, AsksIndex, valueGives, valueOnNet, AsksValue};
 ghost use Rattle.simulator.specs.Questions.{listNumber, Listing, AsksSources, AsksTargets};
-ghost use Rattle.simulator.specs.Asked.{isEnd, endOf, meets, met, marked, RowRight};
+ghost use Rattle.simulator.specs.Asked.{isEnd, endOf, meets, met, markedBelow, RowRight};
 use crate::Calm;
 use crate::Index;
 use crate::Listed;
@@ -62,7 +62,7 @@ pub(crate) fn only_clocks(components: &[u64], list: &[u16], count: usize) -> boo
 // The search by id, among the first `count` components: the sole way from an id to a flat index.
 fn search_id(components: &[u64], count: usize, id: Id) -> Index
     requires { ⌜ count ≤ 256 ⌝ }
-    ensures { λ r. ⌜ indexGives r ≡ found (first (λ i. eqb (wordIn (now (components .entry)) i 1) (id .0)) (from 0 count)) ⌝ }
+    ensures { λ r. ⌜ indexGives r ≡ indexFound (first (λ i. eqb (wordIn (now (components .entry)) i 1) (id .0)) (from 0 count)) ⌝ }
 {
     let sought = id.0 as u64;
     let mut i: usize = 0;
@@ -111,7 +111,7 @@ fn mark_ends(wires: &[u16], count: usize, near: usize, far: usize, i: usize, mar
 // Lists the marked ones of the first `count` components, ascending. The answer is how many there are.
 fn list_marked(marks: &[u8], count: usize, list: &mut [u16]) -> usize
     requires { ⌜ (count ≤ 256) × (count ≤ length (now marks)) × (count ≤ length (now list)) ⌝ }
-    ensures { λ r. ⌜ (r ≡ length (marked (now (marks .entry)) count)) × (now (list .exit) ≡ overlay (marked (now (marks .entry)) count) (now (list .entry))) ⌝ }
+    ensures { λ r. ⌜ (r ≡ length (markedBelow (now (marks .entry)) count)) × (now (list .exit) ≡ overlay (markedBelow (now (marks .entry)) count) (now (list .entry))) ⌝ }
 {
     let mut listed: usize = 0;
     let mut j: usize = 0;

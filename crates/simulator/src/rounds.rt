@@ -8,7 +8,7 @@ ghost use Rattle.tables.specs.Tables.{tablesOf, wireAt, wiresIn, countsAfter};
 ghost use Rattle.net.specs.Net.{netNumber};
 ghost use Rattle.simulator.specs.Round.{wiresFrom, turn, leave, send, evaluated, visit, roundOf};
 ghost use Rattle.simulator.specs.Calls.{Rounds, run, countsAfterRun, Runs};
-ghost use Rattle.simulator.specs.Steps.{bare, wiring, stateAt, CanEvaluate, CanSend, CanRun, Listed, Step, Visited};
+ghost use Rattle.simulator.specs.Steps.{uncounted, wiring, stateAt, CanEvaluate, CanSend, CanRun, ListFits, Step, Visited};
 use crate::Ran;
 use crate::questions::only_clocks;
 use primitive::Refusal;
@@ -32,11 +32,11 @@ fn send_wire(
     count: usize,
     k: usize,
 ) -> usize
-    requires { ⌜ (k < 1024) × CanSend (bare (now components) (now wires)) (now inputs) (now outputs) count (now following)
-        (wireAt (bare (now components) (now wires)) k) ⌝ }
+    requires { ⌜ (k < 1024) × CanSend (uncounted (now components) (now wires)) (now inputs) (now outputs) count (now following)
+        (wireAt (uncounted (now components) (now wires)) k) ⌝ }
     ensures { λ r. ⌜ Step r (now (following .exit)) (stateAt (now (inputs .exit)) (now (outputs .entry)) (take r (now (following .exit))) [])
-        (send (bare (now (components .entry)) (now (wires .entry))) (stateAt (now (inputs .entry)) (now (outputs .entry))
-        (take count (now (following .entry))) []) (wireAt (bare (now (components .entry)) (now (wires .entry))) k)) ⌝ }
+        (send (uncounted (now (components .entry)) (now (wires .entry))) (stateAt (now (inputs .entry)) (now (outputs .entry))
+        (take count (now (following .entry))) []) (wireAt (uncounted (now (components .entry)) (now (wires .entry))) k)) ⌝ }
 {
     let from = tables::entry(wires, 4 * k);
     let output = tables::entry(wires, 4 * k + 1);
@@ -64,7 +64,7 @@ fn send_wires(
     i: usize,
 ) -> usize
     requires { ⌜ CanRun (wiring (now components) (now wires) counts) (now inputs) (now outputs)
-        × Listed (wiring (now components) (now wires) counts) count (now following) ⌝ }
+        × ListFits (wiring (now components) (now wires) counts) count (now following) ⌝ }
     ensures { λ r. ⌜ Step r (now (following .exit)) (stateAt (now (inputs .exit)) (now (outputs .entry)) (take r (now (following .exit))) [])
         (foldl (send (wiring (now (components .entry)) (now (wires .entry)) counts))
         (stateAt (now (inputs .entry)) (now (outputs .entry)) (take count (now (following .entry))) [])
@@ -92,9 +92,9 @@ fn evaluate_at(
     i: usize,
     time: u64,
 ) -> usize
-    requires { ⌜ (count ≤ length (now standing)) × CanEvaluate (bare (now components) []) (now inputs) (now outputs) i ⌝ }
+    requires { ⌜ (count ≤ length (now standing)) × CanEvaluate (uncounted (now components) []) (now inputs) (now outputs) i ⌝ }
     ensures { λ r. ⌜ Step r (now (standing .exit)) (stateAt (now (inputs .entry)) (now (outputs .exit)) [] (take r (now (standing .exit))))
-        (evaluated (bare (now (components .entry)) []) time i (stateAt (now (inputs .entry)) (now (outputs .entry)) []
+        (evaluated (uncounted (now (components .entry)) []) time i (stateAt (now (inputs .entry)) (now (outputs .entry)) []
         (take count (now (standing .entry))))) ⌝ }
 {
     let f = tables::fields_at(components, i);
@@ -128,7 +128,7 @@ fn visit(
     time: u64,
 ) -> Sizes
     requires { ⌜ CanRun (wiring (now components) (now wires) counts) (now inputs) (now outputs)
-        × Listed (wiring (now components) (now wires) counts) (sizes .following) (now following) × (sizes .standing ≤ length (now standing))
+        × ListFits (wiring (now components) (now wires) counts) (sizes .following) (now following) × (sizes .standing ≤ length (now standing))
         × (i < counts .components) ⌝ }
     ensures { λ r. ⌜ Visited r (now (following .exit)) (now (standing .exit))
         (stateAt (now (inputs .exit)) (now (outputs .exit)) (take (r .following) (now (following .exit))) (take (r .standing) (now (standing .exit))))
@@ -175,8 +175,8 @@ fn visit_all(
     time: u64,
 ) -> Sizes
     requires { ⌜ CanRun (wiring (now components) (now wires) counts) (now inputs) (now outputs)
-        × Listed (wiring (now components) (now wires) counts) (counts .current) (now current)
-        × Listed (wiring (now components) (now wires) counts) (sizes .following) (now following) × (sizes .standing ≤ length (now standing)) ⌝ }
+        × ListFits (wiring (now components) (now wires) counts) (counts .current) (now current)
+        × ListFits (wiring (now components) (now wires) counts) (sizes .following) (now following) × (sizes .standing ≤ length (now standing)) ⌝ }
     ensures { λ r. ⌜ Visited r (now (following .exit)) (now (standing .exit))
         (stateAt (now (inputs .exit)) (now (outputs .exit)) (take (r .following) (now (following .exit))) (take (r .standing) (now (standing .exit))))
         (foldl (visit (wiring (now (components .entry)) (now (wires .entry)) counts)

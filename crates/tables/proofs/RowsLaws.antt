@@ -14,7 +14,7 @@ use Rattle.primitive.specs.declared.kinds.Kind.the-variants.{Composite, And, Or
 use Rattle.primitive.specs.declared.table.Fields.{Fields}
 use Rattle.primitive.specs.Kinds.{kindOf, primitive, obeys, row}
 use Rattle.primitive.proofs.UpdateLaws.{InRow, obeys-row}
-use Rattle.tables.specs.Tables.{fieldsFit}
+use Rattle.tables.specs.Words.{fieldsFit}
 
 -- What fields that fit have.
 module _ (f : Fields) (e : fieldsFit f ≡ true) where

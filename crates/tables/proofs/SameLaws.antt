@@ -10,7 +10,7 @@ use lib.ListN.{length, getD}
 use Rattle.lists.specs.Lists.{from}
 use Rattle.flatten.specs.declared.Wire.{Wire}
 use Rattle.flatten.specs.Descent.{pin}
-use Rattle.tables.specs.Tables.{Tables, fullSize, wordOf, fieldsAt, wiresIn}
+use Rattle.tables.specs.Tables.{Tables, fullSize, wordIn, fieldsAt, wiresIn}
 
 pub record SameWiring (T U : Tables) : Type 0 where
   pub components : U .components ≡ T .components
@@ -87,7 +87,7 @@ wiresOf ws k =
 
 -- What is read off the components and the wires is then the same too.
 module _ (T U : Tables) (a : SameWiring T U) where
-  pub sameWiring-word : (i k : ℕ) → wordOf U i k ≡ wordOf T i k
+  pub sameWiring-word : (i k : ℕ) → wordIn (U .components) i k ≡ wordIn (T .components) i k
   sameWiring-word i k = rw (a .components)
 
   pub sameWiring-fields : (i : ℕ) → fieldsAt U i ≡ fieldsAt T i

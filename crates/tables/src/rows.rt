@@ -3,7 +3,8 @@
 ghost use mathlib.Core.Path.{_≡_};
 ghost use mathlib.Core.Bool.{true};
 ghost use Prim.Native.Nat.{_<_};
-ghost use Rattle.tables.specs.Tables.{fieldsIn, fieldsFit};
+ghost use Rattle.tables.specs.Tables.{fieldsIn};
+ghost use Rattle.tables.specs.Words.{fieldsFit};
 use crate::words::word_of;
 use primitive::Fields;
 

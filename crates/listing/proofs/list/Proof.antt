@@ -8,7 +8,7 @@ use Rattle.tables.specs.Tables.{Tables, tablesOf}
 use Rattle.net.specs.Net.{netNumber}
 use Rattle.simulator.proofs.Sound.{net-within}
 use Rattle.lines.proofs.LinesLaws.{both, named-as}
-use Rattle.listing.specs.Listing.{fresh, rounds}
+use Rattle.listing.specs.Listing.{fresh, roundLines}
 use Rattle.listing.proofs.LoadedLaws.{inside, listed-refused, listed-net, listed-done}
 use borrow.Author.Needs.{needs}
 use Rattle.listing.proofs.list.Statement.{statement}
@@ -111,7 +111,7 @@ returns c =
     let w = c .before .before .before .before .before .before .before .before .before .before .before .before .before .before .before .before .before .before .put-net in
     let t = c .before .before .before .before .before .before .before .put-rounds in
     named-as (listed-done (c .before .before .before .before .before .before .before .before .before .before .before .before .before .before .before .before .before .before .before .before .before .before .before .before .before .before .before .before .before .before .before .before .before .before .before .before .before .before .before .before .before .before .args .file .now) (r .result) (left d) loads _ (d .answer .given .1))
-    (both {ys = rounds 16 1 (left d)} (w .ensures) (t .ensures))
+    (both {ys = roundLines 16 1 (left d)} (w .ensures) (t .ensures))
 
 same-length-2 : tie.Need-same-length-2
 same-length-2 c = search needs

@@ -9,7 +9,7 @@ use Rattle.net.specs.Net.{netNumber}
 use Rattle.simulator.proofs.Sound.{current-in}
 use Rattle.simulator.proofs.RunLaws.{test-going, test-below}
 use Rattle.text.proofs.TextLaws.{ToCome}
-use Rattle.listing.specs.Listing.{rounds}
+use Rattle.listing.specs.Listing.{roundLines}
 use Rattle.listing.proofs.RoundsLaws.{later, net-left, round-put, begun-inside, rounds-end}
 use borrow.Author.Needs.{needs}
 use Rattle.listing.proofs.put_rounds.Statement.{statement}
@@ -20,7 +20,7 @@ Inv-loop components inputs₀ outputs₀ wires current₀ following₀ standing�
     (round ≤ 16) × (length inputs ≡ length inputs₀) × (length outputs ≡ length outputs₀) × (length current ≡ length current₀)
     × (length following ≡ length following₀) × (length standing ≡ length standing₀)
     × (netNumber (tablesOf components inputs outputs wires current following standing reached) ≡ 0)
-    × ToCome out₀ at (rounds 16 1 (tablesOf components inputs₀ outputs₀ wires current₀ following₀ standing₀ reached₀)) out next
+    × ToCome out₀ at (roundLines 16 1 (tablesOf components inputs₀ outputs₀ wires current₀ following₀ standing₀ reached₀)) out next
     (later calm (16 - round) (round + 1) (tablesOf components inputs outputs wires current following standing reached))
 
 abbrev μ-loop : tie.MeasureT-loop

@@ -7,8 +7,8 @@ use Prim.Native.Nat.{_-_, _<_}
 use native.Mathlib.Omega.{arith}
 use Rattle.lists.specs.Lists.{from, any, joined}
 use Rattle.component.specs.Record.{recordAt}
-use Rattle.flatten.specs.Descent.{targets}
-use Rattle.flatten.specs.Steps.{unlike}
+use Rattle.flatten.specs.Descent.{inputsBelow}
+use Rattle.flatten.specs.Searches.{unlike}
 use Rattle.flatten.proofs.DescentLaws.{given, differs-bottom, differs-here, differs-start}
 use Rattle.flatten.proofs.DescentLaws.{differs-found, differs-next, differs-nothing, differs-end}
 use borrow.Author.Needs.{needs}
@@ -51,7 +51,7 @@ differs-claims t = (
 abbrev differs-Inv-loop : differs-lts.InvT-loop
 differs-Inv-loop file n children lo hi depth c i width end q₀ q =
     any (unlike (recordAt file) width) (joined (given (recordAt file) n (depth - 1) c i) (from q (end - q)))
-    ≡ any (unlike (recordAt file) width) (targets (recordAt file) n depth c i)
+    ≡ any (unlike (recordAt file) width) (inputsBelow (recordAt file) n depth c i)
 
 abbrev differs-μ-loop : differs-lts.MeasureT-loop
 differs-μ-loop file n children lo hi depth c i width end q₀ q = end - q

@@ -2,7 +2,7 @@
 -- Assumes nothing.
 use mathlib.Core.Path.{_≡_}
 use Rattle.component.proofs.RecordLaws.{number3-fails}
-use Rattle.flatten.specs.Steps.{failsBy}
+use Rattle.flatten.specs.Searches.{failsBy}
 use Rattle.flatten.proofs.JudgementLaws.{number-last}
 use borrow.Author.Needs.{needs}
 use Rattle.flatten.proofs.judgement.fails.Statement.{statement}

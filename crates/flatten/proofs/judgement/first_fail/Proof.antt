@@ -5,7 +5,7 @@ use Prim.Native.Nat.{_-_, _<_}
 use native.Mathlib.Omega.{arith}
 use Rattle.lists.specs.Lists.{from, first}
 use Rattle.component.specs.Record.{recordAt}
-use Rattle.flatten.specs.Steps.{failsBy}
+use Rattle.flatten.specs.Searches.{failsBy}
 use Rattle.flatten.proofs.JudgementLaws.{search-start, search-here, search-next, search-none}
 use borrow.Author.Needs.{needs}
 use Rattle.flatten.proofs.judgement.first_fail.Statement.{statement}

@@ -2,8 +2,8 @@
 -- Assumes nothing.
 use Prim.Native.Nat.{_<_}
 use native.Mathlib.Omega.{arith}
+use Rattle.primitive.specs.Given.{spoken}
 use Rattle.tables.specs.Tables.{answerGives}
-use Rattle.host.specs.Host.{saying}
 use Rattle.tables.specs.declared.Answer.the-variants.{Refused}
 use Rattle.host.proofs.WordsLaws.{none-laid}
 use borrow.Author.Needs.{needs}
@@ -21,12 +21,12 @@ enum-known-answer-2 c = search needs
 
 mul-result : tie.Need-mul-result
 mul-result c =
-    let h : saying (answerGives (Refused (c .before .before .answer2 .given .0 .0))) < 4294967296 = rw (c .before .before .answer2 .given .1) at (c .before .before .before .before .before .pre .1) in
+    let h : spoken (answerGives (Refused (c .before .before .answer2 .given .0 .0))) < 4294967296 = rw (c .before .before .answer2 .given .1) at (c .before .before .before .before .before .pre .1) in
     omega arith
 
 add-result : tie.Need-add-result
 add-result c =
-    let h : saying (answerGives (Refused (c .before .before .before .answer2 .given .0 .0))) < 4294967296 = rw (c .before .before .before .answer2 .given .1) at (c .before .before .before .before .before .before .pre .1) in
+    let h : spoken (answerGives (Refused (c .before .before .before .answer2 .given .0 .0))) < 4294967296 = rw (c .before .before .before .answer2 .given .1) at (c .before .before .before .before .before .before .pre .1) in
     omega arith
 
 same-length : tie.Need-same-length

@@ -4,7 +4,7 @@ use Rattle.tables.specs.declared.Counts.{Counts}
 use Rattle.tables.specs.Tables.{Tables, tablesOf}
 use Rattle.simulator.specs.Questions.{indexGives}
 use Rattle.host.proofs.NumbersLaws.{index-small}
-use Rattle.host.proofs.CallsLaws.{enough-found, ask-short, ask-made}
+use Rattle.host.proofs.HostLaws.{enough-found, ask-short, ask-made}
 use borrow.Author.Needs.{needs}
 use Rattle.host.proofs.index.berxundar_index.Statement.{statement}
 use Rattle.host.proofs.index.berxundar_index.Tie as tie

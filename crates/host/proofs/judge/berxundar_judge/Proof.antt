@@ -2,7 +2,10 @@
 -- Assumes nothing.
 use mathlib.Core.Path.{sym, ap, _∙_}
 use native.Mathlib.Omega.{arith}
-use Rattle.flatten.specs.Verdict.{spoken}
+use mathlib.Core.List.{[]}
+use Rattle.primitive.specs.Given.{spoken}
+use Rattle.component.specs.declared.Verdict.{Verdict}
+use Rattle.flatten.specs.Verdict.{verdictGives}
 use Rattle.flatten.proofs.JudgementLaws.{verdict-bound, judges-verdict}
 use borrow.Author.Needs.{needs}
 use Rattle.host.proofs.judge.berxundar_judge.Statement.{statement}
@@ -30,10 +33,10 @@ add-result c =
     omega (arith, verdict-bound (j .before .before .args .file .now) (r .refusal .given .0 .0) (sym (judges-verdict _ _ (j .judge .ensures)) ∙ r .refusal .given .1))
 
 returns : tie.Need-returns
-returns c = ap spoken (sym (c .enum-told .given .1) ∙ judges-verdict _ _ (c .before .before .judge .ensures))
+returns c = ap (λ (v : Verdict). spoken (verdictGives v [])) (sym (c .enum-told .given .1) ∙ judges-verdict _ _ (c .before .before .judge .ensures))
 
 returns-2 : tie.Need-returns-2
-returns-2 c = ap spoken (sym (c .before .before .before .refusal .given .1) ∙ judges-verdict _ _ (c .before .before .before .before .before .judge .ensures))
+returns-2 c = ap (λ (v : Verdict). spoken (verdictGives v [])) (sym (c .before .before .before .refusal .given .1) ∙ judges-verdict _ _ (c .before .before .before .before .before .judge .ensures))
 
 pub berxundar-judge-spec : {M : Type 1} → statement M
 berxundar-judge-spec =

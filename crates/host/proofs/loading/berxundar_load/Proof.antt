@@ -6,7 +6,7 @@ use Rattle.tables.specs.declared.Counts.{Counts}
 use Rattle.tables.specs.Tables.{Tables, tablesOf, answerGives}
 use Rattle.host.specs.Host.{countsIn}
 use Rattle.host.proofs.NumbersLaws.{load-small}
-use Rattle.host.proofs.CallsLaws.{load-unsized, load-short, load-made}
+use Rattle.host.proofs.HostLaws.{load-unsized, load-short, load-made}
 use borrow.Author.Needs.{needs}
 use Rattle.host.proofs.loading.berxundar_load.Statement.{statement}
 use Rattle.host.proofs.loading.berxundar_load.Tie as tie

@@ -6,7 +6,7 @@ use Rattle.tables.specs.Tables.{Tables, tablesOf}
 use Rattle.simulator.specs.declared.Side.{Side}
 use Rattle.simulator.specs.Questions.{valueGives, ofNet, valueOnNet}
 use Rattle.host.proofs.NumbersLaws.{value-small}
-use Rattle.host.proofs.CallsLaws.{enough-found, ask-short, ask-made}
+use Rattle.host.proofs.HostLaws.{enough-found, ask-short, ask-made}
 use borrow.Author.Needs.{needs}
 use Rattle.host.proofs.port.berxundar_value.Statement.{statement}
 use Rattle.host.proofs.port.berxundar_value.Tie as tie

@@ -4,7 +4,7 @@ use mathlib.Core.Path.{refl}
 use Rattle.tables.specs.declared.Counts.{Counts}
 use Rattle.tables.specs.Tables.{Tables, tablesOf, countWords, answerGives, countsAfter}
 use Rattle.host.proofs.NumbersLaws.{changed-small}
-use Rattle.host.proofs.CallsLaws.{change-short, change-made}
+use Rattle.host.proofs.HostLaws.{change-short, change-made}
 use borrow.Author.Needs.{needs}
 use Rattle.host.proofs.round.berxundar_round.Statement.{statement}
 use Rattle.host.proofs.round.berxundar_round.Tie as tie

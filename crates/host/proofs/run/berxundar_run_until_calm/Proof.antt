@@ -5,7 +5,7 @@ use Rattle.tables.specs.declared.Counts.{Counts}
 use Rattle.tables.specs.Tables.{Tables, tablesOf, countWords}
 use Rattle.simulator.specs.Calls.{ranGives, countsAfterRun}
 use Rattle.host.proofs.NumbersLaws.{changed-small}
-use Rattle.host.proofs.CallsLaws.{enough-counts, enough-found, run-short, run-made}
+use Rattle.host.proofs.HostLaws.{enough-counts, enough-found, run-short, run-made}
 use borrow.Author.Needs.{needs}
 use Rattle.host.proofs.run.berxundar_run_until_calm.Statement.{statement}
 use Rattle.host.proofs.run.berxundar_run_until_calm.Tie as tie

@@ -4,7 +4,7 @@ use Rattle.tables.specs.declared.Counts.{Counts}
 use Rattle.tables.specs.Tables.{Tables, tablesOf}
 use Rattle.simulator.specs.Questions.{listGives}
 use Rattle.host.proofs.NumbersLaws.{listed-small}
-use Rattle.host.proofs.CallsLaws.{enough-found, list-short, list-made}
+use Rattle.host.proofs.HostLaws.{enough-found, list-short, list-made}
 use borrow.Author.Needs.{needs}
 use Rattle.host.proofs.sources.berxundar_sources.Statement.{statement}
 use Rattle.host.proofs.sources.berxundar_sources.Tie as tie

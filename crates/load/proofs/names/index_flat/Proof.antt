@@ -7,7 +7,7 @@ use native.Mathlib.Omega.{arith}
 use lib.ListN.{length, getD, length-set}
 use Rattle.component.specs.Record.{recordAt, recordCount, isPrimitive}
 use Rattle.flatten.specs.Descent.{flat as flatIndex}
-use Rattle.load.proofs.NamesLaws.{flat-next, flat-same, flat-few, flat-word}
+use Rattle.load.proofs.StandingLaws.{flat-next, flat-same, flat-few, flat-word}
 use borrow.Author.Needs.{needs}
 use Rattle.load.proofs.names.index_flat.Statement.{statement}
 use Rattle.load.proofs.names.index_flat.Tie as tie

@@ -7,7 +7,7 @@ use Rattle.component.specs.Record.{recordAt, recordCount}
 use Rattle.flatten.specs.Descent.{flat}
 use Rattle.load.specs.Laying.{standingAt}
 use Rattle.load.proofs.LayingLaws.{Laid, laid-start, laid-length}
-use Rattle.load.proofs.NamesLaws.{standing-requires, standing-components, standing-step, standing-end}
+use Rattle.load.proofs.StandingLaws.{standing-requires, standing-components, standing-step, standing-end}
 use borrow.Author.Needs.{needs}
 use Rattle.load.proofs.names.lay_standing.Statement.{statement}
 use Rattle.load.proofs.names.lay_standing.Tie as tie

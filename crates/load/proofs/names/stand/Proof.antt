@@ -1,6 +1,6 @@
 -- `stand`: the index of a Const or a Clock is written; any other record gives none.
 -- Assumes nothing.
-use Rattle.load.proofs.NamesLaws.{stand-not, stand-room, stand-laid}
+use Rattle.load.proofs.StandingLaws.{stand-not, stand-room, stand-laid}
 use borrow.Author.Needs.{needs}
 use Rattle.load.proofs.names.stand.Statement.{statement}
 use Rattle.load.proofs.names.stand.Tie as tie

@@ -1,6 +1,6 @@
 -- `drawn_at`: a record is a primitive if it is a component of such a kind.
 -- Assumes nothing.
-use Rattle.load.proofs.RowsLaws.{drawn-none, drawn-primitive, drawn-composite}
+use Rattle.load.proofs.PassesLaws.{drawn-none, drawn-primitive, drawn-composite}
 use borrow.Author.Needs.{needs}
 use Rattle.load.proofs.rows.drawn_at.Statement.{statement}
 use Rattle.load.proofs.rows.drawn_at.Tie as tie

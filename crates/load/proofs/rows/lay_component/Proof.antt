@@ -1,6 +1,6 @@
 -- `lay_component`: the entry of a primitive is written; any other record has none.
 -- Assumes nothing.
-use Rattle.load.proofs.RowsLaws.{row-room, row-laid}
+use Rattle.load.proofs.PassesLaws.{row-room, row-laid}
 use borrow.Author.Needs.{needs}
 use Rattle.load.proofs.rows.lay_component.Statement.{statement}
 use Rattle.load.proofs.rows.lay_component.Tie as tie

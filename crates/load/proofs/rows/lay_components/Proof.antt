@@ -6,7 +6,7 @@ use native.Mathlib.Omega.{arith}
 use Rattle.component.specs.Record.{recordAt, recordCount}
 use Rattle.load.specs.Laying.{beforeAt, rowAt}
 use Rattle.load.proofs.LayingLaws.{Laid, laid-start, laid-length}
-use Rattle.load.proofs.RowsLaws.{rows-requires, rows-before, rows-step, rows-end}
+use Rattle.load.proofs.PassesLaws.{rows-requires, rows-before, rows-step, rows-end}
 use borrow.Author.Needs.{needs}
 use Rattle.load.proofs.rows.lay_components.Statement.{statement}
 use Rattle.load.proofs.rows.lay_components.Tie as tie

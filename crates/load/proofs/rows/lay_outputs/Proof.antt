@@ -3,7 +3,7 @@
 use Prim.Native.Nat.{_-_, _≤_}
 use native.Mathlib.Omega.{arith}
 use Rattle.component.specs.Record.{recordAt, recordCount}
-use Rattle.load.specs.Laying.{outputsAt}
+use Rattle.load.specs.Laying.{outputsLaid}
 use Rattle.load.proofs.LayingLaws.{Laid, laid-start, laid-length}
 use Rattle.load.proofs.PortsLaws.{outputs-requires, outputs-step, outputs-end}
 use borrow.Author.Needs.{needs}
@@ -12,7 +12,7 @@ use Rattle.load.proofs.rows.lay_outputs.Tie as tie
 
 abbrev Inv-loop : tie.InvT-loop
 Inv-loop file outputs₀ n at₀ p₀ outputs at p =
-    (p ≤ recordCount file) × Laid (outputsAt (recordAt file)) p outputs₀ outputs at
+    (p ≤ recordCount file) × Laid (outputsLaid (recordAt file)) p outputs₀ outputs at
 
 abbrev μ-loop : tie.MeasureT-loop
 μ-loop file outputs₀ n at₀ p₀ outputs at p = n - p

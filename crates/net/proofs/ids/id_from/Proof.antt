@@ -5,8 +5,8 @@ use mathlib.Core.List.{map}
 use Prim.Native.Nat.{_-_, _≤_}
 use native.Mathlib.Omega.{arith}
 use Rattle.lists.specs.Lists.{from, has}
-use Rattle.tables.specs.Tables.{idIn}
-use Rattle.net.proofs.StepsLaws.{hasFrom-found, hasFrom-next, hasFrom-end}
+use Rattle.net.specs.Parts.{idIn}
+use Rattle.net.proofs.LoopsLaws.{hasFrom-found, hasFrom-next, hasFrom-end}
 use borrow.Author.Needs.{needs}
 use Rattle.net.proofs.ids.id_from.Statement.{statement}
 use Rattle.net.proofs.ids.id_from.Tie as tie

@@ -6,8 +6,8 @@ use mathlib.Core.List.{List, map}
 use Prim.Native.Nat.{ℕ, _+_, _-_, _≤_}
 use native.Mathlib.Omega.{arith}
 use Rattle.lists.specs.Lists.{from, has, distinct}
-use Rattle.tables.specs.Tables.{idIn}
-use Rattle.net.proofs.StepsLaws.{from-start, distinctFrom-again, distinctFrom-next, distinctFrom-end}
+use Rattle.net.specs.Parts.{idIn}
+use Rattle.net.proofs.LoopsLaws.{from-start, distinctFrom-again, distinctFrom-next, distinctFrom-end}
 use borrow.Author.Needs.{needs}
 use Rattle.net.proofs.ids.ids_apart.Statement.{statement}
 use Rattle.net.proofs.ids.ids_apart.Tie as tie

@@ -9,8 +9,8 @@ use native.Mathlib.Omega.{arith}
 use Rattle.lists.specs.Lists.{from, every}
 use Rattle.lists.proofs.ListsLaws.{every-fails, every-next, every-end}
 use Rattle.value.specs.Value.{below}
-use Rattle.tables.specs.Tables.{idIn}
-use Rattle.net.proofs.StepsLaws.{from-start}
+use Rattle.net.specs.Parts.{idIn}
+use Rattle.net.proofs.LoopsLaws.{from-start}
 use borrow.Author.Needs.{needs}
 use Rattle.net.proofs.ids.ids_fit.Statement.{statement}
 use Rattle.net.proofs.ids.ids_fit.Tie as tie

@@ -11,10 +11,10 @@ use native.Mathlib.Omega.{arith}
 use lib.Dec.{eqb}
 use Rattle.lists.specs.Lists.{from, every}
 use Rattle.lists.proofs.ListsLaws.{every-fails, every-next}
-use Rattle.net.specs.Net.{lent}
+use Rattle.net.specs.Parts.{lent}
 use Rattle.net.specs.Net.{inputSum, outputSum, followAt}
 use Rattle.tables.specs.Tables.{wordIn}
-use Rattle.net.proofs.StepsLaws.{from-start, total-step}
+use Rattle.net.proofs.LoopsLaws.{from-start, total-step}
 use Rattle.net.proofs.ClausesLaws.{kindsObeyed-inputs, kindsObeyed-outputs, portsFollow-fails, portsFollow-end}
 use borrow.Author.Needs.{needs}
 use Rattle.net.proofs.rows.ports_follow.Statement.{statement}

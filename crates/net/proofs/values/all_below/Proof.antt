@@ -8,7 +8,7 @@ use native.Mathlib.Omega.{arith}
 use lib.Seq.{slice}
 use Rattle.lists.specs.Lists.{every}
 use Rattle.value.specs.Value.{below}
-use Rattle.net.proofs.StepsLaws.{everySlice-fails, everySlice-next, everySlice-end}
+use Rattle.net.proofs.LoopsLaws.{everySlice-fails, everySlice-next, everySlice-end}
 use borrow.Author.Needs.{needs}
 use Rattle.net.proofs.values.all_below.Statement.{statement}
 use Rattle.net.proofs.values.all_below.Tie as tie

@@ -7,10 +7,11 @@ use Prim.Native.Nat.{_-_, _≤_}
 use native.Mathlib.Omega.{arith}
 use Rattle.lists.specs.Lists.{from, every}
 use Rattle.lists.proofs.ListsLaws.{every-fails, every-next, every-end}
-use Rattle.net.specs.Net.{lent, valuesFit}
+use Rattle.net.specs.Net.{valuesFit}
+use Rattle.net.specs.Parts.{lent}
 use Rattle.net.specs.Net.{fitAt}
 use Rattle.net.proofs.ClausesLaws.{kindsObeyed-fit}
-use Rattle.net.proofs.StepsLaws.{from-start}
+use Rattle.net.proofs.LoopsLaws.{from-start}
 use borrow.Author.Needs.{needs}
 use Rattle.net.proofs.values.values_fit.Statement.{statement}
 use Rattle.net.proofs.values.values_fit.Tie as tie

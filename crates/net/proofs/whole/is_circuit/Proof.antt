@@ -6,7 +6,8 @@ use borrow.Author.Tests.{not-true, not-false}
 use mathlib.Core.Path.{_≡_, sym, _∙_}
 use mathlib.Core.List.{[]}
 use Rattle.lists.proofs.ListsLaws.{and-right}
-use Rattle.net.specs.Net.{lent, countsWithin, kindsObeyed, idsDistinct, portsFollow, valuesFit, constsHeld, wiresFit}
+use Rattle.net.specs.Net.{countsWithin, kindsObeyed, idsDistinct, portsFollow, valuesFit, constsHeld, wiresFit}
+use Rattle.net.specs.Parts.{lent}
 use Rattle.net.proofs.ClausesLaws.{countsWithin-sound, portsInside}
 use Rattle.net.proofs.NetLaws.{placesInside}
 use Rattle.net.proofs.CircuitLaws.{circuit-counts, circuit-kinds, circuit-rows, circuit-ports, circuit-once}

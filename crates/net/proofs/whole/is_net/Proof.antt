@@ -6,7 +6,8 @@ use mathlib.Core.Bool.{true}
 use native.Mathlib.Omega.{arith}
 use Rattle.tables.specs.Tables.{Tables, tablesOf}
 use Rattle.tables.proofs.SizesLaws.{Full, fullSize-sound}
-use Rattle.net.specs.Net.{lent, isCircuit}
+use Rattle.net.specs.Net.{isCircuit}
+use Rattle.net.specs.Parts.{lent}
 use Rattle.net.proofs.ClausesLaws.{Within}
 use Rattle.net.proofs.NetLaws.{net-circuit, net-lists, circuit-within}
 use Rattle.net.proofs.whole.is_net.Statement.{statement}

@@ -7,7 +7,7 @@ use native.Mathlib.Omega.{arith}
 use lib.ListN.{length, length-set}
 use Rattle.lists.specs.Lists.{from, distinct}
 use Rattle.net.specs.Parts.{placeIn}
-use Rattle.net.proofs.StepsLaws.{from-start}
+use Rattle.net.proofs.LoopsLaws.{from-start}
 use Rattle.net.proofs.MarksLaws.{fresh, fresh-start, freshFrom-again, freshFrom-next, freshFrom-end}
 use Rattle.net.proofs.ClausesLaws.{inputsOnce-places}
 use borrow.Author.Needs.{needs}

@@ -9,8 +9,7 @@ use native.Mathlib.Omega.{arith}
 use lib.ListN.{getD}
 use lib.Dec.{ltb}
 use Rattle.lists.proofs.ListsLaws.{and-left, and-right}
-use Rattle.net.specs.Net.{lent}
-use Rattle.net.specs.Parts.{targetIn}
+use Rattle.net.specs.Parts.{lent, targetIn}
 use Rattle.net.proofs.ClausesLaws.{kindsObeyed-fit, wireRight-none, wireRight-both}
 use borrow.Author.Needs.{needs}
 use Rattle.net.proofs.wires.wire_right.Statement.{statement}

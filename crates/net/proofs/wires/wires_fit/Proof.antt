@@ -8,7 +8,7 @@ use Rattle.lists.specs.Lists.{from, every}
 use Rattle.lists.proofs.ListsLaws.{every-fails, every-next, every-end}
 use Rattle.net.specs.Parts.{wireRight}
 use Rattle.net.proofs.ClausesLaws.{wiresFit-every}
-use Rattle.net.proofs.StepsLaws.{from-start}
+use Rattle.net.proofs.LoopsLaws.{from-start}
 use borrow.Author.Needs.{needs}
 use Rattle.net.proofs.wires.wires_fit.Statement.{statement}
 use Rattle.net.proofs.wires.wires_fit.Tie as tie

@@ -4,13 +4,13 @@ use borrow.Author.Needs.{needs}
 use borrow.Author.Tests.{eq-eqb, ne-eqb, le-leb, lt-leb, not-true, not-false}
 use mathlib.Core.Path.{_≡_, sym, _∙_}
 use mathlib.Core.Bool.{true, false, _&&_}
-use Rattle.primitive.specs.Kinds.{kept, unknown, primitive, obeys}
+use Rattle.primitive.specs.Kinds.{forCustom, unknown, primitive, obeys}
 use Rattle.primitive.proofs.EvaluateLaws.{allFit, number-7, number-8, number-9, number-2, number-19, number-0, there-inputs, there-entering, there-outputs, there-leaving}
 use Rattle.primitive.proofs.single.evaluate_number.Statement.{statement}
 use Rattle.primitive.proofs.single.evaluate_number.Tie as tie
 
 -- What is known once a test is passed.
-not-14 : (c : tie.Else1) → kept (c .before .before .before .before .before .before .before .before .args .f .kind) ≡ false
+not-14 : (c : tie.Else1) → forCustom (c .before .before .before .before .before .before .before .before .args .f .kind) ≡ false
 not-14 c = ne-eqb _ 14 (c .if1 .left)
 
 below-15 : (c : tie.Else2) → unknown (c .before .before .before .before .before .before .before .before .before .before .args .f .kind) ≡ false

@@ -9,7 +9,7 @@ use native.Mathlib.Omega.{arith}
 use lib.Dec.{eqb}
 use Rattle.lists.specs.Lists.{from, any}
 use Rattle.lists.proofs.ListsLaws.{any-here, any-next, any-none}
-use Rattle.net.proofs.StepsLaws.{from-start}
+use Rattle.net.proofs.LoopsLaws.{from-start}
 use Rattle.simulator.specs.Asked.{endOf}
 use borrow.Author.Needs.{needs}
 use Rattle.simulator.proofs.edits.is_driven.Statement.{statement}

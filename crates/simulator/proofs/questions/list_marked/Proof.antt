@@ -7,7 +7,7 @@ use native.Mathlib.Omega.{arith}
 use lib.ListN.{length, length-set}
 use Rattle.lists.specs.Lists.{overlay}
 use Rattle.tables.proofs.NamedLaws.{overlay-start}
-use Rattle.simulator.specs.Asked.{marked}
+use Rattle.simulator.specs.Asked.{markedBelow}
 use Rattle.simulator.proofs.EndsLaws.{list-here, list-none}
 use borrow.Author.Needs.{needs}
 use Rattle.simulator.proofs.questions.list_marked.Statement.{statement}
@@ -15,8 +15,8 @@ use Rattle.simulator.proofs.questions.list_marked.Tie as tie
 
 abbrev Inv-loop : tie.InvT-loop
 Inv-loop marks count list₀ listed₀ j₀ list listed j =
-    (j ≤ count) × (listed ≤ j) × (length list ≡ length list₀) × (listed ≡ length (marked marks j))
-    × (list ≡ overlay (marked marks j) list₀)
+    (j ≤ count) × (listed ≤ j) × (length list ≡ length list₀) × (listed ≡ length (markedBelow marks j))
+    × (list ≡ overlay (markedBelow marks j) list₀)
 
 abbrev μ-loop : tie.MeasureT-loop
 μ-loop marks count list₀ listed₀ j₀ list listed j = count - j

@@ -12,7 +12,7 @@ use Rattle.lists.specs.Lists.{every}
 use Rattle.primitive.specs.declared.kinds.Kind.the-variants.{Clock}
 use Rattle.primitive.specs.Kinds.{is}
 use Rattle.tables.specs.Tables.{fieldsIn}
-use Rattle.net.proofs.StepsLaws.{everySlice-fails, everySlice-next, everySlice-end}
+use Rattle.net.proofs.LoopsLaws.{everySlice-fails, everySlice-next, everySlice-end}
 use borrow.Author.Needs.{needs}
 use Rattle.simulator.proofs.questions.only_clocks.Statement.{statement}
 use Rattle.simulator.proofs.questions.only_clocks.Tie as tie

@@ -10,8 +10,8 @@ use lib.Dec.{eqb}
 use Rattle.lists.specs.Lists.{from, first}
 use Rattle.lists.proofs.ListsLaws.{first-here, first-next, first-none}
 use Rattle.tables.specs.Tables.{wordIn}
-use Rattle.net.proofs.StepsLaws.{from-start}
-use Rattle.simulator.specs.Questions.{found}
+use Rattle.net.proofs.LoopsLaws.{from-start}
+use Rattle.simulator.specs.Questions.{indexFound}
 use borrow.Author.Needs.{needs}
 use Rattle.simulator.proofs.questions.search_id.Statement.{statement}
 use Rattle.simulator.proofs.questions.search_id.Tie as tie
@@ -42,7 +42,7 @@ returns : tie.Need-returns Inv-loop μ-loop
 returns c =
     let a = c .before .before .before .before .before .before .args in
     let l = c .before .before .before .loop in
-    ap found
+    ap indexFound
     (first-here (hasId (a .components .now) (a .id .0)) (l .i) (a .count) _ (l .inv .1) (omega arith)
     (eq-eqb (wordIn (a .components .now) (l .i) 1) (a .id .0) (sym (c .before .word-of .ensures) ∙ c .if1 .taken)))
 
@@ -67,7 +67,7 @@ returns-2 : tie.Need-returns-2 Inv-loop μ-loop
 returns-2 c =
     let a = c .before .before .before .before .args in
     let l = c .before .loop in
-    ap found (first-none (hasId (a .components .now) (a .id .0)) (l .i) (a .count) _ (l .inv .1) (omega arith))
+    ap indexFound (first-none (hasId (a .components .now) (a .id .0)) (l .i) (a .count) _ (l .inv .1) (omega arith))
 
 pub search-id-spec : {M : Type 1} → statement M
 search-id-spec =

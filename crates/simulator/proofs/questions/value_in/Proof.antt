@@ -5,7 +5,7 @@ use mathlib.Core.List.{[]}
 use native.Mathlib.Omega.{arith}
 use Rattle.primitive.specs.declared.table.Fields.{Fields}
 use Rattle.tables.specs.Tables.{Tables}
-use Rattle.net.specs.Net.{lent}
+use Rattle.net.specs.Parts.{lent}
 use Rattle.simulator.specs.Asked.{RowRight}
 use Rattle.simulator.proofs.QuestionsLaws.{value-none, value-input, value-output}
 use borrow.Author.Needs.{needs}

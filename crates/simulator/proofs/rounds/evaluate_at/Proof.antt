@@ -4,7 +4,7 @@
 use mathlib.Core.List.{[]}
 use native.Mathlib.Omega.{arith}
 use Rattle.tables.proofs.RowsLaws.{obeyed-fit}
-use Rattle.simulator.specs.Steps.{bare}
+use Rattle.simulator.specs.Steps.{uncounted}
 use Rattle.simulator.proofs.StepsLaws.{lent-inputs, lent-outputs, lent-own, evaluated-clock, evaluated-struck}
 use borrow.Author.Needs.{needs}
 use Rattle.simulator.proofs.rounds.evaluate_at.Statement.{statement}
@@ -47,7 +47,7 @@ part-update-end c =
     let at-fields-at = c .before .before .before .before in
     let s = at-fields-at .before .before .before .before .before in
     let a = s .args in
-    lent-inputs (bare (a .components .now) []) (a .inputs .now) (a .outputs .now) (a .i) (s .pre .1) _ _ _
+    lent-inputs (uncounted (a .components .now) []) (a .inputs .now) (a .outputs .now) (a .i) (s .pre .1) _ _ _
     (at-fields-at .fields-at .ensures) (c .before .before .before .word-of .ensures)
     (c .before .before .word-of2 .ensures)
 
@@ -66,7 +66,7 @@ part-update-end-2 c =
     let at-fields-at = at-word-of .before in
     let s = at-fields-at .before .before .before .before .before in
     let a = s .args in
-    lent-outputs (bare (a .components .now) []) (a .inputs .now) (a .outputs .now) (a .i) (s .pre .1) _ _ _
+    lent-outputs (uncounted (a .components .now) []) (a .inputs .now) (a .outputs .now) (a .i) (s .pre .1) _ _ _
     (at-fields-at .fields-at .ensures) (at-word-of .word-of .ensures) (c .before .before .before .word-of2 .ensures)
 
 update-requires : tie.Need-update-requires
@@ -76,7 +76,7 @@ update-requires c κs =
     let at-fields-at = at-word-of .before in
     let s = at-fields-at .before .before .before .before .before in
     let a = s .args in
-    lent-own (bare (a .components .now) []) (a .inputs .now) (a .outputs .now) (a .i) (s .pre .1) _ _ _
+    lent-own (uncounted (a .components .now) []) (a .inputs .now) (a .outputs .now) (a .i) (s .pre .1) _ _ _
     (at-fields-at .fields-at .ensures) (at-word-of .word-of .ensures) (at-word-of2 .word-of2 .ensures)
 
 same-length : tie.Need-same-length
@@ -90,7 +90,7 @@ returns c =
     let at-fields-at = at-word-of .before in
     let s = at-fields-at .before .before .before .before .before in
     let a = s .args in
-    evaluated-clock (bare (a .components .now) []) (a .inputs .now) (a .outputs .now) (a .i) (s .pre .1) _ _ _
+    evaluated-clock (uncounted (a .components .now) []) (a .inputs .now) (a .outputs .now) (a .i) (s .pre .1) _ _ _
     (at-fields-at .fields-at .ensures) (at-word-of .word-of .ensures) (at-word-of2 .word-of2 .ensures) (a .time)
     (a .count) _ (a .standing .now) (at-update .update .ensures) (c .if1 .taken) (s .pre .0)
 
@@ -115,7 +115,7 @@ returns-2 c =
     let at-fields-at = at-word-of .before in
     let s = at-fields-at .before .before .before .before .before in
     let a = s .args in
-    evaluated-struck (bare (a .components .now) []) (a .inputs .now) (a .outputs .now) (a .i) (s .pre .1) _ _ _
+    evaluated-struck (uncounted (a .components .now) []) (a .inputs .now) (a .outputs .now) (a .i) (s .pre .1) _ _ _
     (at-fields-at .fields-at .ensures) (at-word-of .word-of .ensures) (at-word-of2 .word-of2 .ensures) (a .time)
     (a .count) _ _ (a .standing .now) _ (at-update .update .ensures) (at-if1 .if1 .left)
     (c .before .before .strike .ensures .0) (c .before .before .strike .ensures .1)

@@ -4,7 +4,7 @@
 use Prim.Native.Nat.{_+_, _*_}
 use native.Mathlib.Omega.{arith}
 use Rattle.tables.specs.Tables.{wireAt}
-use Rattle.simulator.specs.Steps.{bare}
+use Rattle.simulator.specs.Steps.{uncounted}
 use Rattle.simulator.proofs.StepsLaws.{source-place, target-place, send-agrees, send-writes}
 use borrow.Author.Needs.{needs}
 use Rattle.simulator.proofs.rounds.send_wire.Statement.{statement}
@@ -57,7 +57,7 @@ add-source c =
     omega (
       arith,
       s .pre .1 .source,
-      (source-place (bare (a .components .now) (a .wires .now)) (a .k) _ _ _ (at-entry .entry .ensures)
+      (source-place (uncounted (a .components .now) (a .wires .now)) (a .k) _ _ _ (at-entry .entry .ensures)
           (c .before .before .before .entry2 .ensures) (c .word-of .ensures)),
     )
 
@@ -74,7 +74,7 @@ add-target c =
     omega (
       arith,
       s .pre .1 .target,
-      (target-place (bare (a .components .now) (a .wires .now)) (a .k) _ _ _
+      (target-place (uncounted (a .components .now) (a .wires .now)) (a .k) _ _ _
           (c .before .before .before .entry3 .ensures) (c .before .before .entry4 .ensures) (c .word-of2 .ensures)),
     )
 
@@ -97,11 +97,11 @@ returns c =
     let at-entry = at-entry2 .before in
     let s = at-entry .before .before .before .before .before .before in
     let a = s .args in
-    send-agrees (bare (a .components .now) (a .wires .now)) (a .inputs .now) (a .outputs .now) (a .following .now)
-    (a .count) (wireAt (bare (a .components .now) (a .wires .now)) (a .k)) _ _ _ _
-    (source-place (bare (a .components .now) (a .wires .now)) (a .k) _ _ _ (at-entry .entry .ensures)
+    send-agrees (uncounted (a .components .now) (a .wires .now)) (a .inputs .now) (a .outputs .now) (a .following .now)
+    (a .count) (wireAt (uncounted (a .components .now) (a .wires .now)) (a .k)) _ _ _ _
+    (source-place (uncounted (a .components .now) (a .wires .now)) (a .k) _ _ _ (at-entry .entry .ensures)
     (at-entry2 .entry2 .ensures) (at-word-of .word-of .ensures))
-    (target-place (bare (a .components .now) (a .wires .now)) (a .k) _ _ _ (at-entry3 .entry3 .ensures)
+    (target-place (uncounted (a .components .now) (a .wires .now)) (a .k) _ _ _ (at-entry3 .entry3 .ensures)
     (at-entry4 .entry4 .ensures) (at-word-of2 .word-of2 .ensures))
     (c .before .before .before .word .ensures) (c .before .word2 .ensures) (c .if1 .taken) (s .pre .1 .count)
 
@@ -115,7 +115,7 @@ mul-inputs c =
     omega (
       arith,
       s .pre .1 .target,
-      (target-place (bare (a .components .now) (a .wires .now)) (a .k) _ _ _ (at-entry3 .entry3 .ensures)
+      (target-place (uncounted (a .components .now) (a .wires .now)) (a .k) _ _ _ (at-entry3 .entry3 .ensures)
           (at-entry4 .entry4 .ensures) (at-word-of2 .word-of2 .ensures)),
     )
 
@@ -129,7 +129,7 @@ slice-write-inputs c =
     omega (
       arith,
       s .pre .1 .target,
-      (target-place (bare (a .components .now) (a .wires .now)) (a .k) _ _ _ (at-entry3 .entry3 .ensures)
+      (target-place (uncounted (a .components .now) (a .wires .now)) (a .k) _ _ _ (at-entry3 .entry3 .ensures)
           (at-entry4 .entry4 .ensures) (at-word-of2 .word-of2 .ensures)),
     )
 
@@ -171,11 +171,11 @@ returns-2 c =
     let at-entry = at-entry2 .before in
     let s = at-entry .before .before .before .before .before .before in
     let a = s .args in
-    send-writes (bare (a .components .now) (a .wires .now)) (a .inputs .now) (a .outputs .now) (a .following .now)
-    (a .count) (wireAt (bare (a .components .now) (a .wires .now)) (a .k)) _ _ _ _
-    (source-place (bare (a .components .now) (a .wires .now)) (a .k) _ _ _ (at-entry .entry .ensures)
+    send-writes (uncounted (a .components .now) (a .wires .now)) (a .inputs .now) (a .outputs .now) (a .following .now)
+    (a .count) (wireAt (uncounted (a .components .now) (a .wires .now)) (a .k)) _ _ _ _
+    (source-place (uncounted (a .components .now) (a .wires .now)) (a .k) _ _ _ (at-entry .entry .ensures)
     (at-entry2 .entry2 .ensures) (at-word-of .word-of .ensures))
-    (target-place (bare (a .components .now) (a .wires .now)) (a .k) _ _ _ (at-entry3 .entry3 .ensures)
+    (target-place (uncounted (a .components .now) (a .wires .now)) (a .k) _ _ _ (at-entry3 .entry3 .ensures)
     (at-entry4 .entry4 .ensures) (at-word-of2 .word-of2 .ensures))
     (at-word .word .ensures) (at-word2 .word2 .ensures) (at-if1 .if1 .left) _ _ _ (at-entry3 .entry3 .ensures)
     (c .before .before .append-new .ensures .0) (c .before .before .append-new .ensures .1)

@@ -9,7 +9,7 @@ use lib.ListN.{length, take}
 use Rattle.lists.specs.Lists.{from}
 use Rattle.tables.specs.Tables.{wireAt, wiresIn}
 use Rattle.simulator.specs.Round.{wiresFrom, send}
-use Rattle.simulator.specs.Steps.{wiring, stateAt, Listed}
+use Rattle.simulator.specs.Steps.{wiring, stateAt, ListFits}
 use Rattle.simulator.proofs.StepsLaws.{send-bare, runs-kept, runs-sends, sent-listed, sends-start, sends-taken, sends-passed, sends-end}
 use borrow.Author.Needs.{needs}
 use Rattle.simulator.proofs.rounds.send_wires.Statement.{statement}
@@ -18,7 +18,7 @@ use Rattle.simulator.proofs.rounds.send_wires.Tie as tie
 abbrev Inv-loop : tie.InvT-loop
 Inv-loop components wires inputs₀ outputs following₀ count counts i filled₀ k₀ inputs following filled k =
     (k ≤ counts .wires) × (length inputs ≡ length inputs₀) × (length following ≡ length following₀)
-    × Listed (wiring components wires counts) filled following
+    × ListFits (wiring components wires counts) filled following
     × (foldl (send (wiring components wires counts)) (stateAt inputs outputs (take filled following) [])
     (wiresFrom i (map (wireAt (wiring components wires counts)) (from k (counts .wires - k))))
     ≡ foldl (send (wiring components wires counts)) (stateAt inputs₀ outputs (take count following₀) [])

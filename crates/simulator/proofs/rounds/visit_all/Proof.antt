@@ -8,7 +8,7 @@ use lib.ListN.{length, take}
 use lib.Seq.{slice}
 use Rattle.tables.specs.Tables.{wiresIn}
 use Rattle.simulator.specs.Round.{visit}
-use Rattle.simulator.specs.Steps.{wiring, stateAt, Listed}
+use Rattle.simulator.specs.Steps.{wiring, stateAt, ListFits}
 use Rattle.simulator.proofs.StepsLaws.{runs-kept, listed-at, visited-listed, visits-next, visits-end}
 use borrow.Author.Needs.{needs}
 use Rattle.simulator.proofs.rounds.visit_all.Statement.{statement}
@@ -19,7 +19,7 @@ Inv-loop components wires current inputs₀ outputs₀ following₀ standing₀ 
     inputs outputs following standing reached k =
     (k ≤ counts .current) × (length inputs ≡ length inputs₀) × (length outputs ≡ length outputs₀)
     × (length following ≡ length following₀) × (length standing ≡ length standing₀)
-    × Listed (wiring components wires counts) (reached .following) following × (reached .standing ≤ length standing)
+    × ListFits (wiring components wires counts) (reached .following) following × (reached .standing ≤ length standing)
     × (foldl (visit (wiring components wires counts) (wiresIn (wiring components wires counts)) time)
     (stateAt inputs outputs (take (reached .following) following) (take (reached .standing) standing))
     (slice k (counts .current) current)

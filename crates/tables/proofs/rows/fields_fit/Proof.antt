@@ -1,6 +1,6 @@
 -- `fields_fit`: the tests are those of the definition, on the words that the callee reads.
 -- Assumes nothing.
-use Rattle.tables.specs.Tables.{fieldsFit}
+use Rattle.tables.specs.Words.{fieldsFit}
 use borrow.Author.Needs.{needs}
 use Rattle.tables.proofs.rows.fields_fit.Statement.{statement}
 use Rattle.tables.proofs.rows.fields_fit.Tie as tie

@@ -17,11 +17,12 @@ use Rattle.lists.proofs.ListsLaws.{and-left, and-right}
 use Rattle.lists.proofs.MembersLaws.{In, in-cond, in-getD, getD-cases, keep-sound, from0-sound, from0-complete}
 use Rattle.lists.proofs.MembersLaws.{joined-sound, joined-complete}
 use Rattle.component.specs.declared.Record.{Record}
-use Rattle.component.specs.Record.{formOf, ownerOf, fromOf, outputOf, toOf, inputOf, portOf, outputsOf, composite}
+use Rattle.component.specs.Record.{fromOf, outputOf, toOf, inputOf, portOf, outputsOf, composite}
+use Rattle.component.specs.Reading.{ownerOf, formOf}
 use Rattle.component.specs.Record.{isPrimitive}
 use Rattle.component.specs.Drawing.{deepest, child, deeper, mapsIn, outMaps, outMap, fromThere}
 use Rattle.flatten.specs.declared.Pin.{Pin}
-use Rattle.flatten.specs.Descent.{pin, source, targets}
+use Rattle.flatten.specs.Descent.{pin, outputBelow, inputsBelow}
 use Rattle.flatten.specs.Leads.{From, starts, through, Into, ends, maps}
 use Rattle.leads.proofs.Accepted.{Passed}
 use Rattle.leads.proofs.Components.{primitive-component, composite-component, output-component, component-deep}
@@ -56,15 +57,15 @@ module _ (at : ℕ → Record) (n : ℕ) where
       )
 
   -- Each target found is one that the input goes to, with whatever depth left.
-  pub targets-sound : (f c i : ℕ) (t : Pin) → In t (targets at n f c i) → Into at n c i t
-  unfolding targets
+  pub targets-sound : (f c i : ℕ) (t : Pin) → In t (inputsBelow at n f c i) → Into at n c i t
+  unfolding inputsBelow
   targets-sound zero c i t h = absurd h
   targets-sound (suc f) c i t h = by-kind (λ x j. targets-sound f x j t) (isPrimitive (at c)) refl h
     where
       onward : ℕ → List Pin
-      onward q = targets at n f (child at n c (toOf (at q))) (inputOf (at q))
+      onward q = inputsBelow at n f (child at n c (toOf (at q))) (inputOf (at q))
 
-      by-kind : ((x j : ℕ) → In t (targets at n f x j) → Into at n x j t) → (b : Bool) → isPrimitive (at c) ≡ b
+      by-kind : ((x j : ℕ) → In t (inputsBelow at n f x j) → Into at n x j t) → (b : Bool) → isPrimitive (at c) ≡ b
           → In t (cond b (pin c i ∷ []) (joined (λ q. cond (mapsIn at c i q) (onward q) []) (from 0 n)))
           → Into at n c i t
       by-kind down true e (inl u) = ends e u
@@ -107,22 +108,22 @@ module _ (at : ℕ → Record) (n : ℕ) (d : Passed at n) where
 
   -- Each primitive input that an input goes to is found as a target.
   pub targets-complete : (g f c i : ℕ) (t : Pin) → g + f ≡ deepest → deeper at g c ≡ true → Into at n c i t
-      → In t (targets at n f c i)
-  unfolding targets
+      → In t (inputsBelow at n f c i)
+  unfolding inputsBelow
   targets-complete g zero c i t h u r = absurd (depth-left g c h (into-component c i t r) u)
   targets-complete g (suc f) c i t h u (ends e w) = rw e (inl w)
   targets-complete g (suc f) c i t h u (maps q l e m r) =
       let below = child at n c (toOf (at q)) in
       rw e
-      (joined-complete (λ q. cond (mapsIn at c i q) (targets at n f (child at n c (toOf (at q))) (inputOf (at q))) [])
+      (joined-complete (λ q. cond (mapsIn at c i q) (inputsBelow at n f (child at n c (toOf (at q))) (inputOf (at q))) [])
       t (from 0 n) q (from0-complete n q l)
       (rw m (targets-complete (suc g) f below (inputOf (at q)) t (omega arith)
       (deeper-child g c (toOf (at q)) (into-component below (inputOf (at q)) t r) u) r)))
 
   -- The primitive output that an output comes from is found as its source.
   pub source-complete : (g f c i : ℕ) (s : Pin) → g + f ≡ deepest → deeper at g c ≡ true → From at n c i s
-      → source at n f c i ≡ s
-  unfolding source
+      → outputBelow at n f c i ≡ s
+  unfolding outputBelow
   source-complete g zero c i s h u r = absurd (depth-left g c h (from-component c i s r) u)
   source-complete g (suc f) c i s h u (starts e w) = rw e (sym w)
   source-complete g (suc f) c i s h u (through l e r) =
@@ -150,8 +151,8 @@ module _ (at : ℕ → Record) (n : ℕ) (d : Passed at n) where
 
   -- The source found is where the output comes from.
   pub source-sound : (g f c i : ℕ) → g + f ≡ deepest → deeper at g c ≡ true → i < outputsOf (at c)
-      → From at n c i (source at n f c i)
-  unfolding source
+      → From at n c i (outputBelow at n f c i)
+  unfolding outputBelow
   source-sound g zero c i h u o = absurd (depth-left g c h (output-component (at c) i o) u)
   source-sound g (suc f) c i h u o = by-kind (λ x j. source-sound (suc g) f x j (omega arith)) (isPrimitive (at c)) refl
     where
@@ -161,9 +162,9 @@ module _ (at : ℕ → Record) (n : ℕ) (d : Passed at n) where
       below : ℕ
       below = child at n c (fromOf (at mapped))
 
-      by-kind : ((x j : ℕ) → deeper at (suc g) x ≡ true → j < outputsOf (at x) → From at n x j (source at n f x j))
+      by-kind : ((x j : ℕ) → deeper at (suc g) x ≡ true → j < outputsOf (at x) → From at n x j (outputBelow at n f x j))
           → (b : Bool) → isPrimitive (at c) ≡ b
-          → From at n c i (cond b (pin c i) (cond (eqb (formOf (at mapped)) 4) (source at n f below (outputOf (at mapped))) (pin n 0)))
+          → From at n c i (cond b (pin c i) (cond (eqb (formOf (at mapped)) 4) (outputBelow at n f below (outputOf (at mapped))) (pin n 0)))
       by-kind down true e = starts e refl
       by-kind down false e =
           let r = outMap-there c i (component-composite at n d c (output-component (at c) i o) e) o in

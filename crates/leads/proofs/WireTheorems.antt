@@ -11,7 +11,8 @@ use Rattle.lists.proofs.MembersLaws.{In, Distinct}
 use Rattle.primitive.specs.Kinds.{obeys, inputWidth, outputWidth}
 use Rattle.component.specs.declared.Record.{Record}
 use Rattle.component.specs.declared.Verdict.the-variants.{Accepted}
-use Rattle.component.specs.Record.{recordAt, recordCount, fieldsOf, idOf, isPrimitive}
+use Rattle.component.specs.Record.{recordAt, recordCount, fieldsOf, isPrimitive}
+use Rattle.component.specs.Reading.{idOf}
 use Rattle.component.specs.Drawing.{primitivesBefore, inputsBefore, outputsBefore}
 use Rattle.flatten.specs.declared.Pin.{Pin}
 use Rattle.flatten.specs.declared.Wire.{Wire}

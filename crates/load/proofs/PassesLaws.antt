@@ -18,9 +18,9 @@ use Rattle.primitive.specs.declared.table.Fields.{Fields}
 use Rattle.primitive.specs.Kinds.{primitive}
 use Rattle.component.specs.declared.Id.{Id}
 use Rattle.component.specs.declared.Record.{Record}
-use Rattle.component.specs.declared.Seen.{Seen}
-use Rattle.component.specs.declared.Seen.the-variants.{Component as SeenComponent, Nothing}
-use Rattle.component.specs.Reading.{SeenAs}
+use Rattle.component.specs.declared.Stands.{Stands}
+use Rattle.component.specs.declared.Stands.the-variants.{Component as SeenComponent, Nothing}
+use Rattle.component.specs.Reading.{StandsAs}
 use Rattle.component.specs.declared.Verdict.the-variants.{Accepted}
 use Rattle.component.specs.Record.{recordAt, recordCount, inputsOf, outputsOf, isPrimitive}
 use Rattle.component.specs.Drawing.{primitivesBefore}
@@ -29,7 +29,7 @@ use Rattle.flatten.specs.Verdict.{verdict}
 use Rattle.leads.proofs.Components.{primitive-component}
 use Rattle.leads.proofs.Primitives.{primitivesBefore-append, primitivesBefore-step, primitivesBefore-skip}
 use Rattle.leads.proofs.Primitives.{portsBefore-step}
-use Rattle.leads.proofs.Theorems.{accepted-primitives-bound, accepted-inputs-bound, accepted-outputs-bound}
+use Rattle.leads.proofs.WireTheorems.{accepted-primitives-bound, accepted-inputs-bound, accepted-outputs-bound}
 use Rattle.load.specs.declared.rows.Drawn.{Drawn}
 use Rattle.load.specs.declared.rows.Drawn.the-variants.{Primitive, Other}
 use Rattle.load.specs.declared.rows.Before.{Before}
@@ -38,7 +38,7 @@ use Rattle.load.specs.Laying.{seenIf, seen, componentBy, rowBy, beforeBy
 use Rattle.load.proofs.LayingLaws.{joined-keep, Laid, laid-room, laid-step, laid-end}
 
 -- What a record is drawn as: no component; a primitive; a component that is none.
-module _ (s : List ℕ) (p : ℕ) (g : Seen) (e : SeenAs g (recordAt s p)) where
+module _ (s : List ℕ) (p : ℕ) (g : Stands) (e : StandsAs g (recordAt s p)) where
   pub drawn-none : g ≡ Nothing → Other ≡ seen (recordAt s p)
   drawn-none h = rw (sym (unseen-primitive (recordAt s p) g e h))
 

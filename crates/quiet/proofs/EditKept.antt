@@ -8,7 +8,7 @@ use borrow.Author.Tests.{ne-eqb}
 use Rattle.tables.specs.Tables.{Tables, fullSize}
 use Rattle.net.specs.Net.{isNet, netNumber}
 use Rattle.net.proofs.NetLaws.{netNumber-full, netNumber-isNet, netNumber-0}
-use Rattle.simulator.specs.Round.{stateOf, leave, edited}
+use Rattle.simulator.specs.Round.{stateOf, leave, editedState}
 use Rattle.simulator.specs.Calls.{editNumber, editTables}
 use Rattle.simulator.proofs.EditsLaws.{edit-is-net, edit-there}
 use Rattle.simulator.proofs.Sound.{isNet-wiring}
@@ -26,23 +26,23 @@ module _ (T : Tables) (i v : ℕ) (e : editNumber T i v ≡ 0) where
   net : isNet T ≡ true
   net = netNumber-isNet T (edit-is-net T i v e)
 
-  edited-leaves : Held T (edited T i v (stateOf T))
+  edited-leaves : Held T (editedState T i v (stateOf T))
   edited-leaves =
       edited-held T (isNet-wiring T full net) i v (edit-there T i v e) (stateOf T) (isNet-held T full net)
       (editNumber-editable T i v e)
 
-  edited-net : netNumber (leave T (edited T i v (stateOf T))) ≡ 0
+  edited-net : netNumber (leave T (editedState T i v (stateOf T))) ≡ 0
   edited-net =
-      sym (netNumber-0 (leave T (edited T i v (stateOf T)))
-      (fullSize-kept T full net (edited T i v (stateOf T)) edited-leaves)
-      (isNet-kept T full net (edited T i v (stateOf T)) edited-leaves))
+      sym (netNumber-0 (leave T (editedState T i v (stateOf T)))
+      (fullSize-kept T full net (editedState T i v (stateOf T)) edited-leaves)
+      (isNet-kept T full net (editedState T i v (stateOf T)) edited-leaves))
 
-  edited-lengths : SameLengths T (leave T (edited T i v (stateOf T)))
-  edited-lengths = leave-lengths T full net (edited T i v (stateOf T)) edited-leaves
+  edited-lengths : SameLengths T (leave T (editedState T i v (stateOf T)))
+  edited-lengths = leave-lengths T full net (editedState T i v (stateOf T)) edited-leaves
 
 -- The tables after an edit that is not refused.
 pub editTables-done : (T : Tables) (i v : ℕ) → editNumber T i v ≡ 0
-    → editTables T i v ≡ leave T (edited T i v (stateOf T))
+    → editTables T i v ≡ leave T (editedState T i v (stateOf T))
 unfolding editTables
 editTables-done T i v e = rw e
 
@@ -55,15 +55,15 @@ editTables-refused T i v e = rw (ne-eqb (editNumber T i v) 0 e)
 pub editTables-wiring : (T : Tables) (i v : ℕ) → SameWiring T (editTables T i v)
 unfolding editTables
 editTables-wiring T i v =
-    by-number (SameWiring T) (editNumber T i v) (leave T (edited T i v (stateOf T))) T
-    (λ e. leave-wiring T (edited T i v (stateOf T)))
+    by-number (SameWiring T) (editNumber T i v) (leave T (editedState T i v (stateOf T))) T
+    (λ e. leave-wiring T (editedState T i v (stateOf T)))
     (sameWiring-none T)
 
 -- No edit changes the length of a table.
 pub editTables-lengths : (T : Tables) (i v : ℕ) → SameLengths T (editTables T i v)
 unfolding editTables
 editTables-lengths T i v =
-    by-number (SameLengths T) (editNumber T i v) (leave T (edited T i v (stateOf T))) T
+    by-number (SameLengths T) (editNumber T i v) (leave T (editedState T i v (stateOf T))) T
     (edited-lengths T i v)
     (sameLengths-none T)
 
@@ -71,5 +71,5 @@ editTables-lengths T i v =
 pub editTables-net : (T : Tables) (i v : ℕ) → netNumber T ≡ 0 → netNumber (editTables T i v) ≡ 0
 unfolding editTables
 editTables-net T i v e =
-    by-number (λ (U : Tables). netNumber U ≡ 0) (editNumber T i v) (leave T (edited T i v (stateOf T))) T
+    by-number (λ (U : Tables). netNumber U ≡ 0) (editNumber T i v) (leave T (editedState T i v (stateOf T))) T
     (edited-net T i v) e

@@ -21,13 +21,13 @@ use Rattle.flatten.specs.Leads.{Leads}
 use Rattle.leads.proofs.Accepted.{Passed}
 use Rattle.leads.proofs.Wires.{wire}
 use Rattle.tables.specs.Tables.{Tables, fullSize, outputsAt, wiresIn, currentList, followingList, standingList}
-use Rattle.load.specs.Load.{standingAtLoad, loaded, loadVerdict, loadTables}
+use Rattle.load.specs.Load.{standingAtLoad, drawingTables, loadVerdict, loadTables}
 use Rattle.load.proofs.LoadLaws.{load-passed}
 use Rattle.net.specs.Net.{isNet}
-use Rattle.loaded.proofs.Ports.{loaded-input, loaded-outputs}
+use Rattle.loaded.proofs.LoadedPorts.{loaded-input, loaded-outputs}
 use Rattle.tables.proofs.SameLaws.{SameWiring, SameLengths}
 use Rattle.loaded.proofs.Sizes.{loaded-current, loaded-following, loaded-standing, loaded-lengths}
-use Rattle.loaded.proofs.Net.{load-checked, load-loaded, load-fullSize, load-net}
+use Rattle.loaded.proofs.LoadNet.{load-checked, load-loaded, load-fullSize, load-net}
 use Rattle.loaded.proofs.Drawn.{IsDrawn, loaded-drawn, drawn-kept, PrimitiveAt, drawn-primitive, drawn-below}
 use Rattle.loaded.proofs.Drawn.{leads-wired, wired-leads, wire-drawn}
 
@@ -46,8 +46,8 @@ module _ (file : List ℕ) where
       passed : Passed at n
       passed = load-checked file T accepted
 
-      -- What holds of the tables that `loaded` gives holds of L.
-      after : (P : Tables → Type 0) → P (loaded at n T) → P L
+      -- What holds of the tables that `drawingTables` gives holds of L.
+      after : (P : Tables → Type 0) → P (drawingTables at n T) → P L
       after P h = subst P (sym (load-loaded file T accepted)) h
 
       -- L is a net, the file being bytes: check 16 passes on it.
@@ -64,7 +64,7 @@ module _ (file : List ℕ) where
 
       -- Every input is 0.
       pub accepted-input : (i : ℕ) → i < L .counts .inputs → getD (L .inputs) i 0 ≡ 0
-      unfolding loaded
+      unfolding drawingTables
       accepted-input =
           after (λ (U : Tables). (i : ℕ) → i < U .counts .inputs → getD (U .inputs) i 0 ≡ 0)
           (λ i h. loaded-input at n T i h)
@@ -78,7 +78,7 @@ module _ (file : List ℕ) where
 
       -- The current list names all components,
       pub accepted-current : currentList L ≡ from 0 (L .counts .components)
-      unfolding loaded
+      unfolding drawingTables
       accepted-current =
           after (λ (U : Tables). currentList U ≡ from 0 (U .counts .components)) (loaded-current at n T)
 

@@ -20,14 +20,15 @@ use Rattle.lists.proofs.ListsLaws.{and-right}
 use Rattle.lists.proofs.MembersLaws.{In, Distinct, in-cond, or-cases, any-none, from0-sound, from0-complete}
 use Rattle.lists.proofs.MembersLaws.{distinct-joined, distinct-from}
 use Rattle.component.specs.declared.Record.{Record}
-use Rattle.component.specs.Record.{formOf, ownerOf, toOf, inputOf, portOf, inputsOf, isPrimitive, entering, enteringAs}
+use Rattle.component.specs.Record.{toOf, inputOf, portOf, inputsOf, isPrimitive, entering, enteringAs}
+use Rattle.component.specs.Reading.{ownerOf, formOf}
 use Rattle.component.specs.Drawing.{deepest, child, mapsIn, fromThere, portThere, toThere}
 use Rattle.flatten.specs.declared.Pin.{Pin}
-use Rattle.flatten.specs.Descent.{pin, targets, targetsOf}
+use Rattle.flatten.specs.Descent.{pin, inputsBelow, goesTo}
 use Rattle.flatten.specs.Leads.{Into, ends, maps}
 use Rattle.leads.proofs.Accepted.{Passed}
 use Rattle.leads.proofs.Components.{input-component, owner-before, child-owner, child-inj}
-use Rattle.leads.proofs.Descent.{mapsIn-sound, targets-sound}
+use Rattle.leads.proofs.DescentLeads.{mapsIn-sound, targets-sound}
 
 -- The input that record q enters.
 abbrev pub entry : (ℕ → Record) → ℕ → ℕ → Pin
@@ -39,7 +40,7 @@ start at q = pin (ownerOf (at q)) (portOf (at q))
 
 -- The targets of record p, if it is a connection.
 abbrev pub targetsAt : (ℕ → Record) → ℕ → ℕ → List Pin
-targetsAt at n p = cond (eqb (formOf (at p)) 2) (targetsOf at n p) []
+targetsAt at n p = cond (eqb (formOf (at p)) 2) (goesTo at n p) []
 
 data Under (at : ℕ → Record) (n : ℕ) (x : Pin) : Pin → Type 0 where
   here : {t : Pin} → t ≡ x → Under at n x t
@@ -156,15 +157,15 @@ module _ (at : ℕ → Record) (n : ℕ) (d : Passed at n) where
       absurd (omega (arith, ap (λ (x : ℕ). formOf (at x)) z))
 
   -- No target of an input is found twice.
-  targets-distinct : (f c i : ℕ) → Distinct (targets at n f c i)
-  unfolding targets
+  targets-distinct : (f c i : ℕ) → Distinct (inputsBelow at n f c i)
+  unfolding inputsBelow
   targets-distinct zero c i = tt
   targets-distinct (suc f) c i = by-kind (λ x j. targets-distinct f x j) (isPrimitive (at c))
     where
       onward : ℕ → List Pin
-      onward q = targets at n f (child at n c (toOf (at q))) (inputOf (at q))
+      onward q = inputsBelow at n f (child at n c (toOf (at q))) (inputOf (at q))
 
-      by-map : ((x j : ℕ) → Distinct (targets at n f x j)) → (b : Bool) (q : ℕ) → Distinct (cond b (onward q) [])
+      by-map : ((x j : ℕ) → Distinct (inputsBelow at n f x j)) → (b : Bool) (q : ℕ) → Distinct (cond b (onward q) [])
       by-map each true q = each (child at n c (toOf (at q))) (inputOf (at q))
       by-map each false q = tt
 
@@ -186,7 +187,7 @@ module _ (at : ℕ → Record) (n : ℕ) (d : Passed at n) where
           ⊎-elim (λ w. map-single p q lp lq fp fq s w) (λ w. sym (map-single q p lq lp fq fp (sym s) w))
           (under-linear (entry at n p) (entry at n q) t (path p t (a .0) (a .1)) (path q t (b .0) (b .1)))
 
-      by-kind : ((x j : ℕ) → Distinct (targets at n f x j)) → (b : Bool)
+      by-kind : ((x j : ℕ) → Distinct (inputsBelow at n f x j)) → (b : Bool)
           → Distinct (cond b (pin c i ∷ []) (joined (λ q. cond (mapsIn at c i q) (onward q) []) (from 0 n)))
       by-kind each true = (λ u. u, tt)
       by-kind each false =
@@ -195,22 +196,22 @@ module _ (at : ℕ → Record) (n : ℕ) (d : Passed at n) where
 
   -- No input is the target of two connections, or twice of one.
   pub targetsAt-distinct : Distinct (joined (targetsAt at n) (from 0 n))
-  unfolding targetsOf
+  unfolding goesTo
   targetsAt-distinct =
       distinct-joined (targetsAt at n) (from 0 n) (distinct-from 0 n) (λ p u. by-form (eqb (formOf (at p)) 2) p) apart
     where
-      by-form : (b : Bool) (p : ℕ) → Distinct (cond b (targetsOf at n p) [])
+      by-form : (b : Bool) (p : ℕ) → Distinct (cond b (goesTo at n p) [])
       by-form true p = targets-distinct deepest (child at n (ownerOf (at p)) (toOf (at p))) (inputOf (at p))
       by-form false p = tt
 
-      path : (p : ℕ) (t : Pin) → In t (targetsOf at n p) → Under at n (entry at n p) t
+      path : (p : ℕ) (t : Pin) → In t (goesTo at n p) → Under at n (entry at n p) t
       path p t h = into-under _ _ t (targets-sound at n deepest _ _ t h)
 
       apart : (p q : ℕ) (t : Pin) → In p (from 0 n) → In q (from 0 n) → In t (targetsAt at n p)
           → In t (targetsAt at n q) → p ≡ q
       apart p q t u v g h =
-          let a = in-cond t (eqb (formOf (at p)) 2) (targetsOf at n p) g in
-          let b = in-cond t (eqb (formOf (at q)) 2) (targetsOf at n q) h in
+          let a = in-cond t (eqb (formOf (at p)) 2) (goesTo at n p) g in
+          let b = in-cond t (eqb (formOf (at q)) 2) (goesTo at n q) h in
           let lp : p < n = from0-sound n p u in
           let lq : q < n = from0-sound n q v in
           let fp = eqb-true (formOf (at p)) 2 (a .0) in

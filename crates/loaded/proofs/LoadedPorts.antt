@@ -17,22 +17,22 @@ use Rattle.flatten.specs.Descent.{flat}
 use Rattle.leads.proofs.Accepted.{Passed}
 use Rattle.leads.proofs.Primitives.{primitive-below, primitive-obeyed, primitivesBefore-split, portsBefore-within}
 use Rattle.tables.specs.Tables.{Tables, numbers, inputsAt, outputsAt}
-use Rattle.load.specs.Load.{primitives, loaded}
+use Rattle.load.specs.Load.{primitives, drawingTables}
 use Rattle.load.specs.Laying.{startingOf}
 use Rattle.load.proofs.PortsLaws.{starting-length, starting-before}
 use Rattle.loaded.proofs.Entries.{loaded-fields, loaded-firstInput, loaded-firstOutput}
 
 -- Every input that there is is 0.
 pub loaded-input : (at : ℕ → Record) (n : ℕ) (T : Tables) (i : ℕ) → i < inputsBefore at n
-    → getD (loaded at n T .inputs) i 0 ≡ 0
-unfolding loaded
+    → getD (drawingTables at n T .inputs) i 0 ≡ 0
+unfolding drawingTables
 loaded-input at n T i h =
     overlay-at (replicate (inputsBefore at n) 0) (T .inputs) i 0
     (omega (arith, length-replicate {A = ℕ} (inputsBefore at n) 0))
     ∙ getD-replicate (inputsBefore at n) i 0 0 h
 
-inputs-room : (at : ℕ → Record) (n : ℕ) (T : Tables) → inputsBefore at n ≤ length (loaded at n T .inputs)
-unfolding loaded overlay
+inputs-room : (at : ℕ → Record) (n : ℕ) (T : Tables) → inputsBefore at n ≤ length (drawingTables at n T .inputs)
+unfolding drawingTables overlay
 inputs-room at n T =
     let all : List ℕ = replicate (inputsBefore at n) 0 in
     omega (arith, length-append all (drop (length all) (T .inputs)), length-replicate {A = ℕ} (inputsBefore at n) 0)
@@ -40,20 +40,20 @@ inputs-room at n T =
 module _ (at : ℕ → Record) (n : ℕ) (d : Passed at n) (T : Tables) where
   -- The inputs of each primitive are 0.
   pub loaded-inputs : (c : ℕ) → isPrimitive (at c) ≡ true
-      → inputsAt (loaded at n T) (loaded at n T .inputs) (flat at n c) ≡ replicate (inputsOf (at c)) 0
+      → inputsAt (drawingTables at n T) (drawingTables at n T .inputs) (flat at n c) ≡ replicate (inputsOf (at c)) 0
   loaded-inputs c e =
       let first = loaded-firstInput at n d T c e in
       let own = loaded-fields at n d T c e in
       let room = portsBefore-within at n inputsOf c n e (primitive-below at n d c e) in
-      let ins = loaded at n T .inputs in
+      let ins = drawingTables at n T .inputs in
       (λ j. numbers ins (first j) (own j .inputs))
       ∙ slice-replicate 0 (inputsBefore at c) (inputsOf (at c)) ins (omega (arith, inputs-room at n T))
       (λ i l u. loaded-input at n T i (omega arith))
 
   -- The outputs of each primitive are its starting values: 0, a Const's output its value.
   pub loaded-outputs : (c : ℕ) → isPrimitive (at c) ≡ true
-      → outputsAt (loaded at n T) (loaded at n T .outputs) (flat at n c) ≡ starting (fieldsOf (at c))
-  unfolding loaded overlay
+      → outputsAt (drawingTables at n T) (drawingTables at n T .outputs) (flat at n c) ≡ starting (fieldsOf (at c))
+  unfolding drawingTables overlay
   loaded-outputs c e =
       let before = primitivesBefore at c in
       let behind = keep (λ q. isPrimitive (at q)) (from (suc c) (n - suc c)) in
@@ -62,6 +62,6 @@ module _ (at : ℕ → Record) (n : ℕ) (d : Passed at n) (T : Tables) where
       let first = loaded-firstOutput at n d T c e ∙ sym (starting-before at n d c) in
       let own = loaded-fields at n d T c e in
       let many = sym (starting-length (fieldsOf (at c)) (primitive-obeyed at n d c e)) in
-      (λ j. numbers (loaded at n T .outputs) (first j) (own j .outputs))
+      (λ j. numbers (drawingTables at n T .outputs) (first j) (own j .outputs))
       ∙ (λ j. numbers (joined (startingOf at) (split j) ++ rest) (length (joined (startingOf at) before)) (many j))
       ∙ joined-part (startingOf at) before behind c rest

@@ -24,14 +24,14 @@ use Rattle.flatten.specs.Descent.{flat}
 use Rattle.flatten.specs.Verdict.{verdict}
 use Rattle.leads.proofs.Accepted.{Passed, accepted-passed}
 use Rattle.leads.proofs.Primitives.{primitivesBefore-step, primitivesBefore-skip, primitives-bound}
-use Rattle.leads.proofs.Theorems.{accepted-primitives-bound}
+use Rattle.leads.proofs.WireTheorems.{accepted-primitives-bound}
 use Rattle.load.specs.declared.names.Stood.{Stood}
 use Rattle.load.specs.declared.rows.Drawn.{Drawn}
 use Rattle.load.specs.declared.rows.Drawn.the-variants.{Primitive, Other}
 use Rattle.load.specs.Load.{primitives, standingAtLoad}
 use Rattle.load.specs.Laying.{seenIf, seen, standingIf, standingBy, stoodBy, standingAt}
 use Rattle.load.proofs.LayingLaws.{joined-keep, Laid, laid-room, laid-step, laid-end, laid-count}
-use Rattle.load.proofs.RowsLaws.{primitivesBefore-few}
+use Rattle.load.proofs.PassesLaws.{primitivesBefore-few}
 
 -- Laying one record into the standing list: a primitive that does not stand; one that does.
 module _ (id : Id) (f : Fields) (s : Stood) (drawn : Drawn) (e : drawn ≡ Primitive id f) (b : Bool)

@@ -21,7 +21,8 @@ use Rattle.primitive.specs.Kinds.{kindOf}
 use Rattle.component.specs.Record.{IsBytes}
 use Rattle.component.specs.declared.Verdict.{Verdict}
 use Rattle.component.specs.declared.Verdict.the-variants.{Accepted, Refused}
-use Rattle.tables.specs.Tables.{Tables, wordIn, idIn, idAt, fieldsAt, wireAt, indexes, currentList}
+use Rattle.tables.specs.Tables.{Tables, wordIn, idAt, fieldsAt, wireAt, indexes, currentList}
+use Rattle.net.specs.Parts.{idIn}
 use Rattle.load.specs.Load.{loadTables, loadVerdict}
 use Rattle.net.specs.Net.{idsDistinct, netNumber}
 use Rattle.net.proofs.ClausesLaws.{portsFollow-inputs, portsFollow-outputs}
@@ -32,7 +33,7 @@ use Rattle.simulator.proofs.Kept.{roundTables-net}
 use Rattle.simulator.proofs.Sound.{net-sound, net-within, wire-in}
 use Rattle.text.specs.Text.{placeAfter, numeralOf, numeral, spaced}
 use Rattle.lines.specs.Lines.{ascii, nameOf, componentLine, wireLine, componentsText, wiresText, roundLine, refusedLine}
-use Rattle.listing.specs.Listing.{fresh, ending, rounds, listed, listing}
+use Rattle.listing.specs.Listing.{fresh, ending, roundLines, listedText, listing}
 use Rattle.listing.proofs.LoadedLaws.{loaded-number}
 
 -- A number below 10^k has at most k digits; none has more than 20.
@@ -171,15 +172,15 @@ module _ (T : Tables) (z : netNumber T ≡ 0) where
       let d = names-length T (currentList T) l in
       simp length-append (omega arith)
 
-rounds-few : (k r : ℕ) (T : Tables) → netNumber T ≡ 0 → r + k ≤ 17 → length (rounds k r T) ≤ 1038 * k + 9
-unfolding rounds
+rounds-few : (k r : ℕ) (T : Tables) → netNumber T ≡ 0 → r + k ≤ 17 → length (roundLines k r T) ≤ 1038 * k + 9
+unfolding roundLines
 rounds-few zero r T z h = omega arith
 rounds-few (suc k) r T z h =
     let U = roundTables T 0 in
     let net : netNumber U ≡ 0 = roundTables-net T 0 z in
     let a = round-few U net r (omega arith) in
     let b = rounds-few k (suc r) U net (omega arith) in
-    one-more (roundLine r (currentList U)) (cond (calm U) (ending true) (rounds k (suc r) U)) a (by-calm (calm U) (rounds k (suc r) U) b)
+    one-more (roundLine r (currentList U)) (cond (calm U) (ending true) (roundLines k (suc r) U)) a (by-calm (calm U) (roundLines k (suc r) U) b)
   where
     one-more : (xs ys : List ℕ) → length xs ≤ 1038 → length ys ≤ 1038 * k + 9 → length (xs ++ ys) ≤ 1038 * suc k + 9
     one-more xs ys l m = simp length-append (omega arith)
@@ -196,11 +197,11 @@ listing-few file bytes = by-verdict (loadVerdict file fresh) refl
     all : (xs ys zs : List ℕ) → length xs ≤ 6200 → length ys ≤ 20500 → length zs ≤ 1038 * 16 + 9 → length (xs ++ ys ++ zs) ≤ 65536
     all xs ys zs a b d = simp length-append (omega arith)
 
-    by-verdict : (v : Verdict) → loadVerdict file fresh ≡ v → length (listed v (loadTables file fresh)) ≤ 65536
+    by-verdict : (v : Verdict) → loadVerdict file fresh ≡ v → length (listedText v (loadTables file fresh)) ≤ 65536
     by-verdict Accepted e =
         let z = loaded-number file bytes e in
         let T = loadTables file fresh in
-        all (componentsText (T .components) (T .counts .components)) (wiresText (T .wires) (T .counts .wires)) (rounds 16 1 T)
+        all (componentsText (T .components) (T .counts .components)) (wiresText (T .wires) (T .counts .wires)) (roundLines 16 1 T)
         (components-few T z) (wires-few T z) (rounds-few 16 1 T z (omega arith))
     by-verdict (Refused x) e =
         let a = numeral-most (x .number) in

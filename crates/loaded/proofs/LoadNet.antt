@@ -7,10 +7,11 @@ use mathlib.Core.List.{List}
 use Prim.Native.Nat.{ℕ, _^_, _<_}
 use Rattle.component.specs.declared.Record.{Record}
 use Rattle.component.specs.declared.Verdict.the-variants.{Accepted}
-use Rattle.component.specs.Record.{IsBytes, recordAt, recordCount, idOf, isPrimitive}
+use Rattle.component.specs.Record.{IsBytes, recordAt, recordCount, isPrimitive}
+use Rattle.component.specs.Reading.{idOf}
 use Rattle.leads.proofs.Accepted.{Passed, accepted-passed}
 use Rattle.tables.specs.Tables.{Tables, fullSize}
-use Rattle.load.specs.Load.{loaded, loadVerdict, loadTables}
+use Rattle.load.specs.Load.{drawingTables, loadVerdict, loadTables}
 use Rattle.load.proofs.LoadLaws.{load-passed}
 use Rattle.net.specs.Net.{isNet}
 use Rattle.tables.proofs.SameLaws.{sameLengths-fullSize}
@@ -24,7 +25,7 @@ use Rattle.loaded.proofs.Bytes.{recordAt-id}
 
 -- The tables that a drawing that passes every check is loaded into are a net, if its ids have 32 bits.
 pub loaded-net : (at : ℕ → Record) (n : ℕ) → Passed at n → (T : Tables)
-    → ((c : ℕ) → isPrimitive (at c) ≡ true → idOf (at c) < 2 ^ 32) → isNet (loaded at n T) ≡ true
+    → ((c : ℕ) → isPrimitive (at c) ≡ true → idOf (at c) < 2 ^ 32) → isNet (drawingTables at n T) ≡ true
 unfolding isNet
 loaded-net at n d T narrow =
     let drawn = loaded-drawn at n d T in
@@ -47,8 +48,8 @@ module _ (file : List ℕ) (T : Tables) (accepted : loadVerdict file T ≡ Accep
   pub load-checked : Passed (recordAt file) (recordCount file)
   load-checked = accepted-passed file (load-passed file T accepted .judged)
 
-  -- An accepted load leaves what `loaded` says.
-  pub load-loaded : loadTables file T ≡ loaded (recordAt file) (recordCount file) T
+  -- An accepted load leaves what `drawingTables` says.
+  pub load-loaded : loadTables file T ≡ drawingTables (recordAt file) (recordCount file) T
   unfolding loadTables
   load-loaded = rw accepted
 
@@ -56,7 +57,7 @@ module _ (file : List ℕ) (T : Tables) (accepted : loadVerdict file T ≡ Accep
   pub load-fullSize : fullSize (loadTables file T) ≡ true
   load-fullSize =
       ap fullSize load-loaded
-      ∙ sameLengths-fullSize T (loaded (recordAt file) (recordCount file) T)
+      ∙ sameLengths-fullSize T (drawingTables (recordAt file) (recordCount file) T)
       (loaded-lengths (recordAt file) (recordCount file) load-checked T (load-passed file T accepted .full))
       (load-passed file T accepted .full)
 

@@ -8,13 +8,13 @@ use native.Mathlib.Omega.{arith}
 use lib.ListN.{length}
 use borrow.Author.Tests.{lt-ltb, le-ltb, ltb-false, not-true, not-false}
 use Rattle.lists.specs.Lists.{overlay}
-use Rattle.primitive.specs.Given.{Given}
+use Rattle.primitive.specs.Given.{Given, spoken}
 use Rattle.flatten.specs.Verdict.{sized, refused, verdictGives}
 use Rattle.tables.specs.declared.Counts.{Counts}
 use Rattle.tables.specs.declared.Answer.{Answer}
 use Rattle.tables.specs.Tables.{Tables, countWords, answerGives, countsAfter}
 use Rattle.load.specs.Load.{loadVerdict, loadTables, Loads}
-use Rattle.host.specs.Host.{countsIn, valuesIn, saying, runWords, runCounts, gave, loadGives, short, fewer, Changes, Runs, Answers, Lists, LoadsInto}
+use Rattle.host.specs.Host.{countsIn, valuesIn, runWords, runCounts, gave, loadGives, short, fewer, CallChanges, CallRuns, CallAnswers, CallLists, CallLoads}
 use Rattle.host.proofs.WordsLaws.{none-laid}
 
 -- Neither of two tests holds.
@@ -40,54 +40,54 @@ module _ (given : Tables → List ℕ → Given) (after : Tables → Tables) (T 
 
 -- A round or an edit.
 module _ (given : Tables → List ℕ → Given) (after : Tables → Tables) (ws : List ℕ) (lent : Counts → Tables) where
-  pub change-short : length ws < 7 → ((m : Counts) → lent m .counts ≡ m) → Changes given after ws ws lent lent 131072
+  pub change-short : length ws < 7 → ((m : Counts) → lent m .counts ≡ m) → CallChanges given after ws ws lent lent 131072
   change-short h same =
       record {
         answered = rw (lt-ltb (length ws) 7 h);
         counted = rw (lt-ltb (length ws) 7 h);
-        kept = rw (lt-ltb (length ws) 7 h) (ap lent (same (countsIn ws)));
+        tables = rw (lt-ltb (length ws) 7 h) (ap lent (same (countsIn ws)));
       }
 
   pub change-made : (m : Counts) (ws′ : List ℕ) (left : Counts → Tables) (r : ℕ) (g : Given) (n : Counts) → 7 ≤ length ws → m ≡ countsIn ws
       → ((k : Counts) → left k .counts ≡ k) → g ≡ given (lent m) (countWords (left n .counts)) → left n ≡ after (lent m)
       → r ≡ 65536 * g .number → ws′ ≡ overlay (valuesIn g) ws
-      → Changes given after ws ws′ lent left r
+      → CallChanges given after ws ws′ lent left r
   change-made m ws′ left r g n h q same e l a w =
       let d = gives-as given after (lent m) left n l g e in
       record {
         answered = rw (le-ltb (length ws) 7 h, ← q) (a ∙ ap (λ (x : Given). 65536 * x .number) d);
         counted = rw (le-ltb (length ws) 7 h, ← q) (w ∙ ap (λ (x : Given). overlay (valuesIn x) ws) d);
-        kept = rw (le-ltb (length ws) 7 h, ← q) (leaves-as given after (lent m) left n l same);
+        tables = rw (le-ltb (length ws) 7 h, ← q) (leaves-as given after (lent m) left n l same);
       }
 
 -- Run until calm.
 module _ (given : Tables → List ℕ → Given) (after : Tables → Tables) (ws fs : List ℕ) (lent : Counts → Tables) where
-  pub run-short : fewer ws fs 2 ≡ true → ((m : Counts) → lent m .counts ≡ m) → Runs given after ws ws fs fs lent lent 131072
+  pub run-short : fewer ws fs 2 ≡ true → ((m : Counts) → lent m .counts ≡ m) → CallRuns given after ws ws fs fs lent lent 131072
   run-short h same =
-      record { answered = rw h; counted = rw h; found = rw h; kept = rw h (ap lent (same (countsIn ws))) }
+      record { answered = rw h; counted = rw h; found = rw h; tables = rw h (ap lent (same (countsIn ws))) }
 
   pub run-made : (m : Counts) (ws′ fs′ : List ℕ) (left : Counts → Tables) (r : ℕ) (g : Given) (n : Counts) → fewer ws fs 2 ≡ false
       → m ≡ countsIn ws
       → ((k : Counts) → left k .counts ≡ k) → g ≡ given (lent m) (countWords (left n .counts)) → left n ≡ after (lent m)
       → r ≡ 65536 * g .number → ws′ ≡ overlay (runCounts g) ws → fs′ ≡ overlay (runWords g) fs
-      → Runs given after ws ws′ fs fs′ lent left r
+      → CallRuns given after ws ws′ fs fs′ lent left r
   run-made m ws′ fs′ left r g n h q same e l a w f =
       let d = gives-as given after (lent m) left n l g e in
       record {
         answered = rw (h, ← q) (a ∙ ap (λ (x : Given). 65536 * x .number) d);
         counted = rw (h, ← q) (w ∙ ap (λ (x : Given). overlay (runCounts x) ws) d);
         found = rw (h, ← q) (f ∙ ap (λ (x : Given). overlay (runWords x) fs) d);
-        kept = rw (h, ← q) (leaves-as given after (lent m) left n l same);
+        tables = rw (h, ← q) (leaves-as given after (lent m) left n l same);
       }
 
 -- A question.
 module _ (gives : Tables → Given) (n : ℕ) (ws fs : List ℕ) (lent : Counts → Tables) where
-  pub ask-short : fewer ws fs n ≡ true → Answers gives n ws fs fs lent 131072
+  pub ask-short : fewer ws fs n ≡ true → CallAnswers gives n ws fs fs lent 131072
   ask-short h = record { answered = rw h; found = rw h }
 
   pub ask-made : (m : Counts) (fs′ : List ℕ) (r : ℕ) (g : Given) → fewer ws fs n ≡ false → m ≡ countsIn ws → g ≡ gives (lent m)
       → r ≡ 65536 * g .number → fs′ ≡ overlay (valuesIn g) fs
-      → Answers gives n ws fs fs′ lent r
+      → CallAnswers gives n ws fs fs′ lent r
   ask-made m fs′ r g h q e a f =
       record {
         answered = rw (h, ← q) (a ∙ ap (λ (x : Given). 65536 * x .number) e);
@@ -96,13 +96,13 @@ module _ (gives : Tables → Given) (n : ℕ) (ws fs : List ℕ) (lent : Counts 
 
 -- A question that lays a list.
 module _ (gives : Tables → Given) (list : Tables → List ℕ) (ws ls fs : List ℕ) (lent : Counts → Tables) where
-  pub list-short : fewer ws fs 1 ≡ true → Lists gives list ws ls ls fs fs lent 131072
+  pub list-short : fewer ws fs 1 ≡ true → CallLists gives list ws ls ls fs fs lent 131072
   list-short h = record { answered = rw h; listed = rw h; found = rw h }
 
   pub list-made : (m : Counts) (ls′ fs′ : List ℕ) (r : ℕ) (g : Given) → fewer ws fs 1 ≡ false → m ≡ countsIn ws
       → g ≡ gives (lent m) → ls′ ≡ list (lent m)
       → r ≡ 65536 * g .number → fs′ ≡ overlay (valuesIn g) fs
-      → Lists gives list ws ls ls′ fs fs′ lent r
+      → CallLists gives list ws ls ls′ fs fs′ lent r
   list-made m ls′ fs′ r g h q e l a f =
       record {
         answered = rw (h, ← q) (a ∙ ap (λ (x : Given). 65536 * x .number) e);
@@ -116,36 +116,36 @@ module _ (file ws : List ℕ) (lent : Counts → Tables) where
   unfolding loadVerdict
   unsized T h = rw h
 
-  pub load-unsized : sized file ≡ false → ((m : Counts) → lent m .counts ≡ m) → LoadsInto file ws ws lent lent 65536
+  pub load-unsized : sized file ≡ false → ((m : Counts) → lent m .counts ≡ m) → CallLoads file ws ws lent lent 65536
   unfolding loadTables
   load-unsized h same =
       record {
         answered = rw (h, unsized (lent (countsIn ws)) h);
         counted = rw (h, unsized (lent (countsIn ws)) h) (none-laid ws);
-        kept = rw (h, unsized (lent (countsIn ws)) h) (ap lent (same (countsIn ws)));
+        tables = rw (h, unsized (lent (countsIn ws)) h) (ap lent (same (countsIn ws)));
       }
 
-  pub load-short : sized file ≡ true → length ws < 7 → ((m : Counts) → lent m .counts ≡ m) → LoadsInto file ws ws lent lent 131072
+  pub load-short : sized file ≡ true → length ws < 7 → ((m : Counts) → lent m .counts ≡ m) → CallLoads file ws ws lent lent 131072
   load-short h s same =
       record {
         answered = rw (h, lt-ltb (length ws) 7 s);
         counted = rw (h, lt-ltb (length ws) 7 s);
-        kept = rw (h, lt-ltb (length ws) 7 s) (ap lent (same (countsIn ws)));
+        tables = rw (h, lt-ltb (length ws) 7 s) (ap lent (same (countsIn ws)));
       }
 
   pub load-made : (ws′ : List ℕ) (left : Counts → Tables) (r : ℕ) (a : Answer) → sized file ≡ true → 7 ≤ length ws
       → ((k : Counts) → left k .counts ≡ k) → ((m : Counts) → Loads file (lent m) a (left (countsAfter a m)))
-      → r ≡ saying (answerGives a) → ws′ ≡ overlay (valuesIn (answerGives a)) ws
-      → LoadsInto file ws ws′ lent left r
+      → r ≡ spoken (answerGives a) → ws′ ≡ overlay (valuesIn (answerGives a)) ws
+      → CallLoads file ws ws′ lent left r
   load-made ws′ left r a h s same p n w =
       let m = countsIn ws in
       let l = p m .1 in
       let d : answerGives a ≡ loadGives file (lent m) =
       gives-as (λ T. verdictGives (loadVerdict file T)) (loadTables file) (lent m) left (countsAfter a m) l (answerGives a) (p m .0) in
       record {
-        answered = rw (h, le-ltb (length ws) 7 s) (n ∙ ap saying d);
+        answered = rw (h, le-ltb (length ws) 7 s) (n ∙ ap spoken d);
         counted = rw (h, le-ltb (length ws) 7 s) (w ∙ ap (λ (x : Given). overlay (valuesIn x) ws) d);
-        kept =
+        tables =
             rw (h, le-ltb (length ws) 7 s)
             (leaves-as (λ T. verdictGives (loadVerdict file T)) (loadTables file) (lent m) left (countsAfter a m) l same);
       }
