@@ -2,6 +2,7 @@
 //! plain coding can be laid side by side.
 
 mod agreement;
+mod differences;
 mod lamp;
 mod language;
 mod limits;
