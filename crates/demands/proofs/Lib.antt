@@ -3,4 +3,3 @@ pub mod MarkedHold
 pub mod Called
 pub mod Demand3
 pub mod LampSatisfied
-pub mod Determinacy

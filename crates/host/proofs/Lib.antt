@@ -1,4 +1,3 @@
 pub mod WordsLaws
 pub mod NumbersLaws
 pub mod HostLaws
-pub mod HostDeterminacy

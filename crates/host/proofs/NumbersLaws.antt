@@ -1,10 +1,10 @@
--- Every number that a call gives back is at most 19.
+-- Every number that a call gives back is at most 19, and all but a load's have position 0.
 -- Assumes nothing.
 use mathlib.Core.Path.{_≡_, refl, sym, ap, _∙_, subst}
 use mathlib.Core.Bool.{Bool, true, false, cond, not, _&&_, _||_}
 use mathlib.Core.List.{List, [], _∷_}
 use mathlib.Core.Option.{Option, none, some}
-use Prim.Native.Nat.{ℕ, _≤_, _<_}
+use Prim.Native.Nat.{ℕ, _*_, _≤_, _<_}
 use native.Mathlib.Omega.{arith}
 use lib.ListN.{length}
 use lib.Dec.{eqb, leb, ltb}
@@ -23,10 +23,13 @@ use Rattle.tables.specs.Tables.{Tables, fullSize, fieldsAt, indexOf}
 use Rattle.load.specs.Load.{loadVerdict}
 use Rattle.net.specs.Net.{isNet, netNumber, onNet}
 use Rattle.simulator.specs.declared.Side.{Side}
+use Rattle.simulator.specs.declared.Calm.{Calm}
+use Rattle.simulator.specs.declared.Index.{Index}
+use Rattle.simulator.specs.declared.Port.{Port}
 use Rattle.simulator.specs.declared.Port.the-variants.{Is as PortIs}
 use Rattle.simulator.specs.Round.{calm}
 use Rattle.simulator.specs.Calls.{driven, editNumber}
-use Rattle.simulator.specs.Questions.{ofNet, indexFound, portCount, valueAt, valueGives, valueOnNet, listNumber}
+use Rattle.simulator.specs.Questions.{ofNet, calmGives, AsksCalm, indexGives, AsksIndex, AsksValue, indexFound, portCount, valueAt, valueGives, valueOnNet, listNumber}
 
 -- The host's number of a verdict.
 abbrev spokenOf : Verdict → ℕ
@@ -36,10 +39,6 @@ spokenOf v = spoken (verdictGives v [])
 pick : (b : Bool) (x y : ℕ) → x ≤ 19 → y ≤ 19 → cond b x y ≤ 19
 pick true x y h k = h
 pick false x y h k = k
-
-either : {A : Type 0} (f : A → ℕ) (b : Bool) (x y : A) → f x ≤ 19 → f y ≤ 19 → f (cond b x y) ≤ 19
-either f true x y h k = h
-either f false x y h k = k
 
 -- The first number whose test holds.
 abbrev small : List (ℕ × Bool) → Type 0
@@ -86,51 +85,74 @@ evaluate-number-small f xs vs ys ws =
     ∷ (19 if not (fitting (inputWidth f) (f .inputs) xs vs && fitting (outputWidth f) (f .outputs) ys ws)) ∷ [])
     (omega arith, (omega arith, (omega arith, (omega arith, (omega arith, omega arith)))))
 
--- So is what a call of such a number gives, and what a question gives of any tables.
-giving-small : (k : ℕ) (xs : List ℕ) → k ≤ 19 → giving k xs .number ≤ 19
-giving-small k xs h = either (λ (g : Given). g .number) (eqb k 0) (done xs) (declined (refusedBy k)) (omega arith) h
+-- What a call gives that has a small number, at position 0.
+pub record Plain (g : Given) : Type 0 where
+  pub small : g .number ≤ 19
+  pub at-0 : g .position ≡ 0
 
-ofNet-small : (T : Tables) (g : Given) → g .number ≤ 19 → ofNet T g .number ≤ 19
-ofNet-small T g h = either (λ (x : Given). x .number) (eqb (netNumber T) 0) g (declined (refusedBy (netNumber T))) h (net-small T)
+-- Such a number times 65,536 fits, and is what the call says.
+module _ (g : Given) (p : Plain g) where
+  pub plain-fits : g .number < 65536
+  plain-fits = omega (arith, p .small)
 
-found-small : (o : Option ℕ) → indexFound o .number ≤ 19
-found-small (some i) = omega arith
-found-small none = omega arith
+  pub plain-spoken : 65536 * g .number ≡ spoken g
+  plain-spoken = omega (arith, p .at-0)
 
-value-on-net-small : (T : Tables) (side : Side) (i p : ℕ) → valueOnNet T side i p .number ≤ 19
+either : (b : Bool) (x y : Given) → Plain x → Plain y → Plain (cond b x y)
+either true x y h k = h
+either false x y h k = k
+
+done-plain : (xs : List ℕ) → Plain (done xs)
+done-plain xs = record { small = omega arith; at-0 = refl }
+
+declined-plain : (k : ℕ) → k ≤ 19 → Plain (declined (refusedBy k))
+declined-plain k h = record { small = h; at-0 = refl }
+
+pub giving-plain : (k : ℕ) (xs : List ℕ) → k ≤ 19 → Plain (giving k xs)
+giving-plain k xs h = either (eqb k 0) (done xs) (declined (refusedBy k)) (done-plain xs) (declined-plain k h)
+
+ofNet-plain : (T : Tables) (g : Given) → Plain g → Plain (ofNet T g)
+ofNet-plain T g h = either (eqb (netNumber T) 0) g (declined (refusedBy (netNumber T))) h (declined-plain (netNumber T) (net-small T))
+
+found-plain : (o : Option ℕ) → Plain (indexFound o)
+found-plain (some i) = done-plain (i ∷ [])
+found-plain none = declined-plain 17 (omega arith)
+
+value-on-net-plain : (T : Tables) (side : Side) (i p : ℕ) → Plain (valueOnNet T side i p)
 unfolding valueOnNet
-value-on-net-small T side i p =
-    either (λ (g : Given). g .number) (leb (T .counts .components) i || leb (portCount T side i) p) (declined (refusedBy 17))
-    (valueGives (PortIs (valueAt T side i p))) (omega arith) (omega arith)
+value-on-net-plain T side i p =
+    either (leb (T .counts .components) i || leb (portCount T side i) p) (declined (refusedBy 17))
+    (valueGives (PortIs (valueAt T side i p))) (declined-plain 17 (omega arith)) (record { small = omega arith; at-0 = refl })
 
-fits : (g h : Given) → g ≡ h → h .number ≤ 19 → g .number < 65536
-fits g h e l =
-    let same : g .number ≡ h .number = ap (λ (x : Given). x .number) e in
-    omega arith
+-- So is whatever equals it.
+plain-as : (g h : Given) → g ≡ h → Plain h → Plain g
+plain-as g h e p = subst Plain (sym e) p
 
-pub changed-small : (T : Tables) (g : Given) (xs : List ℕ) → g ≡ giving (netNumber T) xs → g .number < 65536
-changed-small T g xs e = fits g (giving (netNumber T) xs) e (giving-small (netNumber T) xs (net-small T))
+pub changed-plain : (T : Tables) (g : Given) (xs : List ℕ) → g ≡ giving (netNumber T) xs → Plain g
+changed-plain T g xs e = plain-as g (giving (netNumber T) xs) e (giving-plain (netNumber T) xs (net-small T))
 
-pub edited-small : (T : Tables) (i v : ℕ) (g : Given) (xs : List ℕ) → g ≡ giving (editNumber T i v) xs → g .number < 65536
-edited-small T i v g xs e = fits g (giving (editNumber T i v) xs) e (giving-small (editNumber T i v) xs (edit-number-small T i v))
+pub edited-plain : (T : Tables) (i v : ℕ) (g : Given) (xs : List ℕ) → g ≡ giving (editNumber T i v) xs → Plain g
+edited-plain T i v g xs e = plain-as g (giving (editNumber T i v) xs) e (giving-plain (editNumber T i v) xs (edit-number-small T i v))
 
-pub calm-small : (T : Tables) (g : Given) → g ≡ ofNet T (done (level (calm T) ∷ [])) → g .number < 65536
-calm-small T g e = fits g (ofNet T (done (level (calm T) ∷ []))) e (ofNet-small T (done (level (calm T) ∷ [])) (omega arith))
+pub calm-plain : (T : Tables) (r : Calm) → AsksCalm T r → Plain (calmGives r)
+calm-plain T r e =
+    plain-as (calmGives r) (ofNet T (done (level (calm T) ∷ []))) e (ofNet-plain T (done (level (calm T) ∷ [])) (done-plain (level (calm T) ∷ [])))
 
-pub index-small : (T : Tables) (id : ℕ) (g : Given) → g ≡ ofNet T (indexFound (indexOf T id)) → g .number < 65536
-index-small T id g e = fits g (ofNet T (indexFound (indexOf T id))) e (ofNet-small T (indexFound (indexOf T id)) (found-small (indexOf T id)))
+pub index-plain : (T : Tables) (id : ℕ) (r : Index) → AsksIndex T id r → Plain (indexGives r)
+index-plain T id r e =
+    plain-as (indexGives r) (ofNet T (indexFound (indexOf T id))) e (ofNet-plain T (indexFound (indexOf T id)) (found-plain (indexOf T id)))
 
-pub value-small : (T : Tables) (side : Side) (i p : ℕ) (g : Given) → g ≡ ofNet T (valueOnNet T side i p) → g .number < 65536
-value-small T side i p g e =
-    fits g (ofNet T (valueOnNet T side i p)) e (ofNet-small T (valueOnNet T side i p) (value-on-net-small T side i p))
+pub value-plain : (T : Tables) (side : Side) (i p : ℕ) (r : Port) → AsksValue T side i p r → Plain (valueGives r)
+value-plain T side i p r e =
+    plain-as (valueGives r) (ofNet T (valueOnNet T side i p)) e (ofNet-plain T (valueOnNet T side i p) (value-on-net-plain T side i p))
 
-pub listed-small : (T : Tables) (i : ℕ) (ls : List ℕ) (g : Given) (xs : List ℕ) → g ≡ giving (listNumber T i ls) xs → g .number < 65536
-listed-small T i ls g xs e = fits g (giving (listNumber T i ls) xs) e (giving-small (listNumber T i ls) xs (list-number-small T i ls))
+pub listed-plain : (T : Tables) (i : ℕ) (ls : List ℕ) (g : Given) (xs : List ℕ) → g ≡ giving (listNumber T i ls) xs → Plain g
+listed-plain T i ls g xs e = plain-as g (giving (listNumber T i ls) xs) e (giving-plain (listNumber T i ls) xs (list-number-small T i ls))
 
-pub evaluate-small : (f : Fields) (xs vs ys ws : List ℕ) (g : Given) → g ≡ giving (evaluateNumber f xs vs ys ws) [] → g .number < 65536
-evaluate-small f xs vs ys ws g e =
-    fits g (giving (evaluateNumber f xs vs ys ws) []) e
-    (giving-small (evaluateNumber f xs vs ys ws) [] (evaluate-number-small f xs vs ys ws))
+pub evaluate-plain : (f : Fields) (xs vs ys ws : List ℕ) (g : Given) → g ≡ giving (evaluateNumber f xs vs ys ws) [] → Plain g
+evaluate-plain f xs vs ys ws g e =
+    plain-as g (giving (evaluateNumber f xs vs ys ws) []) e
+    (giving-plain (evaluateNumber f xs vs ys ws) [] (evaluate-number-small f xs vs ys ws))
 
 -- A load's number and position fit the answer.
 spoken-small : (file : List ℕ) (v : Verdict) → verdict file ≡ v → spokenOf v < 4294967296

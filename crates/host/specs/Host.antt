@@ -1,30 +1,39 @@
--- What the calls of the screen's host give back. docs/SPECIFICATION.md, "Rounds" (the host's call) and "Numbers given back".
---   countsIn                 the counts that seven words hold
---   told, laid, made         a call's answer, the words it lays, the tables it leaves: 2 where lent words are too few
---   CallChanges, Answers         what a call that changes the tables promises, and one that asks
+-- What the calls of the screen's host promise. docs/SPECIFICATION.md, "Rounds" (the host's call) and "Numbers given back". Each promise is the engine's
+-- own, by name, on the tables that the lent slices and the count words make.
+--   countsIn ws      the counts that words hold
+--   valuesIn g       the values of what a call gives: a refused call has none to lay
+--   short ws n       fewer than n words are lent
+--   CallChanges, CallRuns, CallAsks, CallLists, CallEvaluates   the promises of the calls, by their shape
+-- `lent` and `left` are the seven tables before and after, each by its counts; ws and ws′ are the count words, fs and fs′ the words that are lent for an
+-- answer's values; `few` says that fewer words are lent than the call needs: it then gives 2 and writes nothing. r is what the call says.
 -- Assumes nothing.
-use Prim.Native.Nat.{ℕ, _+_, _*_}
+use Prim.Native.Nat.{ℕ}
 use mathlib.Core.Path.{_≡_}
-use mathlib.Core.Bool.{Bool, cond, _&&_, _||_}
+use mathlib.Core.Bool.{Bool, true, false, cond}
 use mathlib.Core.List.{List, []}
 use mathlib.Core.Option.{Option, none, some}
 use lib.ListN.{length, getD, take, drop}
 use lib.Dec.{eqb, ltb}
 use Rattle.lists.specs.Lists.{overlay}
 use Rattle.primitive.specs.declared.table.Fields.{Fields}
-use Rattle.primitive.specs.Given.{Given, spoken}
-use Rattle.flatten.specs.Verdict.{sized, verdictGives}
+use Rattle.primitive.specs.declared.answers.Evaluated.{Evaluated}
+use Rattle.primitive.specs.Given.{Given, declined, refusedBy, spoken}
+use Rattle.primitive.specs.Evaluate.{evaluatedGives, Evaluates}
 use Rattle.tables.specs.declared.Counts.{Counts}
-use Rattle.tables.specs.Tables.{Tables, countsOf, countWords}
-use Rattle.load.specs.Load.{loadVerdict, loadTables}
+use Rattle.tables.specs.declared.Answer.{Answer}
+use Rattle.tables.specs.Tables.{Tables, countsOf, answerGives}
 use Rattle.simulator.specs.declared.Side.{Side}
 use Rattle.simulator.specs.declared.Side.the-variants.{Inputs, Outputs}
+use Rattle.simulator.specs.declared.Ran.{Ran}
+use Rattle.simulator.specs.declared.Listed.{Listed}
+use Rattle.simulator.specs.Calls.{ranGives}
+use Rattle.simulator.specs.Questions.{listGives}
 
 -- The counts that words hold.
 unfoldable pub countsIn : List ℕ → Counts
 countsIn ws = countsOf (getD ws 0 0) (getD ws 1 0) (getD ws 2 0) (getD ws 3 0) (getD ws 4 0) (getD ws 5 0) (getD ws 6 0)
 
--- The values of what a call gives; a refused one has none to lay.
+-- The values of what a call gives; a refused one has none.
 abbrev pub valuesOf : Option (List ℕ) → List ℕ
 valuesOf (some xs) = xs
 valuesOf none = []
@@ -32,28 +41,13 @@ valuesOf none = []
 abbrev pub valuesIn : Given → List ℕ
 valuesIn g = valuesOf (g .values)
 
--- Fewer words are lent than a call needs.
+-- Fewer than n words are lent.
 abbrev pub short : List ℕ → ℕ → Bool
 short ws n = ltb (length ws) n
 
--- The answer of a call that gives g, at position 0.
-abbrev pub told : Bool → Given → ℕ
-told few g = 65536 * cond few 2 (g .number)
-
--- The lent words after it, where these are laid.
-abbrev pub laid : Bool → List ℕ → List ℕ → List ℕ
-laid few xs ws = cond few ws (overlay xs ws)
-
--- Of the values of a run the first two are rounds and evaluations, the others the counts.
-abbrev pub runWords : Given → List ℕ
-runWords g = take 2 (valuesIn g)
-
-abbrev pub runCounts : Given → List ℕ
-runCounts g = drop 2 (valuesIn g)
-
--- What a call gives that leaves such tables: `given` and `after` are those of the engine's promise.
-abbrev pub gave : (Tables → List ℕ → Given) → (Tables → Tables) → Tables → Given
-gave given after T = given T (countWords (after T .counts))
+-- What a call says that is lent too few words: 2, at position 0.
+abbrev pub saysShort : ℕ
+saysShort = spoken (declined (refusedBy 2))
 
 -- Side 0 is a component's inputs, any other its outputs.
 abbrev pub sideOf : ℕ → Side
@@ -63,58 +57,33 @@ sideOf s = cond (eqb s 0) Inputs Outputs
 abbrev pub fieldsFrom : ℕ → ℕ → ℕ → ℕ → ℕ → Fields
 fieldsFrom k i o w p = record { kind = k; inputs = i; outputs = o; width = w; parameter = p }
 
--- What calls promise. `lent` and `left` are the seven tables before and after, each by its counts; ws and ws′ the count words; fs and
--- fs′ the words that are lent for an answer's values; `few` says that fewer words are lent than the call needs. The others are the
--- engine's own definitions.
+-- A load, a round or an edit, where P is the engine's promise: its answer is said, and its counts are laid over the count words.
+pub data CallChanges (P : Tables → Answer → Tables → Type 0) (few : Bool) (ws ws′ : List ℕ) (lent left : Counts → Tables) (r : ℕ) : Type 0 where
+  fewCounts : few ≡ true → r ≡ saysShort → ws′ ≡ ws → left (countsIn ws) ≡ lent (countsIn ws) → CallChanges P few ws ws′ lent left r
+  changed : (a : Answer) → few ≡ false → P (lent (countsIn ws)) a (left (countsIn ws′)) → r ≡ spoken (answerGives a)
+      → ws′ ≡ overlay (valuesIn (answerGives a)) ws → CallChanges P few ws ws′ lent left r
 
--- The tables after: those that came, where too few words are lent.
-abbrev pub made : Bool → Tables → Tables → Tables
-made few new old = cond few old new
+-- Run until calm: rounds and evaluations, the first two values, are laid over fs, the counts over the count words.
+pub data CallRuns (P : Tables → Ran → Tables → Type 0) (few : Bool) (ws ws′ fs fs′ : List ℕ) (lent left : Counts → Tables) (r : ℕ) : Type 0 where
+  fewToRun : few ≡ true → r ≡ saysShort → ws′ ≡ ws → fs′ ≡ fs → left (countsIn ws) ≡ lent (countsIn ws) → CallRuns P few ws ws′ fs fs′ lent left r
+  ran : (a : Ran) → few ≡ false → P (lent (countsIn ws)) a (left (countsIn ws′)) → r ≡ spoken (ranGives a)
+      → ws′ ≡ overlay (drop 2 (valuesIn (ranGives a))) ws → fs′ ≡ overlay (take 2 (valuesIn (ranGives a))) fs
+      → CallRuns P few ws ws′ fs fs′ lent left r
 
--- A round or an edit.
-pub record CallChanges (given : Tables → List ℕ → Given) (after : Tables → Tables) (ws ws′ : List ℕ) (lent left : Counts → Tables) (r : ℕ) : Type 0 where
-  pub answered : r ≡ told (short ws 7) (gave given after (lent (countsIn ws)))
-  pub counted : ws′ ≡ laid (short ws 7) (valuesIn (gave given after (lent (countsIn ws)))) ws
-  pub tables :
-      left (made (short ws 7) (after (lent (countsIn ws))) (lent (countsIn ws)) .counts)
-      ≡ made (short ws 7) (after (lent (countsIn ws))) (lent (countsIn ws))
+-- A question: its values are laid over fs.
+pub data CallAsks {A : Type 0} (gives : A → Given) (P : Tables → A → Type 0) (few : Bool) (ws fs fs′ : List ℕ) (lent : Counts → Tables) (r : ℕ) : Type 0 where
+  fewToAsk : few ≡ true → r ≡ saysShort → fs′ ≡ fs → CallAsks gives P few ws fs fs′ lent r
+  asked : (a : A) → few ≡ false → P (lent (countsIn ws)) a → r ≡ spoken (gives a) → fs′ ≡ overlay (valuesIn (gives a)) fs
+      → CallAsks gives P few ws fs fs′ lent r
 
--- Too few words for a run until calm, or for a question whose answer has n values.
-abbrev pub fewer : List ℕ → List ℕ → ℕ → Bool
-fewer ws fs n = short ws 7 || short fs n
+-- A question that lays a list: ls and ls′ are the lent list before and after.
+pub data CallLists (P : Tables → List ℕ → Listed → List ℕ → Type 0) (few : Bool) (ws ls ls′ fs fs′ : List ℕ) (lent : Counts → Tables) (r : ℕ) : Type 0 where
+  fewToList : few ≡ true → r ≡ saysShort → ls′ ≡ ls → fs′ ≡ fs → CallLists P few ws ls ls′ fs fs′ lent r
+  listed : (a : Listed) → few ≡ false → P (lent (countsIn ws)) ls a ls′ → r ≡ spoken (listGives a)
+      → fs′ ≡ overlay (valuesIn (listGives a)) fs → CallLists P few ws ls ls′ fs fs′ lent r
 
--- Run until calm.
-pub record CallRuns (given : Tables → List ℕ → Given) (after : Tables → Tables) (ws ws′ fs fs′ : List ℕ) (lent left : Counts → Tables) (r : ℕ) : Type 0 where
-  pub answered : r ≡ told (fewer ws fs 2) (gave given after (lent (countsIn ws)))
-  pub counted : ws′ ≡ laid (fewer ws fs 2) (runCounts (gave given after (lent (countsIn ws)))) ws
-  pub found : fs′ ≡ laid (fewer ws fs 2) (runWords (gave given after (lent (countsIn ws)))) fs
-  pub tables :
-      left (made (fewer ws fs 2) (after (lent (countsIn ws))) (lent (countsIn ws)) .counts)
-      ≡ made (fewer ws fs 2) (after (lent (countsIn ws))) (lent (countsIn ws))
-
--- A question whose answer has n values.
-pub record CallAnswers (gives : Tables → Given) (n : ℕ) (ws fs fs′ : List ℕ) (lent : Counts → Tables) (r : ℕ) : Type 0 where
-  pub answered : r ≡ told (fewer ws fs n) (gives (lent (countsIn ws)))
-  pub found : fs′ ≡ laid (fewer ws fs n) (valuesIn (gives (lent (countsIn ws)))) fs
-
--- A question that also lays a list: ls and ls′ are the lent list before and after.
-pub record CallLists (gives : Tables → Given) (list : Tables → List ℕ) (ws ls ls′ fs fs′ : List ℕ) (lent : Counts → Tables) (r : ℕ) : Type 0 where
-  pub answered : r ≡ told (fewer ws fs 1) (gives (lent (countsIn ws)))
-  pub listed : ls′ ≡ cond (fewer ws fs 1) ls (list (lent (countsIn ws)))
-  pub found : fs′ ≡ laid (fewer ws fs 1) (valuesIn (gives (lent (countsIn ws)))) fs
-
--- Too few words for a load, whose check 1 comes before 2.
-abbrev pub fewToLoad : List ℕ → List ℕ → Bool
-fewToLoad file ws = sized file && short ws 7
-
--- What a load gives.
-abbrev pub loadGives : List ℕ → Tables → Given
-loadGives file = gave (λ T. verdictGives (loadVerdict file T)) (loadTables file)
-
--- A load.
-pub record CallLoads (file ws ws′ : List ℕ) (lent left : Counts → Tables) (r : ℕ) : Type 0 where
-  pub answered : r ≡ cond (fewToLoad file ws) 131072 (spoken (loadGives file (lent (countsIn ws))))
-  pub counted : ws′ ≡ laid (fewToLoad file ws) (valuesIn (loadGives file (lent (countsIn ws)))) ws
-  pub tables :
-      left (made (fewToLoad file ws) (loadTables file (lent (countsIn ws))) (lent (countsIn ws)) .counts)
-      ≡ made (fewToLoad file ws) (loadTables file (lent (countsIn ws))) (lent (countsIn ws))
+-- Evaluating one component: zs are the output numbers afterwards.
+pub record CallEvaluates (f : Fields) (xs vs ys ws : List ℕ) (t r : ℕ) (zs : List ℕ) : Type 0 where
+  pub answer : Evaluated
+  pub promised : Evaluates f xs vs ys ws t answer zs
+  pub said : r ≡ spoken (evaluatedGives answer)

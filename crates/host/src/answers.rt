@@ -1,13 +1,13 @@
 // Answers in lent words.
 ghost use mathlib.Core.Path.{_≡_};
 ghost use Prim.Native.Nat.{_*_, _<_, _≤_};
-ghost use lib.ListN.{length};
+ghost use lib.ListN.{length, take, drop};
 ghost use Rattle.lists.specs.Lists.{overlay};
 ghost use Rattle.value.specs.Value.{level};
 ghost use Rattle.primitive.specs.Evaluate.{evaluatedGives};
 ghost use Rattle.simulator.specs.Calls.{ranGives};
 ghost use Rattle.simulator.specs.Questions.{calmGives, indexGives, valueGives, listGives};
-ghost use Rattle.host.specs.Host.{valuesIn, runWords, runCounts, sideOf};
+ghost use Rattle.host.specs.Host.{valuesIn, sideOf};
 use crate::counts::lay;
 use primitive::Evaluated;
 use simulator::Calm;
@@ -100,7 +100,9 @@ pub(crate) fn lay_listed(found: &mut [u64], answer: Listed) -> u32
 // The counts of a run, and its two words.
 pub(crate) fn lay_run(words: &mut [u64], found: &mut [u64], answer: Ran) -> u32
     requires { ⌜ (7 ≤ length (now words)) × (2 ≤ length (now found)) × (ranGives answer .number < 65536) ⌝ }
-    ensures { λ r. ⌜ (r ≡ 65536 * ranGives answer .number) × (now (words .exit) ≡ overlay (runCounts (ranGives answer)) (now (words .entry))) × (now (found .exit) ≡ overlay (runWords (ranGives answer)) (now (found .entry))) ⌝ }
+    ensures { λ r. ⌜ (r ≡ 65536 * ranGives answer .number)
+        × (now (words .exit) ≡ overlay (drop 2 (valuesIn (ranGives answer))) (now (words .entry)))
+        × (now (found .exit) ≡ overlay (take 2 (valuesIn (ranGives answer))) (now (found .entry))) ⌝ }
 {
     match answer {
         Ran::Done {

@@ -1,11 +1,8 @@
 // Calm or not, called from C.
+ghost use mathlib.Core.Bool.{_||_};
 ghost use Rattle.tables.specs.Tables.{tablesOf};
-ghost use mathlib.Core.List.{[], _∷_};
-ghost use Rattle.value.specs.Value.{level};
-ghost use Rattle.primitive.specs.Given.{done};
-ghost use Rattle.simulator.specs.Round.{calm};
-ghost use Rattle.simulator.specs.Questions.{ofNet};
-ghost use Rattle.host.specs.Host.{CallAnswers};
+ghost use Rattle.simulator.specs.Questions.{calmGives, AsksCalm};
+ghost use Rattle.host.specs.Host.{short, CallAsks};
 use crate::answers::lay_calm;
 use crate::counts::counts_in;
 
@@ -22,7 +19,11 @@ pub extern "C" fn berxundar_calm(
     counts: &[u64],
     found: &mut [u64],
 ) -> u32
-    ensures { λ r. ⌜ CallAnswers (λ T. ofNet T (done (level (calm T) ∷ []))) 1 (now (counts .entry)) (now (found .entry)) (now (found .exit)) (tablesOf (now (components .entry)) (now (inputs .entry)) (now (outputs .entry)) (now (wires .entry)) (now (current .entry)) (now (following .entry)) (now (standing .entry))) r ⌝ }
+    ensures { λ r.
+        let lent = tablesOf (now (components .entry)) (now (inputs .entry)) (now (outputs .entry)) (now (wires .entry))
+        (now (current .entry)) (now (following .entry)) (now (standing .entry)) in
+        ⌜ CallAsks calmGives AsksCalm (short (now (counts .entry)) 7 || short (now (found .entry)) 1) (now (counts .entry)) (now (found .entry)) (now (found .exit))
+        lent r ⌝ }
 {
     if (counts.len() < 7) | (found.len() < 1) {
         return 131072;

@@ -1,8 +1,7 @@
 // An edit, called from C.
-ghost use Rattle.primitive.specs.Given.{giving};
 ghost use Rattle.tables.specs.Tables.{tablesOf};
-ghost use Rattle.simulator.specs.Calls.{editNumber, editTables};
-ghost use Rattle.host.specs.Host.{CallChanges};
+ghost use Rattle.simulator.specs.Calls.{Edits};
+ghost use Rattle.host.specs.Host.{short, CallChanges};
 use crate::counts::counts_in;
 use crate::counts::keep;
 use component::FlatIdx;
@@ -21,7 +20,12 @@ pub extern "C" fn berxundar_edit(
     index: usize,
     number: u64,
 ) -> u32
-    ensures { λ r. ⌜ CallChanges (λ T. giving (editNumber T index number)) (λ T. editTables T index number) (now (counts .entry)) (now (counts .exit)) (tablesOf (now (components .entry)) (now (inputs .entry)) (now (outputs .entry)) (now (wires .entry)) (now (current .entry)) (now (following .entry)) (now (standing .entry))) (tablesOf (now (components .entry)) (now (inputs .exit)) (now (outputs .exit)) (now (wires .entry)) (now (current .entry)) (now (following .entry)) (now (standing .exit))) r ⌝ }
+    ensures { λ r.
+        let lent = tablesOf (now (components .entry)) (now (inputs .entry)) (now (outputs .entry)) (now (wires .entry))
+        (now (current .entry)) (now (following .entry)) (now (standing .entry)) in
+        let left = tablesOf (now (components .entry)) (now (inputs .exit)) (now (outputs .exit)) (now (wires .entry))
+        (now (current .entry)) (now (following .entry)) (now (standing .exit)) in
+        ⌜ CallChanges (Edits index number) (short (now (counts .entry)) 7) (now (counts .entry)) (now (counts .exit)) lent left r ⌝ }
 {
     if counts.len() < 7 {
         return 131072;

@@ -1,10 +1,5 @@
 // Evaluating one component, called from C.
-ghost use mathlib.Core.Path.{_≡_};
-ghost use Prim.Native.Nat.{_*_};
-ghost use mathlib.Core.List.{[]};
-ghost use Rattle.primitive.specs.Given.{giving};
-ghost use Rattle.primitive.specs.Evaluate.{evaluateNumber, evaluateOutputs};
-ghost use Rattle.host.specs.Host.{fieldsFrom};
+ghost use Rattle.host.specs.Host.{fieldsFrom, CallEvaluates};
 use crate::answers::say_evaluated;
 use primitive::Fields;
 
@@ -23,7 +18,8 @@ pub extern "C" fn berxundar_evaluate(
     leaving: &[u64],
     time: u64,
 ) -> u32
-    ensures { λ r. ⌜ (r ≡ 65536 * giving (evaluateNumber (fieldsFrom kind ins outs width parameter) (now (inputs .entry)) (now (entering .entry)) (now (outputs .entry)) (now (leaving .entry))) [] .number) × (now (outputs .exit) ≡ evaluateOutputs (fieldsFrom kind ins outs width parameter) (now (inputs .entry)) (now (entering .entry)) (now (outputs .entry)) (now (leaving .entry)) time) ⌝ }
+    ensures { λ r. ⌜ CallEvaluates (fieldsFrom kind ins outs width parameter) (now (inputs .entry)) (now (entering .entry)) (now (outputs .entry))
+        (now (leaving .entry)) time r (now (outputs .exit)) ⌝ }
 {
     let f = Fields {
         kind,

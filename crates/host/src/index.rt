@@ -1,7 +1,8 @@
 // The index of an id, called from C.
-ghost use Rattle.tables.specs.Tables.{tablesOf, indexOf};
-ghost use Rattle.simulator.specs.Questions.{ofNet, indexFound};
-ghost use Rattle.host.specs.Host.{CallAnswers};
+ghost use mathlib.Core.Bool.{_||_};
+ghost use Rattle.tables.specs.Tables.{tablesOf};
+ghost use Rattle.simulator.specs.Questions.{indexGives, AsksIndex};
+ghost use Rattle.host.specs.Host.{short, CallAsks};
 use crate::answers::lay_index;
 use crate::counts::counts_in;
 use component::Id;
@@ -20,7 +21,11 @@ pub extern "C" fn berxundar_index(
     id: u32,
     found: &mut [u64],
 ) -> u32
-    ensures { λ r. ⌜ CallAnswers (λ T. ofNet T (indexFound (indexOf T id))) 1 (now (counts .entry)) (now (found .entry)) (now (found .exit)) (tablesOf (now (components .entry)) (now (inputs .entry)) (now (outputs .entry)) (now (wires .entry)) (now (current .entry)) (now (following .entry)) (now (standing .entry))) r ⌝ }
+    ensures { λ r.
+        let lent = tablesOf (now (components .entry)) (now (inputs .entry)) (now (outputs .entry)) (now (wires .entry))
+        (now (current .entry)) (now (following .entry)) (now (standing .entry)) in
+        ⌜ CallAsks indexGives (λ T. AsksIndex T id) (short (now (counts .entry)) 7 || short (now (found .entry)) 1) (now (counts .entry)) (now (found .entry)) (now (found .exit))
+        lent r ⌝ }
 {
     if (counts.len() < 7) | (found.len() < 1) {
         return 131072;

@@ -1,10 +1,9 @@
 // Whether tables are a net, called from C.
-ghost use mathlib.Core.Path.{_≡_};
-ghost use Prim.Native.Nat.{_*_};
-ghost use mathlib.Core.Bool.{cond};
+ghost use mathlib.Core.List.{[]};
+ghost use Rattle.primitive.specs.Given.{giving};
 ghost use Rattle.tables.specs.Tables.{tablesOf};
-ghost use Rattle.net.specs.Net.{netNumber};
-ghost use Rattle.host.specs.Host.{countsIn, short};
+ghost use Rattle.net.specs.Net.{Checks};
+ghost use Rattle.host.specs.Host.{short, CallAsks};
 use crate::answers::speak;
 use crate::counts::counts_in;
 
@@ -20,7 +19,10 @@ pub extern "C" fn berxundar_check(
     standing: &[u16],
     counts: &[u64],
 ) -> u32
-    ensures { λ r. ⌜ r ≡ 65536 * cond (short (now (counts .entry)) 7) 2 (netNumber (tablesOf (now (components .entry)) (now (inputs .entry)) (now (outputs .entry)) (now (wires .entry)) (now (current .entry)) (now (following .entry)) (now (standing .entry)) (countsIn (now (counts .entry))))) ⌝ }
+    ensures { λ r.
+        let lent = tablesOf (now (components .entry)) (now (inputs .entry)) (now (outputs .entry)) (now (wires .entry))
+        (now (current .entry)) (now (following .entry)) (now (standing .entry)) in
+        ⌜ CallAsks (λ k. giving k []) Checks (short (now (counts .entry)) 7) (now (counts .entry)) [] [] lent r ⌝ }
 {
     if counts.len() < 7 {
         return 131072;

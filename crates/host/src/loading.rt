@@ -1,6 +1,9 @@
 // A load, called from C.
+ghost use mathlib.Core.Bool.{_&&_};
+ghost use Rattle.flatten.specs.Verdict.{sized};
 ghost use Rattle.tables.specs.Tables.{tablesOf};
-ghost use Rattle.host.specs.Host.{CallLoads};
+ghost use Rattle.load.specs.Load.{Loads};
+ghost use Rattle.host.specs.Host.{short, CallChanges};
 use crate::counts::keep_loaded;
 
 // Loads a drawing file into the tables.
@@ -16,7 +19,12 @@ pub extern "C" fn berxundar_load(
     standing: &mut [u16],
     counts: &mut [u64],
 ) -> u32
-    ensures { λ r. ⌜ CallLoads (now (file .entry)) (now (counts .entry)) (now (counts .exit)) (tablesOf (now (components .entry)) (now (inputs .entry)) (now (outputs .entry)) (now (wires .entry)) (now (current .entry)) (now (following .entry)) (now (standing .entry))) (tablesOf (now (components .exit)) (now (inputs .exit)) (now (outputs .exit)) (now (wires .exit)) (now (current .exit)) (now (following .exit)) (now (standing .exit))) r ⌝ }
+    ensures { λ r.
+        let lent = tablesOf (now (components .entry)) (now (inputs .entry)) (now (outputs .entry)) (now (wires .entry))
+        (now (current .entry)) (now (following .entry)) (now (standing .entry)) in
+        let left = tablesOf (now (components .exit)) (now (inputs .exit)) (now (outputs .exit)) (now (wires .exit))
+        (now (current .exit)) (now (following .exit)) (now (standing .exit)) in
+        ⌜ CallChanges (Loads (now (file .entry))) (sized (now (file .entry)) && short (now (counts .entry)) 7) (now (counts .entry)) (now (counts .exit)) lent left r ⌝ }
 {
     if !flatten::is_sized(file) {
         return 65536;

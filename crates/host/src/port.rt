@@ -1,7 +1,8 @@
 // A port's value, called from C.
+ghost use mathlib.Core.Bool.{_||_};
 ghost use Rattle.tables.specs.Tables.{tablesOf};
-ghost use Rattle.simulator.specs.Questions.{ofNet, valueOnNet};
-ghost use Rattle.host.specs.Host.{CallAnswers, sideOf};
+ghost use Rattle.simulator.specs.Questions.{valueGives, AsksValue};
+ghost use Rattle.host.specs.Host.{short, sideOf, CallAsks};
 use crate::answers::lay_value;
 use crate::answers::side_of;
 use crate::counts::counts_in;
@@ -23,7 +24,11 @@ pub extern "C" fn berxundar_value(
     port: usize,
     found: &mut [u64],
 ) -> u32
-    ensures { λ r. ⌜ CallAnswers (λ T. ofNet T (valueOnNet T (sideOf side) index port)) 2 (now (counts .entry)) (now (found .entry)) (now (found .exit)) (tablesOf (now (components .entry)) (now (inputs .entry)) (now (outputs .entry)) (now (wires .entry)) (now (current .entry)) (now (following .entry)) (now (standing .entry))) r ⌝ }
+    ensures { λ r.
+        let lent = tablesOf (now (components .entry)) (now (inputs .entry)) (now (outputs .entry)) (now (wires .entry))
+        (now (current .entry)) (now (following .entry)) (now (standing .entry)) in
+        ⌜ CallAsks valueGives (λ T. AsksValue T (sideOf side) index port) (short (now (counts .entry)) 7 || short (now (found .entry)) 2) (now (counts .entry)) (now (found .entry)) (now (found .exit))
+        lent r ⌝ }
 {
     if (counts.len() < 7) | (found.len() < 2) {
         return 131072;

@@ -1,9 +1,7 @@
 // A round, called from C.
 ghost use Rattle.tables.specs.Tables.{tablesOf};
-ghost use Rattle.primitive.specs.Given.{giving};
-ghost use Rattle.net.specs.Net.{netNumber};
-ghost use Rattle.simulator.specs.Calls.{roundTables};
-ghost use Rattle.host.specs.Host.{CallChanges};
+ghost use Rattle.simulator.specs.Calls.{Rounds};
+ghost use Rattle.host.specs.Host.{short, CallChanges};
 use crate::counts::counts_in;
 use crate::counts::keep;
 
@@ -20,7 +18,12 @@ pub extern "C" fn berxundar_round(
     counts: &mut [u64],
     time: u64,
 ) -> u32
-    ensures { λ r. ⌜ CallChanges (λ T. giving (netNumber T)) (λ T. roundTables T time) (now (counts .entry)) (now (counts .exit)) (tablesOf (now (components .entry)) (now (inputs .entry)) (now (outputs .entry)) (now (wires .entry)) (now (current .entry)) (now (following .entry)) (now (standing .entry))) (tablesOf (now (components .entry)) (now (inputs .exit)) (now (outputs .exit)) (now (wires .entry)) (now (current .exit)) (now (following .exit)) (now (standing .exit))) r ⌝ }
+    ensures { λ r.
+        let lent = tablesOf (now (components .entry)) (now (inputs .entry)) (now (outputs .entry)) (now (wires .entry))
+        (now (current .entry)) (now (following .entry)) (now (standing .entry)) in
+        let left = tablesOf (now (components .entry)) (now (inputs .exit)) (now (outputs .exit)) (now (wires .entry))
+        (now (current .exit)) (now (following .exit)) (now (standing .exit)) in
+        ⌜ CallChanges (Rounds time) (short (now (counts .entry)) 7) (now (counts .entry)) (now (counts .exit)) lent left r ⌝ }
 {
     if counts.len() < 7 {
         return 131072;

@@ -1,10 +1,8 @@
 // Run until calm, called from C.
+ghost use mathlib.Core.Bool.{_||_};
 ghost use Rattle.tables.specs.Tables.{tablesOf};
-ghost use mathlib.Core.List.{_∷_};
-ghost use Rattle.primitive.specs.Given.{giving};
-ghost use Rattle.net.specs.Net.{netNumber};
-ghost use Rattle.simulator.specs.Calls.{run, runTables};
-ghost use Rattle.host.specs.Host.{CallRuns};
+ghost use Rattle.simulator.specs.Calls.{Runs};
+ghost use Rattle.host.specs.Host.{short, CallRuns};
 use crate::answers::lay_run;
 use crate::counts::counts_in;
 
@@ -23,7 +21,13 @@ pub extern "C" fn berxundar_run_until_calm(
     limit: u16,
     found: &mut [u64],
 ) -> u32
-    ensures { λ r. ⌜ CallRuns (λ T counts. giving (netNumber T) (run limit time T .rounds ∷ run limit time T .evaluations ∷ counts)) (λ T. runTables T time limit) (now (counts .entry)) (now (counts .exit)) (now (found .entry)) (now (found .exit)) (tablesOf (now (components .entry)) (now (inputs .entry)) (now (outputs .entry)) (now (wires .entry)) (now (current .entry)) (now (following .entry)) (now (standing .entry))) (tablesOf (now (components .entry)) (now (inputs .exit)) (now (outputs .exit)) (now (wires .entry)) (now (current .exit)) (now (following .exit)) (now (standing .exit))) r ⌝ }
+    ensures { λ r.
+        let lent = tablesOf (now (components .entry)) (now (inputs .entry)) (now (outputs .entry)) (now (wires .entry))
+        (now (current .entry)) (now (following .entry)) (now (standing .entry)) in
+        let left = tablesOf (now (components .entry)) (now (inputs .exit)) (now (outputs .exit)) (now (wires .entry))
+        (now (current .exit)) (now (following .exit)) (now (standing .exit)) in
+        ⌜ CallRuns (Runs time limit) (short (now (counts .entry)) 7 || short (now (found .entry)) 2) (now (counts .entry)) (now (counts .exit))
+        (now (found .entry)) (now (found .exit)) lent left r ⌝ }
 {
     if (counts.len() < 7) | (found.len() < 2) {
         return 131072;

@@ -1,13 +1,8 @@
 // A component's sources, called from C.
-ghost use mathlib.Core.Bool.{cond};
-ghost use mathlib.Core.List.{[], _∷_};
-ghost use lib.ListN.{length};
-ghost use lib.Dec.{eqb};
-ghost use Rattle.lists.specs.Lists.{overlay};
-ghost use Rattle.primitive.specs.Given.{giving};
-ghost use Rattle.tables.specs.Tables.{tablesOf, sources};
-ghost use Rattle.simulator.specs.Questions.{listNumber};
-ghost use Rattle.host.specs.Host.{CallLists};
+ghost use mathlib.Core.Bool.{_||_};
+ghost use Rattle.tables.specs.Tables.{tablesOf};
+ghost use Rattle.simulator.specs.Questions.{AsksSources};
+ghost use Rattle.host.specs.Host.{short, CallLists};
 use crate::answers::lay_listed;
 use crate::counts::counts_in;
 use component::FlatIdx;
@@ -27,9 +22,11 @@ pub extern "C" fn berxundar_sources(
     list: &mut [u16],
     found: &mut [u64],
 ) -> u32
-    ensures { λ r. ⌜ CallLists (λ T. giving (listNumber T index (now (list .entry))) (length (sources T index) ∷ []))
-        (λ T. cond (eqb (listNumber T index (now (list .entry))) 0) (overlay (sources T index) (now (list .entry))) (now (list .entry)))
-        (now (counts .entry)) (now (list .entry)) (now (list .exit)) (now (found .entry)) (now (found .exit)) (tablesOf (now (components .entry)) (now (inputs .entry)) (now (outputs .entry)) (now (wires .entry)) (now (current .entry)) (now (following .entry)) (now (standing .entry))) r ⌝ }
+    ensures { λ r.
+        let lent = tablesOf (now (components .entry)) (now (inputs .entry)) (now (outputs .entry)) (now (wires .entry))
+        (now (current .entry)) (now (following .entry)) (now (standing .entry)) in
+        ⌜ CallLists (λ T. AsksSources T index) (short (now (counts .entry)) 7 || short (now (found .entry)) 1) (now (counts .entry)) (now (list .entry)) (now (list .exit))
+        (now (found .entry)) (now (found .exit)) lent r ⌝ }
 {
     if (counts.len() < 7) | (found.len() < 1) {
         return 131072;

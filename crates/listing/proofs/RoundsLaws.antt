@@ -27,7 +27,8 @@ use Rattle.simulator.proofs.Kept.{roundTables-net}
 use Rattle.text.specs.Text.{written, placeAfter}
 use Rattle.text.proofs.TextLaws.{ToCome, begun, put-piece}
 use Rattle.lines.specs.Lines.{roundLine, Puts}
-use Rattle.listing.specs.Listing.{fresh, ending, roundLines, calmOf, RoundMade}
+use Rattle.listing.specs.Listing.{fresh, ending, roundLines}
+use Rattle.listing.specs.Made.{RoundMade, calmOf}
 
 -- One round: the counts are those of the answer, and calm is asked of the tables that are left.
 module _ (T U : Tables) (net : netNumber T ≡ 0) where

@@ -3,15 +3,12 @@
 --   listing file   the whole text
 -- Assumes nothing.
 use Prim.Native.Nat.{ℕ, zero, suc}
-use mathlib.Core.Path.{_≡_}
 use mathlib.Core.Bool.{Bool, true, false, cond}
 use mathlib.Core.List.{List, _++_}
 use Rattle.component.specs.declared.Verdict.{Verdict}
 use Rattle.component.specs.declared.Verdict.the-variants.{Accepted, Refused}
 use Rattle.tables.specs.Tables.{Tables, tablesFilled, currentList}
 use Rattle.load.specs.Load.{loadVerdict, loadTables}
-use Rattle.simulator.specs.declared.Calm.{Calm}
-use Rattle.simulator.specs.declared.Calm.the-variants.{Is as CalmIs, Refused as NoCalm}
 use Rattle.simulator.specs.Round.{calm}
 use Rattle.simulator.specs.Calls.{roundTables}
 use Rattle.lines.specs.Lines.{ascii, componentsText, wiresText, roundLine, refusedLine}
@@ -40,13 +37,3 @@ listedText (Refused x) T = refusedLine x
 -- The listing of a file.
 unfoldable pub listing : List ℕ → List ℕ
 listing file = listedText (loadVerdict file fresh) (loadTables file fresh)
-
--- Words of inner contracts. Calm or not; a refusal, which a net never gets, ends the rounds.
-abbrev pub calmOf : Calm → Bool
-calmOf (CalmIs b) = b
-calmOf (NoCalm x) = true
-
--- What the function of one round promises: U are the tables after a round of T at time 0, and c says whether it left calm.
-pub record RoundMade (T U : Tables) (c : Bool) : Type 0 where
-  pub tables : U ≡ roundTables T 0
-  pub calmly : c ≡ calm U

@@ -1,9 +1,10 @@
 -- `berxundar_calm`: too few words, or what the engine answers.
 -- Assumes nothing.
+use mathlib.Core.Path.{_∙_}
 use Rattle.tables.specs.declared.Counts.{Counts}
 use Rattle.tables.specs.Tables.{Tables, tablesOf}
-use Rattle.simulator.specs.Questions.{calmGives}
-use Rattle.host.proofs.NumbersLaws.{calm-small}
+use Rattle.simulator.specs.Questions.{calmGives, AsksCalm}
+use Rattle.host.proofs.NumbersLaws.{plain-fits, plain-spoken, calm-plain}
 use Rattle.host.proofs.HostLaws.{enough-found, ask-short, ask-made}
 use borrow.Author.Needs.{needs}
 use Rattle.host.proofs.calm.berxundar_calm.Statement.{statement}
@@ -18,7 +19,7 @@ came s =
 
 returns : tie.Need-returns
 returns c =
-    ask-short _ _ _ _ _ (c .if1 .taken)
+    ask-short _ _ _ _ _ _ (c .if1 .taken)
 
 counts-in-requires : tie.Need-counts-in-requires
 counts-in-requires c κs = search needs
@@ -30,7 +31,7 @@ lay-calm-requires : tie.Need-lay-calm-requires
 lay-calm-requires c κs =
     let s = c .before .before .before .before .before .before .before .before .before .before .before .before .before in (
       enough-found (s .args .counts .now) (s .args .found .now) 1 (c .before .before .before .if1 .left),
-      calm-small (came s (c .before .before .counts-in .result)) (calmGives (c .before .is-calm .result)) (c .before .is-calm .ensures),
+      plain-fits (calmGives (c .before .is-calm .result)) (calm-plain (came s (c .before .before .counts-in .result)) (c .before .is-calm .result) (c .before .is-calm .ensures)),
     )
 
 same-length : tie.Need-same-length
@@ -42,8 +43,9 @@ returns-2 c =
     let m = c .before .before .before .before .before .counts-in in
     let r = c .before .before .before .before .is-calm in
     let k = c .before .before .lay-calm in
-    ask-made _ 1 (s .args .counts .now) (s .args .found .now) (came s) (m .result) (k .last .0) (k .result) (calmGives (r .result)) (c .before .before .before .before .before .before .if1 .left) (m .ensures)
-    (r .ensures) (k .ensures .0) (k .ensures .1)
+    let p = calm-plain (came s (m .result)) (r .result) (r .ensures) in
+    ask-made calmGives (AsksCalm) _ (s .args .counts .now) (s .args .found .now) (came s) (r .result) (m .result) (k .last .0) (k .result)
+    (c .before .before .before .before .before .before .if1 .left) (m .ensures) (r .ensures) (k .ensures .0 ∙ plain-spoken (calmGives (r .result)) p) (k .ensures .1)
 
 pub berxundar-calm-spec : {M : Type 1} → statement M
 berxundar-calm-spec =

@@ -1,9 +1,10 @@
 -- `berxundar_edit`: too few count words, or what the engine answers.
 -- Assumes nothing.
-use mathlib.Core.Path.{refl}
+use mathlib.Core.Path.{_∙_}
 use Rattle.tables.specs.declared.Counts.{Counts}
-use Rattle.tables.specs.Tables.{Tables, tablesOf, countWords, answerGives, countsAfter}
-use Rattle.host.proofs.NumbersLaws.{edited-small}
+use Rattle.tables.specs.Tables.{Tables, tablesOf, answerGives}
+use Rattle.simulator.specs.Calls.{Edits}
+use Rattle.host.proofs.NumbersLaws.{plain-fits, plain-spoken, edited-plain}
 use Rattle.host.proofs.HostLaws.{change-short, change-made}
 use borrow.Author.Needs.{needs}
 use Rattle.host.proofs.edit.berxundar_edit.Statement.{statement}
@@ -18,7 +19,7 @@ came s =
 
 returns : tie.Need-returns
 returns c =
-    change-short _ _ _ _ (c .if1 .taken) (λ m. refl)
+    change-short _ _ _ (c .if1 .taken)
 
 counts-in-requires : tie.Need-counts-in-requires
 counts-in-requires c κs = search needs
@@ -29,7 +30,10 @@ edit-requires c κs = search needs
 keep-requires : tie.Need-keep-requires
 keep-requires c κs =
     let s = c .before .before .before .before .before .before .before .before .before .before .before .before .before .before .before .before .before .before .before .before .before .before in
-    (c .before .before .before .before .before .before .before .before .before .before .before .before .before .if1 .left, edited-small (came s (c .before .before .before .before .before .before .before .before .counts-in .result)) (s .args .index) (s .args .number) (answerGives (c .before .before .before .before .before .before .before .edit .result)) (countWords (countsAfter (c .before .before .before .before .before .before .before .edit .result) _)) (c .before .before .before .before .before .before .before .edit .ensures .0))
+    let r = c .before .before .before .before .before .before .before .edit in (
+      c .before .before .before .before .before .before .before .before .before .before .before .before .before .if1 .left,
+      plain-fits (answerGives (r .result)) (edited-plain (came s (c .before .before .before .before .before .before .before .before .counts-in .result)) (s .args .index) (s .args .number) (answerGives (r .result)) _ (r .ensures .0)),
+    )
 
 same-length : tie.Need-same-length
 same-length c = search needs
@@ -49,8 +53,10 @@ returns-2 c =
     let m = c .before .before .before .before .before .before .before .before .before .before .before .counts-in in
     let r = c .before .before .before .before .before .before .before .before .before .before .edit in
     let k = c .before .before .keep in
-    change-made _ _ (s .args .counts .now) (came s) (m .result) (k .last .0) _ (k .result) (answerGives (r .result)) (countsAfter (r .result) (m .result)) (c .before .before .before .before .before .before .before .before .before .before .before .before .before .before .before .before .if1 .left) (m .ensures)
-    (λ n. refl) (r .ensures .0) (r .ensures .1) (k .ensures .0) (k .ensures .1)
+    let p = edited-plain (came s (m .result)) (s .args .index) (s .args .number) (answerGives (r .result)) _ (r .ensures .0) in
+    change-made (Edits (s .args .index) (s .args .number)) (s .args .counts .now) (came s) (r .result) (m .result) (k .last .0) _ (k .result)
+    (c .before .before .before .before .before .before .before .before .before .before .before .before .before .before .before .before .if1 .left) (m .ensures)
+    (r .ensures) (k .ensures .0 ∙ plain-spoken (answerGives (r .result)) p) (k .ensures .1)
 
 pub berxundar-edit-spec : {M : Type 1} → statement M
 berxundar-edit-spec =

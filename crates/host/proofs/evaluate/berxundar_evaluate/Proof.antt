@@ -1,11 +1,9 @@
 -- `berxundar_evaluate`: what the engine answers.
 -- Assumes nothing.
-use mathlib.Core.Path.{ap, _∙_}
-use Prim.Native.Nat.{_*_}
-use Rattle.primitive.specs.Given.{Given}
+use mathlib.Core.Path.{_∙_}
 use Rattle.primitive.specs.Evaluate.{evaluatedGives}
 use Rattle.host.specs.Host.{fieldsFrom}
-use Rattle.host.proofs.NumbersLaws.{evaluate-small}
+use Rattle.host.proofs.NumbersLaws.{plain-fits, plain-spoken, evaluate-plain}
 use borrow.Author.Needs.{needs}
 use Rattle.host.proofs.evaluate.berxundar_evaluate.Statement.{statement}
 use Rattle.host.proofs.evaluate.berxundar_evaluate.Tie as tie
@@ -17,14 +15,22 @@ say-evaluated-requires : tie.Need-say-evaluated-requires
 say-evaluated-requires c κs =
     let a = c .before .before .before .before .before .before .before .before .args in
     let f = fieldsFrom (a .kind) (a .ins) (a .outs) (a .width) (a .parameter) in
-    evaluate-small f (a .inputs .now) (a .entering .now) (a .outputs .now) (a .leaving .now) (evaluatedGives (c .before .before .evaluate .result)) (c .before .before .evaluate .ensures .0)
+    plain-fits (evaluatedGives (c .before .before .evaluate .result)) (evaluate-plain f (a .inputs .now) (a .entering .now) (a .outputs .now) (a .leaving .now) (evaluatedGives (c .before .before .evaluate .result)) (c .before .before .evaluate .ensures .0))
 
 same-length : tie.Need-same-length
 same-length c = search needs
 
 returns : tie.Need-returns
 returns c =
-    (c .say-evaluated .ensures ∙ ap (λ (x : Given). 65536 * x .number) (c .before .before .before .evaluate .ensures .0), c .before .before .before .evaluate .ensures .1)
+    let e = c .before .before .before .evaluate in
+    let a = c .before .before .before .before .before .before .before .before .before .args in
+    let f = fieldsFrom (a .kind) (a .ins) (a .outs) (a .width) (a .parameter) in
+    let p = evaluate-plain f (a .inputs .now) (a .entering .now) (a .outputs .now) (a .leaving .now) (evaluatedGives (e .result)) (e .ensures .0) in
+    record {
+      answer = e .result;
+      promised = e .ensures;
+      said = c .say-evaluated .ensures ∙ plain-spoken (evaluatedGives (e .result)) p;
+    }
 
 pub berxundar-evaluate-spec : {M : Type 1} → statement M
 berxundar-evaluate-spec =

@@ -1,9 +1,10 @@
 -- `berxundar_index`: too few words, or what the engine answers.
 -- Assumes nothing.
+use mathlib.Core.Path.{_∙_}
 use Rattle.tables.specs.declared.Counts.{Counts}
 use Rattle.tables.specs.Tables.{Tables, tablesOf}
-use Rattle.simulator.specs.Questions.{indexGives}
-use Rattle.host.proofs.NumbersLaws.{index-small}
+use Rattle.simulator.specs.Questions.{indexGives, AsksIndex}
+use Rattle.host.proofs.NumbersLaws.{plain-fits, plain-spoken, index-plain}
 use Rattle.host.proofs.HostLaws.{enough-found, ask-short, ask-made}
 use borrow.Author.Needs.{needs}
 use Rattle.host.proofs.index.berxundar_index.Statement.{statement}
@@ -18,7 +19,7 @@ came s =
 
 returns : tie.Need-returns
 returns c =
-    ask-short _ _ _ _ _ (c .if1 .taken)
+    ask-short _ _ _ _ _ _ (c .if1 .taken)
 
 counts-in-requires : tie.Need-counts-in-requires
 counts-in-requires c κs = search needs
@@ -30,7 +31,7 @@ lay-index-requires : tie.Need-lay-index-requires
 lay-index-requires c κs =
     let s = c .before .before .before .before .before .before .before .before .before .before .before .before .before in (
       enough-found (s .args .counts .now) (s .args .found .now) 1 (c .before .before .before .if1 .left),
-      index-small (came s (c .before .before .counts-in .result)) (s .args .id) (indexGives (c .before .index-of .result)) (c .before .index-of .ensures),
+      plain-fits (indexGives (c .before .index-of .result)) (index-plain (came s (c .before .before .counts-in .result)) (s .args .id) (c .before .index-of .result) (c .before .index-of .ensures)),
     )
 
 same-length : tie.Need-same-length
@@ -42,8 +43,9 @@ returns-2 c =
     let m = c .before .before .before .before .before .counts-in in
     let r = c .before .before .before .before .index-of in
     let k = c .before .before .lay-index in
-    ask-made _ 1 (s .args .counts .now) (s .args .found .now) (came s) (m .result) (k .last .0) (k .result) (indexGives (r .result)) (c .before .before .before .before .before .before .if1 .left) (m .ensures)
-    (r .ensures) (k .ensures .0) (k .ensures .1)
+    let p = index-plain (came s (m .result)) (s .args .id) (r .result) (r .ensures) in
+    ask-made indexGives (λ T. AsksIndex T (s .args .id)) _ (s .args .counts .now) (s .args .found .now) (came s) (r .result) (m .result) (k .last .0) (k .result)
+    (c .before .before .before .before .before .before .if1 .left) (m .ensures) (r .ensures) (k .ensures .0 ∙ plain-spoken (indexGives (r .result)) p) (k .ensures .1)
 
 pub berxundar-index-spec : {M : Type 1} → statement M
 berxundar-index-spec =

@@ -1,6 +1,6 @@
 -- `berxundar_load`: a file of no size, too few count words, or what the engine answers.
 -- Assumes nothing.
-use mathlib.Core.Path.{refl, sym, _∙_}
+use mathlib.Core.Path.{sym, _∙_}
 use borrow.Author.Tests.{not-true, not-false}
 use Rattle.tables.specs.declared.Counts.{Counts}
 use Rattle.tables.specs.Tables.{Tables, tablesOf, answerGives}
@@ -23,11 +23,11 @@ is-sized-requires c κs = search needs
 
 returns : tie.Need-returns
 returns c =
-    load-unsized _ _ _ (sym (c .before .is-sized .ensures) ∙ not-true _ (c .if1 .taken)) (λ m. refl)
+    load-unsized _ _ _ (sym (c .before .is-sized .ensures) ∙ not-true _ (c .if1 .taken))
 
 returns-2 : tie.Need-returns-2
 returns-2 c =
-    load-short _ _ _ (sym (c .before .before .is-sized .ensures) ∙ not-false _ (c .before .if1 .left)) (c .if2 .taken) (λ m. refl)
+    load-short _ _ _ (sym (c .before .before .is-sized .ensures) ∙ not-false _ (c .before .if1 .left)) (c .if2 .taken)
 
 load-requires : tie.Need-load-requires
 load-requires c κs = search needs
@@ -67,8 +67,8 @@ returns-3 c =
     let s = c .before .before .before .before .before .before .before .before .before .before .before .before .before .before .before .before .before .before .before .before .before .before .before .before .before .before .before .before .before .before .before .before .before .before .before .before .before .before in
     let r = c .before .before .before .before .before .before .before .before .before .before .before .before .before .before .before .before .before .before .load in
     let k = c .before .before .keep-loaded in
-    load-made (s .args .file .now) (s .args .counts .now) (came s) (k .last .0) _ (k .result) (r .result)
-    (sym (c .before .before .before .before .before .before .before .before .before .before .before .before .before .before .before .before .before .before .before .before .before .before .before .before .before .before .before .before .is-sized .ensures) ∙ not-false _ (c .before .before .before .before .before .before .before .before .before .before .before .before .before .before .before .before .before .before .before .before .before .before .before .before .before .before .before .if1 .left)) (c .before .before .before .before .before .before .before .before .before .before .before .before .before .before .before .before .before .before .before .before .before .before .before .before .before .before .if2 .left) (λ n. refl) (r .ensures) (k .ensures .0) (k .ensures .1)
+    load-made (s .args .file .now) (s .args .counts .now) (came s) (r .result) (k .last .0) _ (k .result)
+    (sym (c .before .before .before .before .before .before .before .before .before .before .before .before .before .before .before .before .before .before .before .before .before .before .before .before .before .before .before .before .is-sized .ensures) ∙ not-false _ (c .before .before .before .before .before .before .before .before .before .before .before .before .before .before .before .before .before .before .before .before .before .before .before .before .before .before .before .if1 .left)) (c .before .before .before .before .before .before .before .before .before .before .before .before .before .before .before .before .before .before .before .before .before .before .before .before .before .before .if2 .left) (r .ensures) (k .ensures .0) (k .ensures .1)
 
 pub berxundar-load-spec : {M : Type 1} → statement M
 berxundar-load-spec =

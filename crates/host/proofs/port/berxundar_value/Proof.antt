@@ -1,11 +1,12 @@
 -- `berxundar_value`: too few words, or what the engine answers.
 -- Assumes nothing.
-use mathlib.Core.Path.{ap, _∙_}
+use mathlib.Core.Path.{_∙_, subst}
 use Rattle.tables.specs.declared.Counts.{Counts}
 use Rattle.tables.specs.Tables.{Tables, tablesOf}
 use Rattle.simulator.specs.declared.Side.{Side}
-use Rattle.simulator.specs.Questions.{valueGives, ofNet, valueOnNet}
-use Rattle.host.proofs.NumbersLaws.{value-small}
+use Rattle.simulator.specs.Questions.{valueGives, AsksValue}
+use Rattle.host.specs.Host.{sideOf}
+use Rattle.host.proofs.NumbersLaws.{plain-fits, plain-spoken, value-plain}
 use Rattle.host.proofs.HostLaws.{enough-found, ask-short, ask-made}
 use borrow.Author.Needs.{needs}
 use Rattle.host.proofs.port.berxundar_value.Statement.{statement}
@@ -20,7 +21,7 @@ came s =
 
 returns : tie.Need-returns
 returns c =
-    ask-short _ _ _ _ _ (c .if1 .taken)
+    ask-short _ _ _ _ _ _ (c .if1 .taken)
 
 counts-in-requires : tie.Need-counts-in-requires
 counts-in-requires c κs = search needs
@@ -35,7 +36,7 @@ lay-value-requires : tie.Need-lay-value-requires
 lay-value-requires c κs =
     let s = c .before .before .before .before .before .before .before .before .before .before .before .before .before .before in (
       enough-found (s .args .counts .now) (s .args .found .now) 2 (c .before .before .before .before .if1 .left),
-      value-small (came s (c .before .before .before .counts-in .result)) (c .before .before .side-of .result) (s .args .index) (s .args .port) (valueGives (c .before .value-of .result)) (c .before .value-of .ensures),
+      plain-fits (valueGives (c .before .value-of .result)) (value-plain (came s (c .before .before .before .counts-in .result)) (c .before .before .side-of .result) (s .args .index) (s .args .port) (c .before .value-of .result) (c .before .value-of .ensures)),
     )
 
 same-length : tie.Need-same-length
@@ -47,8 +48,9 @@ returns-2 c =
     let m = c .before .before .before .before .before .before .counts-in in
     let r = c .before .before .before .before .value-of in
     let k = c .before .before .lay-value in
-    ask-made _ 2 (s .args .counts .now) (s .args .found .now) (came s) (m .result) (k .last .0) (k .result) (valueGives (r .result)) (c .before .before .before .before .before .before .before .if1 .left) (m .ensures)
-    (r .ensures ∙ ap (λ (x : Side). ofNet (came s (m .result)) (valueOnNet (came s (m .result)) x (s .args .index) (s .args .port))) (c .before .before .before .before .before .side-of .ensures)) (k .ensures .0) (k .ensures .1)
+    let p = value-plain (came s (m .result)) (c .before .before .before .before .before .side-of .result) (s .args .index) (s .args .port) (r .result) (r .ensures) in
+    ask-made valueGives (λ T. AsksValue T (sideOf (s .args .side)) (s .args .index) (s .args .port)) _ (s .args .counts .now) (s .args .found .now) (came s) (r .result) (m .result) (k .last .0) (k .result)
+    (c .before .before .before .before .before .before .before .if1 .left) (m .ensures) (subst (λ (x : Side). AsksValue (came s (m .result)) x (s .args .index) (s .args .port) (r .result)) (c .before .before .before .before .before .side-of .ensures) (r .ensures)) (k .ensures .0 ∙ plain-spoken (valueGives (r .result)) p) (k .ensures .1)
 
 pub berxundar-value-spec : {M : Type 1} → statement M
 berxundar-value-spec =

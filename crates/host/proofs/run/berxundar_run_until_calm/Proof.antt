@@ -1,10 +1,10 @@
 -- `berxundar_run_until_calm`: too few words, or what the engine answers.
 -- Assumes nothing.
-use mathlib.Core.Path.{refl}
+use mathlib.Core.Path.{_∙_}
 use Rattle.tables.specs.declared.Counts.{Counts}
-use Rattle.tables.specs.Tables.{Tables, tablesOf, countWords}
-use Rattle.simulator.specs.Calls.{ranGives, countsAfterRun}
-use Rattle.host.proofs.NumbersLaws.{changed-small}
+use Rattle.tables.specs.Tables.{Tables, tablesOf}
+use Rattle.simulator.specs.Calls.{ranGives, Runs}
+use Rattle.host.proofs.NumbersLaws.{plain-fits, plain-spoken, changed-plain}
 use Rattle.host.proofs.HostLaws.{enough-counts, enough-found, run-short, run-made}
 use borrow.Author.Needs.{needs}
 use Rattle.host.proofs.run.berxundar_run_until_calm.Statement.{statement}
@@ -19,7 +19,7 @@ came s =
 
 returns : tie.Need-returns
 returns c =
-    run-short _ _ _ _ _ (c .if1 .taken) (λ m. refl)
+    run-short _ _ _ _ (c .if1 .taken)
 
 counts-in-requires : tie.Need-counts-in-requires
 counts-in-requires c κs = search needs
@@ -33,7 +33,7 @@ lay-run-requires c κs =
     let h = c .before .before .before .before .before .before .before .before .before .before .before .before .before .before .before .before .before .before .before .before .if1 .left in (
       enough-counts (s .args .counts .now) (s .args .found .now) 2 h,
       enough-found (s .args .counts .now) (s .args .found .now) 2 h,
-      changed-small (came s (c .before .before .before .before .before .before .before .before .before .before .before .before .before .counts-in .result)) (ranGives (c .before .before .before .before .before .before .before .before .before .before .before .before .run-until-calm .result)) _ (c .before .before .before .before .before .before .before .before .before .before .before .before .run-until-calm .ensures .0),
+      plain-fits (ranGives (c .before .before .before .before .before .before .before .before .before .before .before .before .run-until-calm .result)) (changed-plain (came s (c .before .before .before .before .before .before .before .before .before .before .before .before .before .counts-in .result)) (ranGives (c .before .before .before .before .before .before .before .before .before .before .before .before .run-until-calm .result)) _ (c .before .before .before .before .before .before .before .before .before .before .before .before .run-until-calm .ensures .0)),
     )
 
 same-length : tie.Need-same-length
@@ -63,8 +63,10 @@ returns-2 c =
     let m = c .before .before .before .before .before .before .before .before .before .before .before .before .before .before .before .before .before .before .counts-in in
     let r = c .before .before .before .before .before .before .before .before .before .before .before .before .before .before .before .before .before .run-until-calm in
     let k = c .before .before .before .before .lay-run in
-    run-made _ _ (s .args .counts .now) (s .args .found .now) (came s) (m .result) (k .last .0) (k .last .1 .0) _ (k .result) (ranGives (r .result)) (countsAfterRun (r .result) (m .result)) (c .before .before .before .before .before .before .before .before .before .before .before .before .before .before .before .before .before .before .before .before .before .before .before .before .before .if1 .left) (m .ensures)
-    (λ n. refl) (r .ensures .0) (r .ensures .1) (k .ensures .0) (k .ensures .1) (k .ensures .2)
+    let p = changed-plain (came s (m .result)) (ranGives (r .result)) _ (r .ensures .0) in
+    run-made (Runs (s .args .time) (s .args .limit)) (s .args .counts .now) (s .args .found .now) (came s) (r .result) (m .result) (k .last .0) (k .last .1 .0) _
+    (k .result) (c .before .before .before .before .before .before .before .before .before .before .before .before .before .before .before .before .before .before .before .before .before .before .before .before .before .if1 .left) (m .ensures)
+    (r .ensures) (k .ensures .0 ∙ plain-spoken (ranGives (r .result)) p) (k .ensures .1) (k .ensures .2)
 
 pub berxundar-run-until-calm-spec : {M : Type 1} → statement M
 berxundar-run-until-calm-spec =

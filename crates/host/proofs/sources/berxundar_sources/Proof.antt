@@ -1,9 +1,10 @@
 -- `berxundar_sources`: too few words, or what the engine answers.
 -- Assumes nothing.
+use mathlib.Core.Path.{_∙_}
 use Rattle.tables.specs.declared.Counts.{Counts}
 use Rattle.tables.specs.Tables.{Tables, tablesOf}
-use Rattle.simulator.specs.Questions.{listGives}
-use Rattle.host.proofs.NumbersLaws.{listed-small}
+use Rattle.simulator.specs.Questions.{listGives, AsksSources}
+use Rattle.host.proofs.NumbersLaws.{plain-fits, plain-spoken, listed-plain}
 use Rattle.host.proofs.HostLaws.{enough-found, list-short, list-made}
 use borrow.Author.Needs.{needs}
 use Rattle.host.proofs.sources.berxundar_sources.Statement.{statement}
@@ -18,7 +19,7 @@ came s =
 
 returns : tie.Need-returns
 returns c =
-    list-short _ _ _ _ _ _ (c .if1 .taken)
+    list-short _ _ _ _ _ (c .if1 .taken)
 
 counts-in-requires : tie.Need-counts-in-requires
 counts-in-requires c κs = search needs
@@ -30,7 +31,7 @@ lay-listed-requires : tie.Need-lay-listed-requires
 lay-listed-requires c κs =
     let s = c .before .before .before .before .before .before .before .before .before .before .before .before .before .before .before .before .before in (
       enough-found (s .args .counts .now) (s .args .found .now) 1 (c .before .before .before .before .before .before .if1 .left),
-      listed-small (came s (c .before .before .before .before .before .counts-in .result)) (s .args .index) (s .args .list .now) (listGives (c .before .before .before .sources-of .result)) _ (c .before .before .before .sources-of .ensures .0),
+      plain-fits (listGives (c .before .before .before .sources-of .result)) (listed-plain (came s (c .before .before .before .before .before .counts-in .result)) (s .args .index) (s .args .list .now) (listGives (c .before .before .before .sources-of .result)) _ (c .before .before .before .sources-of .ensures .0)),
     )
 
 same-length : tie.Need-same-length
@@ -45,8 +46,10 @@ returns-2 c =
     let m = c .before .before .before .before .before .before .before .before .counts-in in
     let r = c .before .before .before .before .before .before .sources-of in
     let k = c .before .before .lay-listed in
-    list-made _ _ (s .args .counts .now) (s .args .list .now) (s .args .found .now) (came s) (m .result) _ (k .last .0) (k .result) (listGives (r .result)) (c .before .before .before .before .before .before .before .before .before .if1 .left) (m .ensures)
-    (r .ensures .0) (r .ensures .1) (k .ensures .0) (k .ensures .1)
+    let p = listed-plain (came s (m .result)) (s .args .index) (s .args .list .now) (listGives (r .result)) _ (r .ensures .0) in
+    list-made (λ T. AsksSources T (s .args .index)) (s .args .counts .now) (s .args .list .now) (s .args .found .now) (came s) (r .result) (m .result) _ (k .last .0)
+    (k .result) (c .before .before .before .before .before .before .before .before .before .if1 .left) (m .ensures)
+    (r .ensures) (k .ensures .0 ∙ plain-spoken (listGives (r .result)) p) (k .ensures .1)
 
 pub berxundar-sources-spec : {M : Type 1} → statement M
 berxundar-sources-spec =

@@ -15,7 +15,7 @@ use Rattle.net.specs.Net.{netNumber}
 use Rattle.simulator.specs.Calls.{editNumber, run, ranGives}
 use Rattle.simulator.specs.Questions.{calmGives, indexGives, valueGives, listNumber, listGives}
 use Rattle.simulator.proofs.AnswersLaws.{ranGives-is, calmGives-is, indexGives-is, valueGives-is, listGives-is}
-use Rattle.demands.specs.Determined.{Determinacy, Determined, DeterminedAnswer}
+use Rattle.determinacy.specs.Determined.{Determinacy, Determined, DeterminedAnswer}
 
 -- What was written is `new`, and the answer gives what `said` says of it.
 module _ {A : Type 0} (gives : A → Given) (is : (a b : A) → gives a ≡ gives b → a ≡ b) where

@@ -1,0 +1,102 @@
+-- Determinacy of the calls from C: too few words decide everything; else the engine's answer is determined, and what is said and laid is a function of it.
+-- Assumes nothing.
+use mathlib.Core.Path.{_≡_, sym, ap, _∙_}
+use mathlib.Core.Bool.{Bool, true, false, true≢false}
+use mathlib.Core.List.{List, []}
+use Prim.Native.Nat.{ℕ}
+use lib.ListN.{take, drop}
+use Rattle.lists.specs.Lists.{overlay}
+use Rattle.primitive.specs.declared.answers.Evaluated.{Evaluated}
+use Rattle.primitive.specs.Given.{Given, giving, spoken}
+use Rattle.primitive.specs.Evaluate.{evaluatedGives}
+use Rattle.tables.specs.declared.Counts.{Counts}
+use Rattle.tables.specs.declared.Answer.{Answer}
+use Rattle.tables.specs.Tables.{Tables, answerGives}
+use Rattle.simulator.specs.declared.Ran.{Ran}
+use Rattle.simulator.specs.declared.Listed.{Listed}
+use Rattle.simulator.specs.Calls.{ranGives, Runs}
+use Rattle.simulator.specs.Questions.{calmGives, indexGives, valueGives, listGives}
+use Rattle.host.specs.Host.{countsIn, valuesIn, CallChanges, fewCounts, changed, CallRuns, fewToRun, ran, CallAsks, fewToAsk, asked, CallLists, fewToList, listed}
+use Rattle.determinacy.specs.Determined.{Determined, DeterminedAnswer}
+use Rattle.determinacy.specs.HostDetermined.{ChangesDetermined, AsksDetermined, ListsDetermined, HostDeterminacy}
+use Rattle.determinacy.proofs.Determinacy.{determinacy}
+
+-- No call is lent both too few words and enough.
+neither : {A : Type 0} (b : Bool) → b ≡ true → b ≡ false → A
+neither b e f = absurd (true≢false (sym e ∙ f))
+
+module _ (few : Bool) (ws fs : List ℕ) (lent : Counts → Tables) where
+  -- The tables of two calls that both leave them, with unchanged count words.
+  same-left : (a b : List ℕ) (f g : Counts → Tables) → a ≡ ws → b ≡ ws → f (countsIn ws) ≡ lent (countsIn ws)
+      → g (countsIn ws) ≡ lent (countsIn ws) → f (countsIn a) ≡ g (countsIn b)
+  same-left a b f g w v l m =
+      ap (λ (x : List ℕ). f (countsIn x)) w ∙ l ∙ sym m ∙ sym (ap (λ (x : List ℕ). g (countsIn x)) v)
+
+  changes : (P : Tables → Answer → Tables → Type 0) → ((T : Tables) → Determined (P T)) → ChangesDetermined few ws fs lent P
+  changes P det r s a b f g (fewCounts e n w l) (fewCounts e′ n′ w′ l′) =
+      (n ∙ sym n′, w ∙ sym w′, same-left a b f g w w′ l l′)
+  changes P det r s a b f g (fewCounts e n w l) (changed x e′ p′ n′ w′) = neither few e e′
+  changes P det r s a b f g (changed x e p n w) (fewCounts e′ n′ w′ l′) = neither few e′ e
+  changes P det r s a b f g (changed x e p n w) (changed y e′ p′ n′ w′) =
+      let d = det (lent (countsIn ws)) x y (f (countsIn a)) (g (countsIn b)) p p′ in (
+        n ∙ ap (λ (z : Answer). spoken (answerGives z)) (d .0) ∙ sym n′,
+        w ∙ ap (λ (z : Answer). overlay (valuesIn (answerGives z)) ws) (d .0) ∙ sym w′,
+        d .1,
+      )
+
+  runs : (P : Tables → Ran → Tables → Type 0) → ((T : Tables) → Determined (P T)) → (r s : ℕ) (a b c d : List ℕ) (f g : Counts → Tables)
+      → CallRuns P few ws a fs c lent f r → CallRuns P few ws b fs d lent g s
+      → (r ≡ s) × (a ≡ b) × (c ≡ d) × (f (countsIn a) ≡ g (countsIn b))
+  runs P det r s a b c d f g (fewToRun e n w u l) (fewToRun e′ n′ w′ u′ l′) =
+      (n ∙ sym n′, w ∙ sym w′, u ∙ sym u′, same-left a b f g w w′ l l′)
+  runs P det r s a b c d f g (fewToRun e n w u l) (ran x e′ p′ n′ w′ u′) = neither few e e′
+  runs P det r s a b c d f g (ran x e p n w u) (fewToRun e′ n′ w′ u′ l′) = neither few e′ e
+  runs P det r s a b c d f g (ran x e p n w u) (ran y e′ p′ n′ w′ u′) =
+      let q = det (lent (countsIn ws)) x y (f (countsIn a)) (g (countsIn b)) p p′ in (
+        n ∙ ap (λ (z : Ran). spoken (ranGives z)) (q .0) ∙ sym n′,
+        w ∙ ap (λ (z : Ran). overlay (drop 2 (valuesIn (ranGives z))) ws) (q .0) ∙ sym w′,
+        u ∙ ap (λ (z : Ran). overlay (take 2 (valuesIn (ranGives z))) fs) (q .0) ∙ sym u′,
+        q .1,
+      )
+
+  asks : {A : Type 0} (gives : A → Given) (P : Tables → A → Type 0) → ((T : Tables) → DeterminedAnswer (P T)) → AsksDetermined few ws fs lent gives P
+  asks gives P det r s c d (fewToAsk e n u) (fewToAsk e′ n′ u′) = (n ∙ sym n′, u ∙ sym u′)
+  asks gives P det r s c d (fewToAsk e n u) (asked x e′ p′ n′ u′) = neither few e e′
+  asks gives P det r s c d (asked x e p n u) (fewToAsk e′ n′ u′) = neither few e′ e
+  asks {A} gives P det r s c d (asked x e p n u) (asked y e′ p′ n′ u′) =
+      let q = det (lent (countsIn ws)) x y p p′ in (
+        n ∙ ap (λ (z : A). spoken (gives z)) q ∙ sym n′,
+        u ∙ ap (λ (z : A). overlay (valuesIn (gives z)) fs) q ∙ sym u′,
+      )
+
+  lists : (P : Tables → List ℕ → Listed → List ℕ → Type 0) → ((T : Tables) (ls : List ℕ) → Determined (P T ls)) → ListsDetermined few ws fs lent P
+  lists P det ls r s c d (fewToList e n l u) (fewToList e′ n′ l′ u′) =
+      let m = l ∙ sym l′ in
+      let v = u ∙ sym u′ in (n ∙ sym n′, λ i. (m i, v i))
+  lists P det ls r s c d (fewToList e n l u) (listed x e′ p′ n′ u′) = neither few e e′
+  lists P det ls r s c d (listed x e p n u) (fewToList e′ n′ l′ u′) = neither few e′ e
+  lists P det ls r s c d (listed x e p n u) (listed y e′ p′ n′ u′) =
+      let q = det (lent (countsIn ws)) ls x y (c .0) (d .0) p p′ in
+      let m = q .1 in
+      let v = u ∙ ap (λ (z : Listed). overlay (valuesIn (listGives z)) fs) (q .0) ∙ sym u′ in (
+        n ∙ ap (λ (z : Listed). spoken (listGives z)) (q .0) ∙ sym n′,
+        λ i. (m i, v i),
+      )
+
+  -- Of the engine's calls: evaluate 0, load 1, round 2, edit 3, run 4, sources 5, targets 6, check 9, calm 10, index 11, value 12.
+  pub host-determinacy : HostDeterminacy few ws fs lent
+  host-determinacy = (
+    λ file. changes _ (determinacy .1 file),
+    λ t. changes _ (determinacy .2 t),
+    λ i v. changes _ (determinacy .3 i v),
+    λ t limit. runs (Runs t limit) (determinacy .4 t limit),
+    asks calmGives _ (determinacy .10),
+    λ id. asks indexGives _ (λ T. determinacy .11 T id),
+    λ side i port. asks valueGives _ (λ T. determinacy .12 T side i port),
+    λ i. lists _ (λ T ls. determinacy .5 T i ls),
+    λ i. lists _ (λ T ls. determinacy .6 T i ls),
+    asks (λ (k : ℕ). giving k []) _ (determinacy .9),
+    λ f xs vs ys us t r s zs zs′ p q.
+        let d = determinacy .0 f xs vs ys us t (p .answer) (q .answer) zs zs′ (p .promised) (q .promised) in
+        (p .said ∙ ap (λ (z : Evaluated). spoken (evaluatedGives z)) (d .0) ∙ sym (q .said), d .1),
+  )

@@ -1,0 +1,2 @@
+pub mod Determinacy
+pub mod HostDeterminacy

@@ -1,0 +1,19 @@
+-- What the functions of one round answer. Only contracts of functions of this crate cite it; nobody has to believe anything here.
+-- Assumes nothing.
+use mathlib.Core.Path.{_≡_}
+use mathlib.Core.Bool.{Bool, true}
+use Rattle.tables.specs.Tables.{Tables}
+use Rattle.simulator.specs.declared.Calm.{Calm}
+use Rattle.simulator.specs.declared.Calm.the-variants.{Is as CalmIs, Refused as NoCalm}
+use Rattle.simulator.specs.Round.{calm}
+use Rattle.simulator.specs.Calls.{roundTables}
+
+-- Calm or not; a refusal, which a net never gets, ends the rounds.
+abbrev pub calmOf : Calm → Bool
+calmOf (CalmIs b) = b
+calmOf (NoCalm x) = true
+
+-- What the function of one round promises: U are the tables after a round of T at time 0, and c says whether it left calm.
+pub record RoundMade (T U : Tables) (c : Bool) : Type 0 where
+  pub tables : U ≡ roundTables T 0
+  pub calmly : c ≡ calm U
