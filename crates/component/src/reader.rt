@@ -7,12 +7,12 @@ ghost use Rattle.component.specs.Record.{le16, le32, le64, numbersIn, we
 ghost use Rattle.component.specs.Record.{isPrimitive};
 ghost use Rattle.component.specs.Reading.{apart, said, number, number3, StandsAs};
 use crate::ChildNo;
-use crate::Id;
 use crate::Reading;
 use crate::Record;
 use crate::Says;
 use crate::Stands;
 use primitive::Fields;
+use primitive::Id;
 
 fn wide16(x: u8) -> u16
     ensures { λ r. ⌜ (r ≡ x) × (r < 256) ⌝ }

@@ -5,7 +5,7 @@ ghost use Rattle.simulator.specs.Questions.{indexGives, AsksIndex};
 ghost use Rattle.host.specs.Host.{short, CallAsks};
 use crate::answers::lay_index;
 use crate::counts::counts_in;
-use component::Id;
+use primitive::Id;
 
 // The index of the component with an id, into a lent word.
 #[no_mangle]
