@@ -1,9 +1,9 @@
 /*
- * The trace program: speaks the language of docs/TRACE.md over the calls of host/berxundar.h, so that what is compared with the Rust is
- * what a host calls.
+ * The trace program: speaks the language of docs/TRACE.md over the calls of host/berxundar.h, so that what is compared with the
+ * Rust is what a host calls.
  *
- * Built with -DGUARDED each table, file and answer is lent in memory of its own that ends, or with -DGUARDED=2 starts, at a page that
- * nobody may touch, and has no word more than is lent: a call that reads or writes past what it is lent ends the program.
+ * Built with -DGUARDED each table, file and answer is lent in memory of its own that ends, or with -DGUARDED=2 starts, at a page
+ * that nobody may touch, and has no word more than is lent: a call that reads or writes past what it is lent ends the program.
  */
 #include "berxundar.h"
 
@@ -238,9 +238,9 @@ static void back_all(size_t found_words)
     back(found, now.found, 8 * found_words);
 }
 
-#define NOW                                                                                                                         \
-    now.components, lent[COMPONENTS], now.inputs, lent[INPUTS], now.outputs, lent[OUTPUTS], now.wires, lent[WIRES], now.current,     \
-        lent[CURRENT], now.following, lent[FOLLOWING], now.standing, lent[STANDING], now.counts, BERXUNDAR_COUNTS
+#define NOW                                                                                                                   \
+    now.components, lent[COMPONENTS], now.inputs, lent[INPUTS], now.outputs, lent[OUTPUTS], now.wires, lent[WIRES],            \
+        now.current, lent[CURRENT], now.following, lent[FOLLOWING], now.standing, lent[STANDING], now.counts, BERXUNDAR_COUNTS
 
 /* ---- Commands: each answers 0 where the input ends inside it. ---- */
 
@@ -461,7 +461,10 @@ static void show_all(void)
 static void write_word(unsigned table, size_t at, uint64_t word)
 {
     uint64_t *longs = table == COMPONENTS ? net.components : table == INPUTS ? net.inputs : net.outputs;
-    uint16_t *shorts = table == WIRES ? net.wires : table == CURRENT ? net.current : table == FOLLOWING ? net.following : net.standing;
+    uint16_t *shorts = table == WIRES ? net.wires
+        : table == CURRENT            ? net.current
+        : table == FOLLOWING          ? net.following
+                                      : net.standing;
     if (TABLES <= table || full_words[table] <= at)
         return;
     if (table < WIRES)
