@@ -154,6 +154,11 @@ static int take_file(size_t *length)
 
 /* ---- Memory that is lent. ---- */
 
+/* Built with -DOVERSTATED=24 a judgement is told of a record more than it is lent: what the guard pages are there to show. */
+#ifndef OVERSTATED
+#define OVERSTATED 0
+#endif
+
 #ifdef GUARDED
 void *mmap(void *at, size_t length, int allowed, int how, int file_number, long offset);
 int mprotect(void *at, size_t length, int allowed);
@@ -251,7 +256,7 @@ static int judge(void)
     if (!take_file(&length))
         return 0;
     lend_all(0, length);
-    answer = berxundar_judge(now.file, length);
+    answer = berxundar_judge(now.file, length + OVERSTATED);
     pair("judge", berxundar_number(answer), berxundar_position(answer));
     return 1;
 }
@@ -317,6 +322,16 @@ static int ask_calm(void)
     answer = berxundar_calm(NOW, now.found, 1);
     back_all(1);
     pair("calm", berxundar_number(answer), found[0]);
+    return 1;
+}
+
+static int ask_check(void)
+{
+    uint32_t answer;
+    lend_all(0, 0);
+    answer = berxundar_check(NOW);
+    back_all(0);
+    pair("check", berxundar_number(answer), berxundar_position(answer));
     return 1;
 }
 
@@ -516,6 +531,7 @@ static int answer_one(uint8_t letter)
     case 'E': return edit();
     case 'U': return run();
     case 'C': return ask_calm();
+    case 'H': return ask_check();
     case 'I': return ask_index();
     case 'V': return ask_value();
     case 'S': return ask_list(0);
