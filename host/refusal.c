@@ -170,8 +170,9 @@ static pin other_width(const drawing *of, pin to, unsigned long long width, unsi
         return none;
     if (!is_composite(of, to.at))
         return input_width(record_at(of, to.at)) == width ? none : to;
-    for (position = 0; position < of->count && *left; position++, --*left) {
+    for (position = 0; position < of->count && *left; position++) {
         record r = record_at(of, position);
+        --*left;
         if (r.form == INPUT_MAP && r.owner == to.at && r.a == to.port) {
             pin next = { child(of, to.at, r.c), r.d }, found = other_width(of, next, width, depth - 1, left);
             if (found.at != NOWHERE)

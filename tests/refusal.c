@@ -36,7 +36,7 @@ int main(void)
     int turn;
     if (!nowhere)
         return 2;
-    for (turn = 0; turn < 100; turn++) {
+    for (turn = 0; turn < 2000; turn++) {
         size_t length = 24 * (size_t)below(40) + (below(4) ? 0 : below(24)), i;
         uint8_t *bytes = (uint8_t *)malloc(length + !length);
         uint32_t number;

@@ -84,6 +84,9 @@ int main(void)
     single.kind = BERXUNDAR_AND;
     single.outputs = 1;
     single.output_widths[0] = 1;
+    /* Once unmeasured: the first call of memcpy may have the loader look for it, on the same stack. */
+    for (i = 0; i < sizeof calls / sizeof calls[0]; i++)
+        calls[i].call();
     for (i = 0; i < sizeof calls / sizeof calls[0]; i++) {
         uint32_t answer;
         painting();
