@@ -1,6 +1,7 @@
 /*
- * Berxundar, the engine of the screens at lift gates, for a host program in C (C99) or C++ (C++11). `host/install DIR` puts this header
- * and libberxundar.a where a build wants them; the archive needs nothing but memcpy and memset.
+ * Berxundar, the engine of the screens at lift gates, for a host program in C (C99) or C++ (C++11). `host/install DIR` puts this
+ * header and libberxundar.a (x86-64) where a build wants them; the archive needs nothing but memcpy and memset. docs/HOST.md
+ * leads through it, and host/screen.c is a whole program.
  *
  *     static berxundar_net net;
  *     uint32_t answer = berxundar_net_load(&net, bytes, length);
@@ -9,30 +10,51 @@
  *     else
  *         berxundar_net_run_until_calm(&net, time, 100, NULL, NULL);
  *
- * A DRAWING FILE is a row of records of 24 bytes; docs/SPECIFICATION.md, "The drawing file", says what they hold. A load makes a net of
- * it: components, each with inputs and outputs, joined by wires. A round evaluates the components of the current list and sends what
- * changed along the wires. An edit sets a Switch, or an Input that no wire enters.
+ * A DRAWING FILE is a row of records of 24 bytes; docs/SPECIFICATION.md, "The drawing file", says what they hold. A load makes a
+ * net of it: components (no composites, which are boxes of the drawing alone), each with inputs and outputs, joined by wires. A
+ * round evaluates the components of the current list and sends what changed along the wires. An edit sets a Switch, or an Input
+ * that no wire enters.
  *
- * THE TABLES are lent by the caller: the engine keeps nothing and takes no memory. Entries past the counts keep what they held.
+ * AN ID is the number that a component has in the drawing. AN INDEX is its place in the tables, from 0. Only `berxundar_index`
+ * takes an id; every other call names a component by its index, and a port by its number among the component's inputs, or
+ * outputs, from 0.
  *
- *   components  8 words of 64 bits each: kind, id, width, parameter, inputs, outputs, place of the first input, place of the first output
- *   inputs      a number for each input;    outputs   a number for each output
- *   wires       4 words of 16 bits each: component and output that it leaves, component and input that it enters
- *   current, following, standing    the three lists of components, by index
- *   counts      7 words: how many components, inputs, outputs, wires, and entries of the three lists are in use
+ * THE TABLES are lent by the caller: the engine keeps nothing between calls and takes no memory. A `berxundar_net` (below) is one
+ * struct with all of them. A call on tables is refused with 2 where one of them is shorter than its full size; it may be longer.
  *
- * EVERY CALL takes any bytes, any words and any lengths. Its answer is a number times 65,536 plus a position, and 0 where it is done; the
- * same words always give the same answer. A call that is refused writes nothing. A table that is lent shorter than full size gives 2;
- * tables that are no net give 16. Questions put their values into words that the caller lends.
+ *   Table       Words            Full size   Holds
+ *   components  8 of 64 bits     2,048       of each component: kind, id, width of a Const, parameter, number of inputs, number of
+ *                                            outputs, place of its first input in `inputs`, of its first output in `outputs`
+ *   inputs      1 of 64 bits     1,024       the number at each input
+ *   outputs     1 of 64 bits     1,024       the number at each output
+ *   wires       4 of 16 bits     4,096       of each wire: index and output that it leaves, index and input that it enters
+ *   current     1 of 16 bits     256         the components of the next round, by index
+ *   following   1 of 16 bits     256         what the round after that starts from
+ *   standing    1 of 16 bits     256         Clocks; and Consts and what was edited until they are evaluated
+ *   counts      7 of 64 bits     7           how many components, inputs, outputs and wires are in use, and entries of the three
+ *                                            lists: current, following, standing
  *
- * A CALLER MUST KEEP TO THIS: each pointer has so many entries behind it as its length says; no memory is lent twice in one call. A length
- * of 0 may come with NULL: it is an empty file, or a table of no words.
- * Calls on different tables may run in several threads at once. STACK: a load takes up to 340,000 bytes, a judgement up to 171,000, each
- * other call less than 8,000. A thread with a small stack must not load.
+ * A load fills them and writes the counts; entries past a count keep what they held. A host may read every word. One that writes
+ * to the tables itself may do so too: where they are then no net, each call says so (16), and where they are one, what is said
+ * of lighting below holds again from the next load on.
  *
- * WHEN TO LIGHT: once a round has run and the three lists name only Clocks, the whole drawing is satisfied; that is proved.
- * `berxundar_calm` alone looks at the current list: an edit that waits in the standing list does not show there. Use
- * `berxundar_net_settled`.
+ * EVERY CALL takes any bytes, any words and any lengths, ends, and answers a number times 65,536 plus a position: 0 where it is
+ * done. The position is a record of the file, from 0, and is 0 in each call but a judgement and a load. The same words always
+ * give the same answer. A call that is refused writes nothing at all.
+ *
+ * A CALLER MUST KEEP TO THIS
+ *   - Each pointer is aligned for its type and has so many entries of that type behind it as the length after it says. With a
+ *     length of 0 it may be NULL: that is an empty file, or a table of no words.
+ *   - No memory is lent twice in one call: no two tables overlap, and neither do a table and the file or the words for an answer.
+ *   - While a call runs, nobody else writes to what it is lent, nor reads what it writes. Apart from that calls may run in any
+ *     number of threads at once.
+ *   - A load needs up to 340,000 bytes of stack, a judgement up to 171,000, each other call less than 8,000. A thread with a
+ *     small stack must not load or judge.
+ *
+ * WHEN TO LIGHT: once a round has run since the load, and the three lists name nothing but Clocks, the whole drawing is
+ * satisfied: each output has the value of every input that it leads to, and each component's outputs are its function of its
+ * inputs, Clocks at the last round's time. That is proved. `berxundar_calm` and `berxundar_run_until_calm` look at the current
+ * list alone, where an edit that waits in the standing list does not show: light what `berxundar_net_settled` says.
  */
 #ifndef BERXUNDAR_H
 #define BERXUNDAR_H
@@ -49,38 +71,54 @@ extern "C" {
 #define BERXUNDAR_INPUTS 1024
 #define BERXUNDAR_OUTPUTS 1024
 #define BERXUNDAR_WIRES 1024
-#define BERXUNDAR_NAMES 256
+#define BERXUNDAR_NAMES 256 /* of a list of components */
 #define BERXUNDAR_COUNTS 7
 
-/* Full size, in words. */
-#define BERXUNDAR_COMPONENT_WORDS (8 * BERXUNDAR_COMPONENTS)
-#define BERXUNDAR_WIRE_WORDS (4 * BERXUNDAR_WIRES)
+/* Words of one component and of one wire, and full size in words. */
+#define BERXUNDAR_WORDS_OF_COMPONENT 8
+#define BERXUNDAR_WORDS_OF_WIRE 4
+#define BERXUNDAR_COMPONENT_WORDS (BERXUNDAR_WORDS_OF_COMPONENT * BERXUNDAR_COMPONENTS)
+#define BERXUNDAR_WIRE_WORDS (BERXUNDAR_WORDS_OF_WIRE * BERXUNDAR_WIRES)
 
-/* The longest file that can be accepted, in bytes. */
-#define BERXUNDAR_FILE (24 * 1024)
+/* A record of a drawing file, and the longest file that can be accepted, in bytes. */
+#define BERXUNDAR_RECORD 24
+#define BERXUNDAR_FILE (BERXUNDAR_RECORD * 1024)
 
-/* Kinds of component. */
+/* The most inputs, and the most outputs, of one component; the most bits of a value. */
+#define BERXUNDAR_PORTS 64
+#define BERXUNDAR_BITS 32
+
+/* Kinds of component. The numbers never move. A composite stands in drawings only: no net has one. */
 enum {
-    BERXUNDAR_COMPOSITE, BERXUNDAR_AND, BERXUNDAR_OR, BERXUNDAR_NOT, BERXUNDAR_NAND, BERXUNDAR_NOR, BERXUNDAR_XOR,
-    BERXUNDAR_SWITCH, BERXUNDAR_INPUT, BERXUNDAR_OUTPUT, BERXUNDAR_SPLITTER, BERXUNDAR_JOINER, BERXUNDAR_CLOCK, BERXUNDAR_CONST
+    BERXUNDAR_COMPOSITE = 0, BERXUNDAR_AND = 1, BERXUNDAR_OR = 2, BERXUNDAR_NOT = 3, BERXUNDAR_NAND = 4, BERXUNDAR_NOR = 5,
+    BERXUNDAR_XOR = 6, BERXUNDAR_SWITCH = 7, BERXUNDAR_INPUT = 8, BERXUNDAR_OUTPUT = 9, BERXUNDAR_SPLITTER = 10,
+    BERXUNDAR_JOINER = 11, BERXUNDAR_CLOCK = 12, BERXUNDAR_CONST = 13
 };
 
-/* The words of a component. */
+/*
+ * The words of a component. WIDTH is the width of a Const and 0 for every other kind. PARAMETER is the bits of an Input, Output,
+ * Splitter or Joiner, the period of a Clock, the value of a Const, and else 0.
+ */
 enum {
-    BERXUNDAR_WORD_KIND, BERXUNDAR_WORD_ID, BERXUNDAR_WORD_WIDTH, BERXUNDAR_WORD_PARAMETER, BERXUNDAR_WORD_INPUTS,
-    BERXUNDAR_WORD_OUTPUTS, BERXUNDAR_WORD_FIRST_INPUT, BERXUNDAR_WORD_FIRST_OUTPUT
+    BERXUNDAR_WORD_KIND = 0, BERXUNDAR_WORD_ID = 1, BERXUNDAR_WORD_WIDTH = 2, BERXUNDAR_WORD_PARAMETER = 3,
+    BERXUNDAR_WORD_INPUTS = 4, BERXUNDAR_WORD_OUTPUTS = 5, BERXUNDAR_WORD_FIRST_INPUT = 6, BERXUNDAR_WORD_FIRST_OUTPUT = 7
+};
+
+/* The words of a wire: it leaves output FROM_OUTPUT of component FROM, and enters input TO_INPUT of component TO. */
+enum {
+    BERXUNDAR_WIRE_FROM = 0, BERXUNDAR_WIRE_FROM_OUTPUT = 1, BERXUNDAR_WIRE_TO = 2, BERXUNDAR_WIRE_TO_INPUT = 3
 };
 
 /* The words of the counts. */
 enum {
-    BERXUNDAR_COUNT_COMPONENTS, BERXUNDAR_COUNT_INPUTS, BERXUNDAR_COUNT_OUTPUTS, BERXUNDAR_COUNT_WIRES, BERXUNDAR_COUNT_CURRENT,
-    BERXUNDAR_COUNT_FOLLOWING, BERXUNDAR_COUNT_STANDING
+    BERXUNDAR_COUNT_COMPONENTS = 0, BERXUNDAR_COUNT_INPUTS = 1, BERXUNDAR_COUNT_OUTPUTS = 2, BERXUNDAR_COUNT_WIRES = 3,
+    BERXUNDAR_COUNT_CURRENT = 4, BERXUNDAR_COUNT_FOLLOWING = 5, BERXUNDAR_COUNT_STANDING = 6
 };
 
 /* Which ports of a component. */
-enum { BERXUNDAR_SIDE_INPUTS, BERXUNDAR_SIDE_OUTPUTS };
+enum { BERXUNDAR_SIDE_INPUTS = 0, BERXUNDAR_SIDE_OUTPUTS = 1 };
 
-/* The numbers of refusals. */
+/* The numbers that calls give back. `berxundar_words` has a sentence for each. */
 enum {
     BERXUNDAR_ACCEPTED = 0, BERXUNDAR_BAD_SIZE = 1, BERXUNDAR_SHORT_TABLE = 2, BERXUNDAR_BAD_RECORD = 3, BERXUNDAR_BAD_ORDER = 4,
     BERXUNDAR_BAD_OWNER = 5, BERXUNDAR_TOO_MANY = 6, BERXUNDAR_KEPT_KIND = 7, BERXUNDAR_UNKNOWN_KIND = 8, BERXUNDAR_BAD_FIELDS = 9,
@@ -90,94 +128,132 @@ enum {
 };
 
 /* The number of an answer. */
-static inline unsigned berxundar_number(uint32_t answer) { return answer >> 16; }
+static inline unsigned berxundar_number(uint32_t answer) { return (unsigned)(answer >> 16); }
 
 /* The position of an answer: a record of the file, from 0. */
-static inline unsigned berxundar_position(uint32_t answer) { return answer & 65535; }
+static inline unsigned berxundar_position(uint32_t answer) { return (unsigned)(answer & 65535u); }
 
-/* What an answer's number says. */
-static inline const char *berxundar_words(uint32_t answer)
+/*
+ * One plain sentence, without a full stop, for an answer or for a number: no refusal's answer is below 65,536 and no number above
+ * it, so both may be handed in and both get the number's sentence. Never NULL.
+ */
+static inline const char *berxundar_words(uint32_t answer_or_number)
 {
-    switch (berxundar_number(answer)) {
-    case 0: return "done";
-    case 1: return "the file is empty, no multiple of 24 bytes long, or has more than 1,024 records";
-    case 2: return "a table is lent shorter than its full size";
-    case 3: return "a record of no kind 1 to 4, or with a number in a field that its kind leaves at 0";
-    case 4: return "the first record is no component, or a record stands before one that must come first";
-    case 5: return "an owner is no composite, or does not hold the component before";
-    case 6: return "more than 256 components, or components nested deeper than 16";
-    case 7: return "component kind 14 is kept for later use";
-    case 8: return "there is no such kind of component";
-    case 9: return "a component's numbers are not allowed for its kind";
-    case 10: return "an earlier component has the same id";
-    case 11: return "more than 1,024 inputs or more than 1,024 outputs";
-    case 12: return "a child or a port does not exist";
-    case 13: return "an input is entered twice";
-    case 14: return "a composite's output maps differ in number from its outputs";
-    case 15: return "a connection joins ports of different widths";
-    case 16: return "the tables are not a net";
-    case 17: return "there is no such component or port";
-    case 18: return "only a Switch, or an Input that no wire enters, can be set";
-    case 19: return "the value does not fit its port";
-    default: return "no number of this engine";
+    switch (answer_or_number < 65536u ? answer_or_number : answer_or_number >> 16) {
+    case BERXUNDAR_ACCEPTED: return "accepted, or done";
+    case BERXUNDAR_BAD_SIZE: return "the file is empty, is no whole number of records of 24 bytes, or has more than 1,024 records";
+    case BERXUNDAR_SHORT_TABLE: return "a table, or the room for an answer, is lent shorter than its full size";
+    case BERXUNDAR_BAD_RECORD: return "the record's kind is not 1 to 4, or a field that its kind leaves at 0 is not 0";
+    case BERXUNDAR_BAD_ORDER: return "the file does not begin with a component, or the record must stand before the one before it";
+    case BERXUNDAR_BAD_OWNER: return "the record's owner is no composite that could hold it here";
+    case BERXUNDAR_TOO_MANY: return "there are more than 256 components, or they are nested deeper than 16";
+    case BERXUNDAR_KEPT_KIND: return "component kind 14 is kept for later use";
+    case BERXUNDAR_UNKNOWN_KIND: return "there is no such kind of component";
+    case BERXUNDAR_BAD_FIELDS: return "the component's inputs, outputs, width or parameter are not allowed for its kind";
+    case BERXUNDAR_SAME_ID: return "an earlier component has the same id";
+    case BERXUNDAR_TOO_MANY_PORTS: return "the components up to here have more than 1,024 inputs or more than 1,024 outputs";
+    case BERXUNDAR_NO_CHILD: return "the record names a child or a port that does not exist";
+    case BERXUNDAR_ENTERED_TWICE: return "the record enters an input that an earlier record has entered";
+    case BERXUNDAR_OUTPUT_MAPS: return "the composite has not as many output maps as outputs";
+    case BERXUNDAR_WIDTHS_DIFFER: return "the connection joins ports of different widths";
+    case BERXUNDAR_NO_NET: return "the tables are not a net: load a drawing first, and write to the tables through calls alone";
+    case BERXUNDAR_NOT_FOUND: return "there is no component with that index or id, or it has no such port";
+    case BERXUNDAR_NOT_SETTABLE: return "only a Switch, or an Input that no wire enters, can be set";
+    case BERXUNDAR_NO_FIT: return "the value has another width than its port, or is too large for it";
+    default: return "this is no number of the engine";
     }
 }
 
-/* ---- The calls, with every pointer and its length in entries of the pointer's type. ---- */
+/* ---- The twelve calls, with every pointer and its length in entries of the pointer's type. What is marked `const` is only read;
+ * the numbers behind a colon are those of the refusals that a call can give. ---- */
 
-/* What all calls on tables are lent; those marked `const` are only read. */
-#define BERXUNDAR_TABLES(C, P, W, L, S)                                                                                             \
-    C uint64_t *components, size_t components_length, P uint64_t *inputs, size_t inputs_length, P uint64_t *outputs,                 \
-        size_t outputs_length, W uint16_t *wires, size_t wires_length, L uint16_t *current, size_t current_length,                   \
-        L uint16_t *following, size_t following_length, S uint16_t *standing, size_t standing_length
-
-/* Judges the bytes of a file: the checks 1 and 3 to 15. */
+/* Judges the bytes of a file as a load would, without tables: 1, 3 to 15. */
 uint32_t berxundar_judge(const uint8_t *bytes, size_t length);
 
-/* Loads a file into the tables: the checks 1 to 15. */
-uint32_t berxundar_load(const uint8_t *bytes, size_t length, BERXUNDAR_TABLES(, , , , ), uint64_t *counts, size_t counts_length);
+/* Loads a file into the tables: 1 to 15. What the tables and the counts held before does not matter. */
+uint32_t berxundar_load(const uint8_t *bytes, size_t length,
+    uint64_t *components, size_t components_length, uint64_t *inputs, size_t inputs_length, uint64_t *outputs,
+    size_t outputs_length, uint16_t *wires, size_t wires_length, uint16_t *current, size_t current_length, uint16_t *following,
+    size_t following_length, uint16_t *standing, size_t standing_length, uint64_t *counts, size_t counts_length);
 
-/* A round at a time: 2, 16. */
-uint32_t berxundar_round(BERXUNDAR_TABLES(const, , const, , ), uint64_t *counts, size_t counts_length, uint64_t time);
+/* A round at a time: 2, 16. Time is any number and may go back; a Clock is high where time modulo twice its period is past its
+ * period. */
+uint32_t berxundar_round(
+    const uint64_t *components, size_t components_length, uint64_t *inputs, size_t inputs_length, uint64_t *outputs,
+    size_t outputs_length, const uint16_t *wires, size_t wires_length, uint16_t *current, size_t current_length,
+    uint16_t *following, size_t following_length, uint16_t *standing, size_t standing_length, uint64_t *counts,
+    size_t counts_length, uint64_t time);
 
-/* Sets the component at an index: 2, 16, 17, 18, 19. */
-uint32_t berxundar_edit(BERXUNDAR_TABLES(const, , const, const, ), uint64_t *counts, size_t counts_length, size_t index,
-    uint64_t number);
+/* Sets the component at an index, which is evaluated no later than in the third round after: 2, 16, 17, 18, 19. */
+uint32_t berxundar_edit(
+    const uint64_t *components, size_t components_length, uint64_t *inputs, size_t inputs_length, uint64_t *outputs,
+    size_t outputs_length, const uint16_t *wires, size_t wires_length, const uint16_t *current, size_t current_length,
+    const uint16_t *following, size_t following_length, uint16_t *standing, size_t standing_length, uint64_t *counts,
+    size_t counts_length, size_t index, uint64_t number);
 
-/* Rounds at a time until calm, at most `limit`; found[0] is the rounds run, found[1] the evaluations made: 2, 16. */
-uint32_t berxundar_run_until_calm(BERXUNDAR_TABLES(const, , const, , ), uint64_t *counts, size_t counts_length, uint64_t time,
-    uint16_t limit, uint64_t *found, size_t found_length);
+/* Rounds at a time, at least one unless `limit` is 0 and at most `limit`, until one leaves a current list of nothing but Clocks:
+ * 2, 16. found[0] is the rounds run, found[1] the evaluations made; `found` has 2 entries or more. */
+uint32_t berxundar_run_until_calm(
+    const uint64_t *components, size_t components_length, uint64_t *inputs, size_t inputs_length, uint64_t *outputs,
+    size_t outputs_length, const uint16_t *wires, size_t wires_length, uint16_t *current, size_t current_length,
+    uint16_t *following, size_t following_length, uint16_t *standing, size_t standing_length, uint64_t *counts,
+    size_t counts_length, uint64_t time, uint16_t limit, uint64_t *found, size_t found_length);
 
-/* found[0] is 1 where the current list names only Clocks, else 0: 2, 16. */
-uint32_t berxundar_calm(BERXUNDAR_TABLES(const, const, const, const, const), const uint64_t *counts, size_t counts_length,
-    uint64_t *found, size_t found_length);
+/* found[0] is 1 where the current list names nothing but Clocks, else 0: 2, 16. `found` has 1 entry or more. */
+uint32_t berxundar_calm(
+    const uint64_t *components, size_t components_length, const uint64_t *inputs, size_t inputs_length, const uint64_t *outputs,
+    size_t outputs_length, const uint16_t *wires, size_t wires_length, const uint16_t *current, size_t current_length,
+    const uint16_t *following, size_t following_length, const uint16_t *standing, size_t standing_length, const uint64_t *counts,
+    size_t counts_length, uint64_t *found, size_t found_length);
 
-/* found[0] is the index of the component with an id: 2, 16, 17. */
-uint32_t berxundar_index(BERXUNDAR_TABLES(const, const, const, const, const), const uint64_t *counts, size_t counts_length,
-    uint32_t id, uint64_t *found, size_t found_length);
+/* found[0] is the index of the component with an id: 2, 16, 17. `found` has 1 entry or more. */
+uint32_t berxundar_index(
+    const uint64_t *components, size_t components_length, const uint64_t *inputs, size_t inputs_length, const uint64_t *outputs,
+    size_t outputs_length, const uint16_t *wires, size_t wires_length, const uint16_t *current, size_t current_length,
+    const uint16_t *following, size_t following_length, const uint16_t *standing, size_t standing_length, const uint64_t *counts,
+    size_t counts_length, uint32_t id, uint64_t *found, size_t found_length);
 
-/* found[0] is the number of a port, found[1] its width in bits: 2, 16, 17. Side 0 is the inputs, any other the outputs. */
-uint32_t berxundar_value(BERXUNDAR_TABLES(const, const, const, const, const), const uint64_t *counts, size_t counts_length,
-    uint32_t side, size_t index, size_t port, uint64_t *found, size_t found_length);
+/* found[0] is the number at a port, found[1] its width in bits: 2, 16, 17. Side 0 is the inputs, any other the outputs. `found`
+ * has 2 entries or more. */
+uint32_t berxundar_value(
+    const uint64_t *components, size_t components_length, const uint64_t *inputs, size_t inputs_length, const uint64_t *outputs,
+    size_t outputs_length, const uint16_t *wires, size_t wires_length, const uint16_t *current, size_t current_length,
+    const uint16_t *following, size_t following_length, const uint16_t *standing, size_t standing_length, const uint64_t *counts,
+    size_t counts_length, uint32_t side, size_t index, size_t port, uint64_t *found, size_t found_length);
 
-/* The components that wires lead from to a component, ascending, into a list of 256; found[0] is how many: 2, 16, 17. */
-uint32_t berxundar_sources(BERXUNDAR_TABLES(const, const, const, const, const), const uint64_t *counts, size_t counts_length,
-    size_t index, uint16_t *list, size_t list_length, uint64_t *found, size_t found_length);
+/* The components that wires lead from to a component, by index, ascending and without repeats: 2, 16, 17. found[0] is how many;
+ * `list` has 256 entries or more, those past found[0] keep what they held, and `found` has 1 entry or more. */
+uint32_t berxundar_sources(
+    const uint64_t *components, size_t components_length, const uint64_t *inputs, size_t inputs_length, const uint64_t *outputs,
+    size_t outputs_length, const uint16_t *wires, size_t wires_length, const uint16_t *current, size_t current_length,
+    const uint16_t *following, size_t following_length, const uint16_t *standing, size_t standing_length, const uint64_t *counts,
+    size_t counts_length, size_t index, uint16_t *list, size_t list_length, uint64_t *found, size_t found_length);
 
 /* Those that wires lead to from it, likewise. */
-uint32_t berxundar_targets(BERXUNDAR_TABLES(const, const, const, const, const), const uint64_t *counts, size_t counts_length,
-    size_t index, uint16_t *list, size_t list_length, uint64_t *found, size_t found_length);
+uint32_t berxundar_targets(
+    const uint64_t *components, size_t components_length, const uint64_t *inputs, size_t inputs_length, const uint64_t *outputs,
+    size_t outputs_length, const uint16_t *wires, size_t wires_length, const uint16_t *current, size_t current_length,
+    const uint16_t *following, size_t following_length, const uint16_t *standing, size_t standing_length, const uint64_t *counts,
+    size_t counts_length, size_t index, uint16_t *list, size_t list_length, uint64_t *found, size_t found_length);
 
-/* Whether tables are a net: 2, 16. */
-uint32_t berxundar_check(BERXUNDAR_TABLES(const, const, const, const, const), const uint64_t *counts, size_t counts_length);
+/* Whether the tables are a net: 2, 16. */
+uint32_t berxundar_check(
+    const uint64_t *components, size_t components_length, const uint64_t *inputs, size_t inputs_length, const uint64_t *outputs,
+    size_t outputs_length, const uint16_t *wires, size_t wires_length, const uint16_t *current, size_t current_length,
+    const uint16_t *following, size_t following_length, const uint16_t *standing, size_t standing_length, const uint64_t *counts,
+    size_t counts_length);
 
-/* Evaluates one component, handed its fields, its inputs and their widths, its outputs, which are written, and their widths:
- * 7, 8, 9, 2, 19. */
+/* Evaluates one component outside any net: 7, 8, 9 (a composite gives it too), 2, 19. It is handed its fields, as a record has
+ * them, the number and the width in bits of each input and of each output, and a time; the numbers of its outputs are written.
+ * Each of the four lengths is at least the number of the component's ports on that side; values past them are not looked at. */
 uint32_t berxundar_evaluate(uint8_t kind, uint16_t inputs, uint16_t outputs, uint16_t width, uint64_t parameter,
     const uint64_t *input_numbers, size_t input_numbers_length, const uint64_t *input_widths, size_t input_widths_length,
-    uint64_t *output_numbers, size_t output_numbers_length, const uint64_t *output_widths, size_t output_widths_length, uint64_t time);
+    uint64_t *output_numbers, size_t output_numbers_length, const uint64_t *output_widths, size_t output_widths_length,
+    uint64_t time);
 
-/* ---- A net: all tables at full size, and short calls on it. ---- */
+/* ---- A net: all tables at full size, and a short form of each call on it. 42 KiB: let it be static, or a part of a larger
+ * struct, and not a variable on the stack. What a call hands back through a pointer is written only where its answer is 0. ----
+ * */
 
 typedef struct berxundar_net {
     uint64_t components[BERXUNDAR_COMPONENT_WORDS];
@@ -190,10 +266,14 @@ typedef struct berxundar_net {
     uint64_t counts[BERXUNDAR_COUNTS];
 } berxundar_net;
 
-#define BERXUNDAR_LENT(net)                                                                                                         \
-    (net)->components, BERXUNDAR_COMPONENT_WORDS, (net)->inputs, BERXUNDAR_INPUTS, (net)->outputs, BERXUNDAR_OUTPUTS, (net)->wires,  \
-        BERXUNDAR_WIRE_WORDS, (net)->current, BERXUNDAR_NAMES, (net)->following, BERXUNDAR_NAMES, (net)->standing, BERXUNDAR_NAMES
+/* The tables of a net, each with its length, as the calls on tables take them first. */
+#define BERXUNDAR_LENT(net)                                                                                               \
+    (net)->components, BERXUNDAR_COMPONENT_WORDS, (net)->inputs, BERXUNDAR_INPUTS, (net)->outputs, BERXUNDAR_OUTPUTS,      \
+        (net)->wires, BERXUNDAR_WIRE_WORDS, (net)->current, BERXUNDAR_NAMES, (net)->following, BERXUNDAR_NAMES,            \
+        (net)->standing, BERXUNDAR_NAMES
 
+/* A net must have been loaded before any other call: one that is all zeros is a net of no components, any other memory gives 16.
+ * */
 static inline uint32_t berxundar_net_load(berxundar_net *net, const uint8_t *bytes, size_t length)
 {
     return berxundar_load(bytes, length, BERXUNDAR_LENT(net), net->counts, BERXUNDAR_COUNTS);
@@ -209,11 +289,11 @@ static inline uint32_t berxundar_net_edit(berxundar_net *net, size_t index, uint
     return berxundar_edit(BERXUNDAR_LENT(net), net->counts, BERXUNDAR_COUNTS, index, number);
 }
 
-/* `rounds` and `evaluations` may be NULL. Both are written only where the answer is 0. */
+/* `rounds` and `evaluations` may be NULL. */
 static inline uint32_t berxundar_net_run_until_calm(berxundar_net *net, uint64_t time, uint16_t limit, uint64_t *rounds,
     uint64_t *evaluations)
 {
-    uint64_t found[2];
+    uint64_t found[2] = { 0, 0 };
     uint32_t answer = berxundar_run_until_calm(BERXUNDAR_LENT(net), net->counts, BERXUNDAR_COUNTS, time, limit, found, 2);
     if (answer == 0 && rounds)
         *rounds = found[0];
@@ -222,6 +302,7 @@ static inline uint32_t berxundar_net_run_until_calm(berxundar_net *net, uint64_t
     return answer;
 }
 
+/* *calm is 1 or 0. Not what a screen lights by: see `berxundar_net_settled`. */
 static inline uint32_t berxundar_net_calm(const berxundar_net *net, uint64_t *calm)
 {
     return berxundar_calm(BERXUNDAR_LENT(net), net->counts, BERXUNDAR_COUNTS, calm, 1);
@@ -236,22 +317,23 @@ static inline uint32_t berxundar_net_index(const berxundar_net *net, uint32_t id
 static inline uint32_t berxundar_net_value(const berxundar_net *net, uint32_t side, size_t index, size_t port, uint64_t *number,
     uint64_t *width)
 {
-    uint64_t found[2];
+    uint64_t found[2] = { 0, 0 };
     uint32_t answer = berxundar_value(BERXUNDAR_LENT(net), net->counts, BERXUNDAR_COUNTS, side, index, port, found, 2);
-    if (answer == 0) {
+    if (answer == 0)
         *number = found[0];
-        if (width)
-            *width = found[1];
-    }
+    if (answer == 0 && width)
+        *width = found[1];
     return answer;
 }
 
-static inline uint32_t berxundar_net_sources(const berxundar_net *net, size_t index, uint16_t list[BERXUNDAR_NAMES], uint64_t *count)
+/* `list` has room for 256. */
+static inline uint32_t berxundar_net_sources(const berxundar_net *net, size_t index, uint16_t *list, uint64_t *count)
 {
     return berxundar_sources(BERXUNDAR_LENT(net), net->counts, BERXUNDAR_COUNTS, index, list, BERXUNDAR_NAMES, count, 1);
 }
 
-static inline uint32_t berxundar_net_targets(const berxundar_net *net, size_t index, uint16_t list[BERXUNDAR_NAMES], uint64_t *count)
+/* `list` has room for 256. */
+static inline uint32_t berxundar_net_targets(const berxundar_net *net, size_t index, uint16_t *list, uint64_t *count)
 {
     return berxundar_targets(BERXUNDAR_LENT(net), net->counts, BERXUNDAR_COUNTS, index, list, BERXUNDAR_NAMES, count, 1);
 }
@@ -262,8 +344,8 @@ static inline uint32_t berxundar_net_check(const berxundar_net *net)
 }
 
 /*
- * *settled is 1 where the three lists name nothing but Clocks, else 0: after at least one round the whole drawing is then satisfied.
- * Answers 16 where the tables are no net.
+ * *settled is 1 where the three lists name nothing but Clocks, else 0. Once a round has run since the load, 1 means that the
+ * whole drawing is satisfied, and its Outputs may be lit. Before the first round it means nothing.
  */
 static inline uint32_t berxundar_net_settled(const berxundar_net *net, int *settled)
 {
@@ -279,10 +361,31 @@ static inline uint32_t berxundar_net_settled(const berxundar_net *net, int *sett
     for (list = 0; list < 3; list++) {
         uint64_t at;
         for (at = 0; at < net->counts[BERXUNDAR_COUNT_CURRENT + list]; at++)
-            if (net->components[8 * lists[list][at] + BERXUNDAR_WORD_KIND] != BERXUNDAR_CLOCK)
+            if (net->components[BERXUNDAR_WORDS_OF_COMPONENT * lists[list][at] + BERXUNDAR_WORD_KIND] != BERXUNDAR_CLOCK)
                 *settled = 0;
     }
     return 0;
+}
+
+/* One component outside any net: its fields, as a record has them, and the number and width in bits of each of its ports. */
+typedef struct berxundar_single {
+    uint8_t kind;
+    uint16_t inputs;
+    uint16_t outputs;
+    uint16_t width;
+    uint64_t parameter;
+    uint64_t input_numbers[BERXUNDAR_PORTS];
+    uint64_t input_widths[BERXUNDAR_PORTS];
+    uint64_t output_numbers[BERXUNDAR_PORTS];
+    uint64_t output_widths[BERXUNDAR_PORTS];
+} berxundar_single;
+
+/* Evaluates it at a time: writes its output numbers. */
+static inline uint32_t berxundar_single_evaluate(berxundar_single *single, uint64_t time)
+{
+    return berxundar_evaluate(single->kind, single->inputs, single->outputs, single->width, single->parameter,
+        single->input_numbers, BERXUNDAR_PORTS, single->input_widths, BERXUNDAR_PORTS, single->output_numbers, BERXUNDAR_PORTS,
+        single->output_widths, BERXUNDAR_PORTS, time);
 }
 
 #ifdef __cplusplus

@@ -1,23 +1,26 @@
 /*
- * The example that a screen starts from: screen FILE TIME [ID=NUMBER ..]
+ * The example that a screen starts from: screen FILE [--time T] [ID=NUMBER ..]
  *
- * Loads a drawing, sets the Switches and Inputs that are named by id, runs rounds at the time until the net is settled, and prints a line
- * for each Output: its id, its value, and `lit` or `dark`. It lights only what a settled net says: where the three lists name nothing but
- * Clocks, every wire has one value at both ends and every component's outputs are its function of its inputs. Where that is not reached
- * within ROUNDS rounds nothing is lit.
- * Exit status: 0 settled, 1 refused or not settled, 2 the file cannot be read or a word is none.
+ * Loads a drawing, sets the Switches and Inputs that are named by id, runs rounds at the time (0 where none is given) until the
+ * net is settled, and prints a line for each Output: its id, its value, and `lit` or `dark`. It lights only what a settled net
+ * says: where the three lists name nothing but Clocks, every wire has one value at both ends and every component's outputs are
+ * its function of its inputs. Where that is not reached within ROUNDS rounds nothing is lit. The file `-` is standard input. Exit
+ * status: 0 settled; 1 the file or a setting is refused, or the net is not settled; 2 the file cannot be read or a word is none.
  */
 #include "berxundar.h"
+#include "file.h"
+#include "refusal.h"
 
 #include <stdio.h>
 
 #define ROUNDS 1000
 
-/* One byte more than the longest file that can be accepted: of a longer one this much is read, and is refused for its length. */
-static uint8_t bytes[BERXUNDAR_FILE + 1];
+static uint8_t bytes[FILE_ROOM];
 
 /* The tables are large: they stand here and not on the stack. */
 static berxundar_net net;
+
+/* ---- The words of the command line. ---- */
 
 /* A number in decimal up to a character; a null pointer where there is none, else where it ends. */
 static const char *number_in(const char *word, char end, uint64_t *number)
@@ -33,45 +36,114 @@ static const char *number_in(const char *word, char end, uint64_t *number)
     return at == word || *at != end ? NULL : at;
 }
 
-/* Reads a file as far as it is needed: how many bytes, or -1. */
-static long read_file(const char *path)
+static int same(const char *a, const char *b)
 {
-    FILE *file = fopen(path, "rb");
-    size_t length;
-    int broken;
-    if (!file)
-        return -1;
-    length = fread(bytes, 1, sizeof bytes, file);
-    broken = ferror(file);
-    fclose(file);
-    return broken ? -1 : (long)length;
+    while (*a && *a == *b)
+        a++, b++;
+    return *a == *b;
 }
 
-static int refused(const char *what, uint32_t answer)
+/* A word ID=NUMBER: whether it is one. */
+static int setting_in(const char *word, uint32_t *id, uint64_t *number)
 {
-    fprintf(stderr, "%s: refused %u at %u: %s\n", what, berxundar_number(answer), berxundar_position(answer), berxundar_words(answer));
+    uint64_t wide;
+    const char *at = number_in(word, '=', &wide);
+    if (!at || !number_in(at + 1, '\0', number) || UINT32_MAX < wide) {
+        fprintf(stderr, "%s: this is no setting of the form ID=NUMBER, as 1=1\n", word);
+        return 0;
+    }
+    *id = (uint32_t)wide;
+    return 1;
+}
+
+/* Takes the words apart: the path and the time; the settings move to the front of the words, and are counted. */
+static int take_words(int count, char **words, const char **path, uint64_t *time, int *settings)
+{
+    int i;
+    *path = NULL;
+    *time = 0;
+    *settings = 0;
+    for (i = 0; i < count; i++) {
+        uint32_t id;
+        uint64_t number;
+        if (same(words[i], "--time")) {
+            if (++i == count || !number_in(words[i], '\0', time)) {
+                fprintf(stderr, "--time: a number from 0 to 18446744073709551615 must follow\n");
+                return 0;
+            }
+        } else if (!*path) {
+            *path = words[i];
+        } else if (!setting_in(words[i], &id, &number)) {
+            return 0;
+        } else {
+            words[(*settings)++] = words[i];
+        }
+    }
+    if (!*path)
+        fprintf(stderr, "usage: screen FILE [--time T] [ID=NUMBER ..]\n");
+    return *path != NULL;
+}
+
+/* ---- Settings. ---- */
+
+/* Whether an edit can set a component: a Switch, or an Input that no wire enters. */
+static int settable(uint64_t index)
+{
+    uint64_t kind = net.components[BERXUNDAR_WORDS_OF_COMPONENT * index + BERXUNDAR_WORD_KIND], i;
+    for (i = 0; i < net.counts[BERXUNDAR_COUNT_WIRES]; i++)
+        if (net.wires[BERXUNDAR_WORDS_OF_WIRE * i + BERXUNDAR_WIRE_TO] == index)
+            return 0;
+    return kind == BERXUNDAR_SWITCH || kind == BERXUNDAR_INPUT;
+}
+
+/* Says which components can be set, by id. */
+static void say_settable(void)
+{
+    uint64_t i;
+    int any = 0;
+    for (i = 0; i < net.counts[BERXUNDAR_COUNT_COMPONENTS]; i++)
+        if (settable(i)) {
+            fprintf(stderr, "%s %llu", any++ ? "" : "    to do: set what can be set in this drawing, by id:",
+                (unsigned long long)net.components[BERXUNDAR_WORDS_OF_COMPONENT * i + BERXUNDAR_WORD_ID]);
+        }
+    fprintf(stderr, "%s\n", any ? "" : "    nothing can be set in this drawing");
+}
+
+/* Says why setting a component is refused, and what can be set. */
+static int refused(const char *word, uint32_t answer, uint64_t index)
+{
+    const uint64_t *words = net.components + BERXUNDAR_WORDS_OF_COMPONENT * index;
+    uint64_t bits = words[BERXUNDAR_WORD_KIND] == BERXUNDAR_INPUT ? words[BERXUNDAR_WORD_PARAMETER] : 1;
+    fprintf(stderr, "%s: refused %u: %s\n", word, berxundar_number(answer), berxundar_words(answer));
+    if (berxundar_number(answer) == BERXUNDAR_NO_FIT || berxundar_number(answer) == BERXUNDAR_NOT_SETTABLE)
+        fprintf(stderr, "    the component is %s, id %llu", refusal_kind_name(words[BERXUNDAR_WORD_KIND]),
+            (unsigned long long)words[BERXUNDAR_WORD_ID]);
+    if (berxundar_number(answer) == BERXUNDAR_NO_FIT)
+        fprintf(stderr, ", which holds 0 to %llu\n", ((unsigned long long)1 << bits) - 1);
+    else if (berxundar_number(answer) == BERXUNDAR_NOT_SETTABLE)
+        fprintf(stderr, "%s\n", words[BERXUNDAR_WORD_KIND] == BERXUNDAR_INPUT ? ", and a wire enters it" : "");
+    say_settable();
     return 1;
 }
 
 /* Sets the component that a word ID=NUMBER names: the exit status that it asks for. */
 static int set(const char *word)
 {
-    uint64_t id, number, index;
-    uint32_t answer;
-    const char *at = number_in(word, '=', &id);
-    if (!at || !number_in(at + 1, '\0', &number) || UINT32_MAX < id) {
-        fprintf(stderr, "%s: not of the form ID=NUMBER\n", word);
+    uint32_t id, answer;
+    uint64_t number, index = 0;
+    if (!setting_in(word, &id, &number))
         return 2;
-    }
-    answer = berxundar_net_index(&net, (uint32_t)id, &index);
+    answer = berxundar_net_index(&net, id, &index);
     if (answer == 0)
         answer = berxundar_net_edit(&net, (size_t)index, number);
-    return answer == 0 ? 0 : refused(word, answer);
+    return answer == 0 ? 0 : refused(word, answer, index);
 }
 
+/* ---- Running and lighting. ---- */
+
 /*
- * Runs at a time until the net is settled, at most ROUNDS rounds. Run until calm looks at the current list alone, and an edit waits
- * in the standing list for up to three rounds: so calm is not enough, and it is called again.
+ * Runs at a time until the net is settled, at most ROUNDS rounds. Run until calm looks at the current list alone, and an edit
+ * waits in the standing list for up to three rounds: so calm is not enough, and it is called again.
  */
 static uint32_t settle(uint64_t time, int *settled)
 {
@@ -89,11 +161,13 @@ static uint32_t settle(uint64_t time, int *settled)
     return 0;
 }
 
+/* Prints a line for each Output, lit only in a settled net. */
 static void show(int settled)
 {
     uint64_t i;
+    printf("%s\n", settled ? "settled" : "not settled");
     for (i = 0; i < net.counts[BERXUNDAR_COUNT_COMPONENTS]; i++) {
-        const uint64_t *words = net.components + 8 * i;
+        const uint64_t *words = net.components + BERXUNDAR_WORDS_OF_COMPONENT * i;
         uint64_t value;
         if (words[BERXUNDAR_WORD_KIND] != BERXUNDAR_OUTPUT)
             continue;
@@ -103,33 +177,46 @@ static void show(int settled)
     }
 }
 
+/* Loads the drawing, sets what is asked for and runs at the time: the exit status where that fails, else 0. */
+static int work(const char *path, uint64_t time, char **settings, int count, int *settled)
+{
+    long length = file_read(path, bytes);
+    uint32_t answer;
+    int status = 0, i;
+    if (length < 0)
+        return 2;
+    answer = berxundar_net_load(&net, bytes, (size_t)length);
+    if (answer != 0) {
+        refusal_explain(stderr, path, bytes, (size_t)length, berxundar_number(answer), berxundar_position(answer));
+        return 1;
+    }
+    for (i = 0; i < count && !status; i++)
+        status = set(settings[i]);
+    if (status)
+        return status;
+    answer = settle(time, settled);
+    if (answer != 0)
+        fprintf(stderr, "%s: refused %u: %s\n", path, berxundar_number(answer), berxundar_words(answer));
+    return answer == 0 ? 0 : 1;
+}
+
 int main(int argc, char **argv)
 {
+    const char *path;
     uint64_t time;
-    uint32_t answer;
-    long length;
-    int settled = 0, i;
-    if (argc < 3 || !number_in(argv[2], '\0', &time)) {
-        fprintf(stderr, "usage: screen FILE TIME [ID=NUMBER ..]\n");
+    int settled = 0, settings, status;
+    if (!take_words(argc - 1, argv + 1, &path, &time, &settings))
         return 2;
-    }
-    length = read_file(argv[1]);
-    if (length < 0) {
-        perror(argv[1]);
-        return 2;
-    }
-    answer = berxundar_net_load(&net, bytes, (size_t)length);
-    if (answer != 0)
-        return refused(argv[1], answer);
-    for (i = 3; i < argc; i++) {
-        int asked = set(argv[i]);
-        if (asked)
-            return asked;
-    }
-    answer = settle(time, &settled);
-    if (answer != 0)
-        return refused(argv[1], answer);
-    printf("%s\n", settled ? "settled" : "not settled");
+    status = work(path, time, argv + 1, settings, &settled);
+    if (status)
+        return status;
     show(settled);
+    if (fflush(stdout) != 0) {
+        perror("screen: standard output");
+        return 2;
+    }
+    if (!settled)
+        fprintf(stderr, "%s: not settled after %d rounds at time %llu, so nothing is lit: does the drawing feed back on itself?\n",
+            path, ROUNDS, (unsigned long long)time);
     return settled ? 0 : 1;
 }

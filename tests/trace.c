@@ -1,9 +1,9 @@
 /*
- * The trace program: speaks the language of docs/TRACE.md over the calls of host/berxundar.h, so that what is compared with the Rust is
- * what a host calls.
+ * The trace program: speaks the language of docs/TRACE.md over the calls of host/berxundar.h, so that what is compared with the
+ * Rust is what a host calls.
  *
- * Built with -DGUARDED each table, file and answer is lent in memory of its own that ends, or with -DGUARDED=2 starts, at a page that
- * nobody may touch, and has no word more than is lent: a call that reads or writes past what it is lent ends the program.
+ * Built with -DGUARDED each table, file and answer is lent in memory of its own that ends, or with -DGUARDED=2 starts, at a page
+ * that nobody may touch, and has no word more than is lent: a call that reads or writes past what it is lent ends the program.
  */
 #include "berxundar.h"
 
@@ -154,6 +154,11 @@ static int take_file(size_t *length)
 
 /* ---- Memory that is lent. ---- */
 
+/* Built with -DOVERSTATED=24 a judgement is told of a record more than it is lent: what the guard pages are there to show. */
+#ifndef OVERSTATED
+#define OVERSTATED 0
+#endif
+
 #ifdef GUARDED
 void *mmap(void *at, size_t length, int allowed, int how, int file_number, long offset);
 int mprotect(void *at, size_t length, int allowed);
@@ -238,9 +243,9 @@ static void back_all(size_t found_words)
     back(found, now.found, 8 * found_words);
 }
 
-#define NOW                                                                                                                         \
-    now.components, lent[COMPONENTS], now.inputs, lent[INPUTS], now.outputs, lent[OUTPUTS], now.wires, lent[WIRES], now.current,     \
-        lent[CURRENT], now.following, lent[FOLLOWING], now.standing, lent[STANDING], now.counts, BERXUNDAR_COUNTS
+#define NOW                                                                                                                   \
+    now.components, lent[COMPONENTS], now.inputs, lent[INPUTS], now.outputs, lent[OUTPUTS], now.wires, lent[WIRES],            \
+        now.current, lent[CURRENT], now.following, lent[FOLLOWING], now.standing, lent[STANDING], now.counts, BERXUNDAR_COUNTS
 
 /* ---- Commands: each answers 0 where the input ends inside it. ---- */
 
@@ -251,7 +256,7 @@ static int judge(void)
     if (!take_file(&length))
         return 0;
     lend_all(0, length);
-    answer = berxundar_judge(now.file, length);
+    answer = berxundar_judge(now.file, length + OVERSTATED);
     pair("judge", berxundar_number(answer), berxundar_position(answer));
     return 1;
 }
@@ -317,6 +322,16 @@ static int ask_calm(void)
     answer = berxundar_calm(NOW, now.found, 1);
     back_all(1);
     pair("calm", berxundar_number(answer), found[0]);
+    return 1;
+}
+
+static int ask_check(void)
+{
+    uint32_t answer;
+    lend_all(0, 0);
+    answer = berxundar_check(NOW);
+    back_all(0);
+    pair("check", berxundar_number(answer), berxundar_position(answer));
     return 1;
 }
 
@@ -461,7 +476,10 @@ static void show_all(void)
 static void write_word(unsigned table, size_t at, uint64_t word)
 {
     uint64_t *longs = table == COMPONENTS ? net.components : table == INPUTS ? net.inputs : net.outputs;
-    uint16_t *shorts = table == WIRES ? net.wires : table == CURRENT ? net.current : table == FOLLOWING ? net.following : net.standing;
+    uint16_t *shorts = table == WIRES ? net.wires
+        : table == CURRENT            ? net.current
+        : table == FOLLOWING          ? net.following
+                                      : net.standing;
     if (TABLES <= table || full_words[table] <= at)
         return;
     if (table < WIRES)
@@ -513,6 +531,7 @@ static int answer_one(uint8_t letter)
     case 'E': return edit();
     case 'U': return run();
     case 'C': return ask_calm();
+    case 'H': return ask_check();
     case 'I': return ask_index();
     case 'V': return ask_value();
     case 'S': return ask_list(0);

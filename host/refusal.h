@@ -1,0 +1,22 @@
+/*
+ * Why a drawing file is refused, in words for a technician: what is wrong, the record in question with the ids of the composites
+ * and components that it names, and what to do about it. The number and the position are the engine's; the words are made here,
+ * from the bytes of the file, and nothing is decided by them.
+ */
+#ifndef BERXUNDAR_REFUSAL_H
+#define BERXUNDAR_REFUSAL_H
+
+#include <stddef.h>
+#include <stdint.h>
+#include <stdio.h>
+
+/*
+ * Writes several lines to a stream. `name` is what the file is called in them; `number` and `position` are those of the refusal.
+ * Takes any bytes, any number and any position: a record that is not there, or a name that leads nowhere, is said to be so.
+ */
+void refusal_explain(FILE *to, const char *name, const uint8_t *bytes, size_t length, unsigned number, unsigned position);
+
+/* The name of a kind of component, as the listing writes it; a null pointer where there is no such kind. */
+const char *refusal_kind_name(uint64_t kind);
+
+#endif

@@ -1,0 +1,74 @@
+/*
+ * What the header says beside the calls' own rules: NULL with length 0 is an empty file and a table of no words, so that each
+ * call answers as for any short table (2), a load as for an empty file (1), and a component without ports is evaluated; a net of
+ * zeros is one of no components; a sentence belongs to an answer and to its number. Leaves with 1 at the first other answer.
+ */
+#include "berxundar.h"
+
+#define NONE NULL, 0
+#define SEVEN NONE, NONE, NONE, NONE, NONE, NONE, NONE
+#define NUMBER(n) ((uint32_t)(n) << 16)
+
+static berxundar_net net;
+static berxundar_single single;
+
+static int nothing_lent(void)
+{
+    uint64_t found[2] = { 0, 1 };
+    return berxundar_judge(NONE) == NUMBER(1) && berxundar_net_load(&net, NONE) == NUMBER(1)
+        && berxundar_load(NONE, SEVEN, NONE) == NUMBER(1) && berxundar_round(SEVEN, NONE, 3) == NUMBER(2)
+        && berxundar_round(SEVEN, net.counts, 7, 3) == NUMBER(2) && berxundar_edit(SEVEN, NONE, 3, 3) == NUMBER(2)
+        && berxundar_run_until_calm(SEVEN, NONE, 3, 3, NONE) == NUMBER(2)
+        && berxundar_run_until_calm(BERXUNDAR_LENT(&net), net.counts, 7, 3, 3, NONE) == NUMBER(2)
+        && berxundar_calm(BERXUNDAR_LENT(&net), net.counts, 7, NONE) == NUMBER(2)
+        && berxundar_index(SEVEN, NONE, 3, NONE) == NUMBER(2) && berxundar_value(SEVEN, NONE, 3, 3, 3, NONE) == NUMBER(2)
+        && berxundar_sources(BERXUNDAR_LENT(&net), net.counts, 7, 0, NONE, found, 1) == NUMBER(2)
+        && berxundar_targets(SEVEN, NONE, 0, NONE, NONE) == NUMBER(2) && berxundar_check(SEVEN, NONE) == NUMBER(2)
+        && berxundar_check(BERXUNDAR_LENT(&net), NONE) == NUMBER(2)
+        && berxundar_evaluate(1, 0, 1, 0, 0, NONE, NONE, NONE, NONE, 0) == NUMBER(2)
+        && berxundar_evaluate(1, 0, 1, 0, 0, NONE, NONE, found, 1, found + 1, 1, 0) == 0 && found[0] == 1;
+}
+
+static int zeros(void)
+{
+    int settled = 0;
+    uint64_t calm = 0, rounds = 9;
+    return berxundar_net_check(&net) == 0 && berxundar_net_settled(&net, &settled) == 0 && settled == 1
+        && berxundar_net_calm(&net, &calm) == 0 && calm == 1 && berxundar_net_run_until_calm(&net, 5, 7, &rounds, NULL) == 0
+        && rounds == 1 && berxundar_net_edit(&net, 0, 0) == NUMBER(17);
+}
+
+/* A Joiner of 0, 1, 1 is 6; with an input of another width it is refused. */
+static int joined(void)
+{
+    size_t i;
+    single.kind = BERXUNDAR_JOINER;
+    single.inputs = 3;
+    single.outputs = 1;
+    single.parameter = 3;
+    for (i = 0; i < 3; i++) {
+        single.input_numbers[i] = i != 0;
+        single.input_widths[i] = 1;
+    }
+    single.output_widths[0] = 3;
+    if (berxundar_single_evaluate(&single, 0) != 0 || single.output_numbers[0] != 6)
+        return 0;
+    single.input_widths[2] = 2;
+    return berxundar_single_evaluate(&single, 0) == NUMBER(BERXUNDAR_NO_FIT);
+}
+
+/* Each number has a sentence of its own, by itself and as an answer with any position. */
+static int sentences(void)
+{
+    uint32_t a, b;
+    for (a = 0; a <= 20; a++) {
+        if (berxundar_words(a) != berxundar_words(NUMBER(a) + (a ? 1023 : 0)))
+            return 0;
+        for (b = 0; b < a; b++)
+            if (berxundar_words(a) == berxundar_words(b))
+                return 0;
+    }
+    return 1;
+}
+
+int main(void) { return !(zeros() && nothing_lent() && joined() && sentences()); }

@@ -1,0 +1,34 @@
+/*
+ * Every name of host/berxundar.h in use, for a compiler of C or of C++: each call's short form, the calls without one, the
+ * constants. It is compiled, not run.
+ */
+#include "berxundar.h"
+
+static berxundar_net net;
+static berxundar_single single;
+
+static uint32_t changed(const uint8_t *bytes, size_t length)
+{
+    uint64_t rounds, evaluations;
+    return berxundar_judge(bytes, length) + berxundar_net_load(&net, bytes, length) + berxundar_net_round(&net, 1)
+        + berxundar_net_edit(&net, 0, 1) + berxundar_net_run_until_calm(&net, 1, 2, &rounds, &evaluations)
+        + berxundar_single_evaluate(&single, 1);
+}
+
+static uint32_t asked(const berxundar_net *of)
+{
+    uint16_t list[BERXUNDAR_NAMES];
+    uint64_t found, width;
+    int settled;
+    return berxundar_net_calm(of, &found) + berxundar_net_index(of, 1, &found)
+        + berxundar_net_value(of, BERXUNDAR_SIDE_INPUTS, 0, 0, &found, &width) + berxundar_net_sources(of, 0, list, &found)
+        + berxundar_net_targets(of, 0, list, &found) + berxundar_net_check(of) + berxundar_net_settled(of, &settled);
+}
+
+int main(void)
+{
+    uint32_t answer = changed(NULL, 0) + asked(&net);
+    return berxundar_number(answer) == BERXUNDAR_NO_FIT && berxundar_position(answer) == BERXUNDAR_FILE
+        && net.components[BERXUNDAR_WORD_FIRST_OUTPUT] == BERXUNDAR_CONST && net.wires[BERXUNDAR_WIRE_TO_INPUT] == BERXUNDAR_BITS
+        && net.counts[BERXUNDAR_COUNT_STANDING] == BERXUNDAR_SIDE_OUTPUTS && berxundar_words(answer) == NULL;
+}

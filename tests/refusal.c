@@ -1,0 +1,55 @@
+/*
+ * refusal_explain on files that hold anything: drawings whose records name each other at random, noise, lengths that are no
+ * multiple of 24, and every number and position, right or not. It must end and look at no byte that is not there: each file
+ * stands in memory of its own size, for the sanitizers. Prints nothing, and leaves with 0.
+ */
+#include "refusal.h"
+
+void *malloc(size_t bytes);
+void free(void *memory);
+
+static uint32_t state = 1;
+
+static uint32_t below(uint32_t limit)
+{
+    state = state * 1664525u + 1013904223u;
+    return (state >> 8) % limit;
+}
+
+/* A record that looks like one: small numbers, so that most names lead somewhere. */
+static void draw(uint8_t *record)
+{
+    size_t i;
+    for (i = 0; i < 24; i++)
+        record[i] = 0;
+    record[0] = (uint8_t)(below(20) ? 1 + below(4) : below(256));
+    record[1] = (uint8_t)(below(3) ? 0 : below(17));
+    for (i = 2; i < 12; i += 2)
+        record[i] = (uint8_t)below(6);
+    record[12] = (uint8_t)below(8);
+    record[16] = (uint8_t)below(4);
+}
+
+int main(void)
+{
+    FILE *nowhere = fopen("/dev/null", "w");
+    int turn;
+    if (!nowhere)
+        return 2;
+    for (turn = 0; turn < 2000; turn++) {
+        size_t length = 24 * (size_t)below(40) + (below(4) ? 0 : below(24)), i;
+        uint8_t *bytes = (uint8_t *)malloc(length + !length);
+        uint32_t number;
+        if (!bytes)
+            return 2;
+        for (i = 0; i < length; i++)
+            bytes[i] = (uint8_t)below(256);
+        for (i = 0; turn % 8 && i + 24 <= length; i += 24)
+            draw(bytes + i);
+        for (number = 0; number < 22; number++)
+            refusal_explain(nowhere, "file", length ? bytes : NULL, length, number, below(8) ? below(40) : below(65536));
+        refusal_explain(nowhere, "file", bytes, length, below(1u << 24) << 8, 0);
+        free(bytes);
+    }
+    return fclose(nowhere) == 0 ? 0 : 2;
+}

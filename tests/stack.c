@@ -1,0 +1,103 @@
+/*
+ * How much stack the calls take, beside what host/berxundar.h says: stack <FILE loads the drawing on standard input and makes each call
+ * on it. The stack below is filled with a pattern before a call, and afterwards what the call has written over is counted.
+ * Leaves with 1 where a call takes more than is said, or is refused.
+ */
+#include "berxundar.h"
+#include "file.h"
+
+#include <stdio.h>
+
+#define ROOM 600000
+#define PATTERN 0xa5
+
+static uint8_t bytes[FILE_ROOM];
+static size_t length;
+static berxundar_net net;
+static uint16_t list[BERXUNDAR_NAMES];
+static uint64_t found;
+static berxundar_single single;
+
+static void fill(volatile uint8_t *area)
+{
+    size_t i;
+    for (i = 0; i < ROOM; i++)
+        area[i] = PATTERN;
+}
+
+/* How many bytes are painted no more, down to the lowest of them. */
+static size_t scan(volatile uint8_t *area)
+{
+    size_t i = 0;
+    while (i < ROOM && area[i] == PATTERN)
+        i++;
+    return ROOM - i;
+}
+
+/* Through pointers that the compiler cannot follow, so that each call has a frame of its own and nothing of it is left out. */
+static void (*volatile filling)(volatile uint8_t *) = fill;
+static size_t (*volatile scanning)(volatile uint8_t *) = scan;
+
+static void paint(void)
+{
+    uint8_t area[ROOM];
+    filling(area);
+}
+
+/* In the same place as `paint` has its area: it is scanned as it was left. */
+static size_t taken(void)
+{
+    uint8_t area[ROOM];
+    return scanning(area);
+}
+
+static void (*volatile painting)(void) = paint;
+static size_t (*volatile counting)(void) = taken;
+
+static uint32_t judge(void) { return berxundar_judge(bytes, length); }
+static uint32_t load(void) { return berxundar_net_load(&net, bytes, length); }
+static uint32_t run_round(void) { return berxundar_net_round(&net, 3); }
+static uint32_t run(void) { return berxundar_net_run_until_calm(&net, 4, 5, NULL, NULL); }
+static uint32_t edit(void) { return berxundar_net_edit(&net, 0, 1); }
+static uint32_t calm(void) { return berxundar_net_calm(&net, &found); }
+static uint32_t index_of(void) { return berxundar_net_index(&net, (uint32_t)net.components[BERXUNDAR_WORD_ID], &found); }
+static uint32_t value(void) { return berxundar_net_value(&net, BERXUNDAR_SIDE_OUTPUTS, 0, 0, &found, NULL); }
+static uint32_t sources(void) { return berxundar_net_sources(&net, 0, list, &found); }
+static uint32_t targets(void) { return berxundar_net_targets(&net, 0, list, &found); }
+static uint32_t check(void) { return berxundar_net_check(&net); }
+static uint32_t evaluate(void) { return berxundar_single_evaluate(&single, 0); }
+
+static const struct {
+    const char *name;
+    uint32_t (*call)(void);
+    size_t said;
+} calls[] = { { "judge", judge, 171000 }, { "load", load, 340000 }, { "round", run_round, 8000 }, { "run until calm", run, 8000 },
+    { "edit", edit, 8000 }, { "calm", calm, 8000 }, { "index", index_of, 8000 }, { "value", value, 8000 },
+    { "sources", sources, 8000 }, { "targets", targets, 8000 }, { "check", check, 8000 }, { "evaluate", evaluate, 8000 } };
+
+int main(void)
+{
+    long read = file_read("-", bytes);
+    size_t i, bytes_taken;
+    int wrong = read < 0;
+    length = read < 0 ? 0 : (size_t)read;
+    single.kind = BERXUNDAR_AND;
+    single.outputs = 1;
+    single.output_widths[0] = 1;
+    /* Once unmeasured: the first call of memcpy may have the loader look for it, on the same stack. */
+    for (i = 0; i < sizeof calls / sizeof calls[0]; i++)
+        calls[i].call();
+    for (i = 0; i < sizeof calls / sizeof calls[0]; i++) {
+        uint32_t answer;
+        painting();
+        answer = calls[i].call();
+        bytes_taken = counting();
+        printf("%s %lu\n", calls[i].name, (unsigned long)bytes_taken);
+        if (answer != 0 || calls[i].said < bytes_taken) {
+            fprintf(stderr, "stack: %s: answer %lu, %lu bytes taken, %lu said\n", calls[i].name, (unsigned long)answer,
+                (unsigned long)bytes_taken, (unsigned long)calls[i].said);
+            wrong = 1;
+        }
+    }
+    return wrong;
+}
