@@ -136,7 +136,8 @@ pub fn put_net(
     counts: Counts,
 ) -> usize
     requires { ⌜ (counts .components ≤ 256) × (counts .wires ≤ 1024) ⌝ }
-    ensures { λ r. ⌜ Puts (now (out .entry)) at (componentsText (now (components .entry)) (counts .components) ++ wiresText (now (wires .entry)) (counts .wires)) (now (out .exit)) r ⌝ }
+    ensures { λ r. ⌜ Puts (now (out .entry)) at (componentsText (now (components .entry)) (counts .components) ++ wiresText (now (wires .entry)) (counts .wires))
+        (now (out .exit)) r ⌝ }
 {
     let next = put_components(out, at, components, counts.components);
     put_wires(out, next, wires, counts.wires)

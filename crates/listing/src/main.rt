@@ -64,7 +64,12 @@ fn round_left(
     counts: Counts,
 ) -> Left
     requires { ⌜ netNumber (tablesOf (now components) (now inputs) (now outputs) (now wires) (now current) (now following) (now standing) counts) ≡ 0 ⌝ }
-    ensures { λ r. ⌜ RoundMade (tablesOf (now (components .entry)) (now (inputs .entry)) (now (outputs .entry)) (now (wires .entry)) (now (current .entry)) (now (following .entry)) (now (standing .entry)) counts) (tablesOf (now (components .entry)) (now (inputs .exit)) (now (outputs .exit)) (now (wires .entry)) (now (current .exit)) (now (following .exit)) (now (standing .exit)) (r .counts)) (r .calm) ⌝ }
+    ensures { λ r.
+        let before = tablesOf (now (components .entry)) (now (inputs .entry)) (now (outputs .entry)) (now (wires .entry))
+        (now (current .entry)) (now (following .entry)) (now (standing .entry)) counts in
+        let after = tablesOf (now (components .entry)) (now (inputs .exit)) (now (outputs .exit)) (now (wires .entry))
+        (now (current .exit)) (now (following .exit)) (now (standing .exit)) (r .counts) in
+        ⌜ RoundMade before after (r .calm) ⌝ }
 {
     let made = simulator::round(
         components,
@@ -117,8 +122,12 @@ fn put_rounds(
     out: &mut [u8],
     at: usize,
 ) -> usize
-    requires { ⌜ (at ≤ length (now out)) × (netNumber (tablesOf (now components) (now inputs) (now outputs) (now wires) (now current) (now following) (now standing) counts) ≡ 0) ⌝ }
-    ensures { λ r. ⌜ Puts (now (out .entry)) at (roundLines 16 1 (tablesOf (now (components .entry)) (now (inputs .entry)) (now (outputs .entry)) (now (wires .entry)) (now (current .entry)) (now (following .entry)) (now (standing .entry)) counts)) (now (out .exit)) r ⌝ }
+    requires { ⌜ (at ≤ length (now out)) × (netNumber (tablesOf (now components) (now inputs) (now outputs) (now wires) (now current)
+        (now following) (now standing) counts) ≡ 0) ⌝ }
+    ensures { λ r.
+        let before = tablesOf (now (components .entry)) (now (inputs .entry)) (now (outputs .entry)) (now (wires .entry))
+        (now (current .entry)) (now (following .entry)) (now (standing .entry)) counts in
+        ⌜ Puts (now (out .entry)) at (roundLines 16 1 before) (now (out .exit)) r ⌝ }
 {
     let mut reached = counts;
     let mut next = at;
