@@ -70,7 +70,6 @@ impl Program {
             Command::Edit { index, number } => self.edit(*index, *number, lines),
             Command::Run { time, limit } => self.run_until_calm(*time, *limit, lines),
             Command::Calm => self.calm(lines),
-            Command::Check => line(lines, "check", [round_number(&self.tables), 0]),
             Command::Index { id } => self.index(*id, lines),
             Command::Value { side, index, port } => self.value(*side, *index, *port, lines),
             Command::Sources { index } => self.neighbours("sources", *index, Engine::sources, lines),

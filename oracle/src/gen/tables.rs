@@ -72,7 +72,7 @@ fn every_call<W: Write>(random: &mut Random, stream: &mut Stream<W>) -> Result<(
     if random.once_in(4) {
         stream.put_all([Command::Net, Command::State])?;
     }
-    stream.put_all([Command::Check, Command::All])
+    stream.put(Command::All)
 }
 
 /// Every table one word short, or empty, or lent past its full size.

@@ -51,7 +51,6 @@ fn counts_are_kept_whole() {
     assert_eq!(answer(&mut program, Command::Net), "counts past the tables\n");
     assert_eq!(answer(&mut program, Command::State), "counts past the tables\n");
     assert_eq!(answer(&mut program, Command::Calm), "calm 16 0\n");
-    assert_eq!(answer(&mut program, Command::Check), "check 16 0\n");
     answer(&mut program, Command::SetCount { which: 4, number: 1 << 32 });
     assert_eq!(answer(&mut program, Command::Round { time: 0 }), "round 16 0\n");
     answer(&mut program, Command::SetCount { which: 7, number: 9 });
@@ -66,7 +65,6 @@ fn a_short_table_is_2_before_16_and_after_1() {
     for table in 0..7 {
         answer(&mut program, Command::Lend { table, words: 255 });
         assert_eq!(answer(&mut program, Command::Round { time: 0 }), "round 2 0\n");
-        assert_eq!(answer(&mut program, Command::Check), "check 2 0\n");
         assert_eq!(answer(&mut program, Command::Sources { index: 0 }), "sources 2\n");
         assert_eq!(answer(&mut program, Command::Load(vec![])), "load 1 0\n");
         assert_eq!(answer(&mut program, Command::Load(vec![0; 24])), "load 2 0\n");
