@@ -9,7 +9,7 @@ use Rattle.component.specs.declared.Verdict.the-variants.{Accepted}
 use Rattle.component.specs.Drawing.{deepest}
 use Rattle.flatten.specs.Descent.{outputBelow, inputsBelow, comesFrom, goesTo}
 use Rattle.flatten.specs.Verdict.{verdict}
-use Rattle.leads.proofs.Wires.{wire}
+use Rattle.flatten.proofs.Wires.{wire}
 use Rattle.flatten.specs.Descent.{pin}
 use Rattle.tables.specs.Tables.{fullSize, wiresIn, currentList, followingList, standingList}
 use Rattle.load.specs.Load.{drawingTables, loadVerdict, loadTables}

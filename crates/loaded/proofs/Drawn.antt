@@ -21,11 +21,11 @@ use Rattle.flatten.specs.declared.Pin.{Pin}
 use Rattle.flatten.specs.declared.Wire.{Wire}
 use Rattle.flatten.specs.Descent.{pin, flat, flatPin, flatWires}
 use Rattle.flatten.specs.Leads.{Leads}
-use Rattle.leads.proofs.Accepted.{Passed}
-use Rattle.leads.proofs.Wires.{wire, wires-lead}
-use Rattle.leads.proofs.Ends.{IsOutput, IsInput}
-use Rattle.leads.proofs.Primitives.{flat-below, flat-inj, flat-onto, portsBefore-within}
-use Rattle.leads.proofs.FlatWires.{flatWires-sound, leads-flatWires, flatWires-lead}
+use Rattle.flatten.proofs.Accepted.{Passed}
+use Rattle.flatten.proofs.Wires.{wire, wires-lead}
+use Rattle.flatten.proofs.Ends.{IsOutput, IsInput}
+use Rattle.flatten.proofs.Primitives.{flat-below, flat-inj, flat-onto, portsBefore-within}
+use Rattle.flatten.proofs.FlatWires.{flatWires-sound, leads-flatWires, flatWires-lead}
 use Rattle.tables.specs.Tables.{Tables, fieldsAt, idAt, firstInput, firstOutput, inputPlace}
 use Rattle.tables.specs.Tables.{indexes, wiresIn}
 use Rattle.load.specs.Load.{primitives, drawingTables}

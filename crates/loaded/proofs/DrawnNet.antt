@@ -22,12 +22,12 @@ use Rattle.component.specs.Drawing.{primitivesBefore, inputsBefore, outputsBefo
 use Rattle.flatten.specs.declared.Pin.{Pin}
 use Rattle.flatten.specs.declared.Wire.{Wire}
 use Rattle.flatten.specs.Descent.{flat, flatPin, flatWires}
-use Rattle.leads.proofs.Accepted.{Passed}
-use Rattle.leads.proofs.Components.{primitive-component}
-use Rattle.leads.proofs.Ends.{IsInput, wires-leave, wires-enter, wires-width}
-use Rattle.leads.proofs.Bound.{entered}
-use Rattle.leads.proofs.Primitives.{primitive-obeyed, flat-onto, id-inj}
-use Rattle.leads.proofs.FlatWires.{flatWires-sound, flatWires-distinct}
+use Rattle.flatten.proofs.Accepted.{Passed}
+use Rattle.flatten.proofs.Components.{primitive-component}
+use Rattle.flatten.proofs.Ends.{IsInput, wires-leave, wires-enter, wires-width}
+use Rattle.flatten.proofs.Bound.{entered}
+use Rattle.flatten.proofs.Primitives.{primitive-obeyed, flat-onto, id-inj}
+use Rattle.flatten.proofs.FlatWires.{flatWires-sound, flatWires-distinct}
 use Rattle.tables.specs.Tables.{Tables, fieldsAt, idAt, firstInput, firstOutput, inputPlace, indexes}
 use Rattle.net.specs.Net.{kindsObeyed, idsDistinct, inputSum, outputSum, portsFollow, isOutput, isInput, wiresFit}
 use Rattle.net.specs.Net.{inputsOnce}

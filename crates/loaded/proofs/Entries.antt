@@ -14,9 +14,9 @@ use Rattle.component.specs.Reading.{idOf}
 use Rattle.component.specs.Drawing.{inputsBefore, outputsBefore}
 use Rattle.flatten.specs.declared.Wire.{Wire}
 use Rattle.flatten.specs.Descent.{pin, flat, flatWires}
-use Rattle.leads.proofs.Accepted.{Passed}
-use Rattle.leads.proofs.Wires.{wire}
-use Rattle.leads.proofs.Primitives.{primitive-below, flat-below, flat-place}
+use Rattle.flatten.proofs.Accepted.{Passed}
+use Rattle.flatten.proofs.Wires.{wire}
+use Rattle.flatten.proofs.Primitives.{primitive-below, flat-below, flat-place}
 use Rattle.tables.specs.Tables.{Tables, wordIn, fieldsAt, idAt, firstInput, firstOutput, wireAt, wiresIn}
 use Rattle.load.specs.Load.{wireWords, primitives, componentWords, drawingTables}
 

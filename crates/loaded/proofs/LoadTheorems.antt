@@ -18,8 +18,8 @@ use Rattle.flatten.specs.declared.Pin.{Pin}
 use Rattle.flatten.specs.declared.Wire.{Wire}
 use Rattle.flatten.specs.Descent.{flat, flatPin}
 use Rattle.flatten.specs.Leads.{Leads}
-use Rattle.leads.proofs.Accepted.{Passed}
-use Rattle.leads.proofs.Wires.{wire}
+use Rattle.flatten.proofs.Accepted.{Passed}
+use Rattle.flatten.proofs.Wires.{wire}
 use Rattle.tables.specs.Tables.{Tables, fullSize, outputsAt, wiresIn, currentList, followingList, standingList}
 use Rattle.load.specs.Load.{standingAtLoad, drawingTables, loadVerdict, loadTables}
 use Rattle.load.proofs.LoadLaws.{load-passed}

@@ -12,9 +12,9 @@ use Rattle.lists.proofs.OverlayLaws.{overlay-length, overlay-front, joined-widt
 use Rattle.component.specs.declared.Record.{Record}
 use Rattle.component.specs.Drawing.{inputsBefore}
 use Rattle.flatten.specs.Descent.{flatWires}
-use Rattle.leads.proofs.Accepted.{Passed}
-use Rattle.leads.proofs.Primitives.{primitives-bound, inputs-bound, outputs-bound}
-use Rattle.leads.proofs.FlatWires.{flatWires-bound}
+use Rattle.flatten.proofs.Accepted.{Passed}
+use Rattle.flatten.proofs.Primitives.{primitives-bound, inputs-bound, outputs-bound}
+use Rattle.flatten.proofs.FlatWires.{flatWires-bound}
 use Rattle.tables.proofs.SizesLaws.{fullSize-sound}
 use Rattle.tables.proofs.SameLaws.{SameLengths}
 use Rattle.tables.specs.Tables.{Tables, fullSize, currentList, followingList, standingList}

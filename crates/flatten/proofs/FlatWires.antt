@@ -11,15 +11,15 @@ use lib.ListN.{length, length-map}
 use Rattle.lists.proofs.MembersLaws.{In, Distinct, map-sound, map-complete, distinct-map}
 use Rattle.component.specs.declared.Record.{Record}
 use Rattle.component.specs.Record.{isPrimitive}
 use Rattle.flatten.specs.declared.Pin.{Pin}
 use Rattle.flatten.specs.declared.Wire.{Wire}
 use Rattle.flatten.specs.Descent.{pin, wires, flatPin, flatWires}
 use Rattle.flatten.specs.Leads.{Leads}
-use Rattle.leads.proofs.Accepted.{Passed}
-use Rattle.leads.proofs.Wires.{wire, wires-lead, leads-wires}
-use Rattle.leads.proofs.Ends.{wires-leave, wires-enter}
-use Rattle.leads.proofs.Primitives.{flat-inj}
-use Rattle.leads.proofs.Bound.{entered, wires-distinct, wires-bound}
+use Rattle.flatten.proofs.Accepted.{Passed}
+use Rattle.flatten.proofs.Wires.{wire, wires-lead, leads-wires}
+use Rattle.flatten.proofs.Ends.{wires-leave, wires-enter}
+use Rattle.flatten.proofs.Primitives.{flat-inj}
+use Rattle.flatten.proofs.Bound.{entered, wires-distinct, wires-bound}
 
 module _ (at : ℕ → Record) (n : ℕ) where
   -- The wire between flat indexes.
