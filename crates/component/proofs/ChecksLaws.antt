@@ -19,7 +19,7 @@ use denote.Enum.Declared.{tagOf}
 use Rattle.primitive.specs.Kinds.{obeys, primitive}
 use Rattle.primitive.specs.declared.table.Fields.{Fields}
 use Rattle.component.specs.declared.ChildNo.{ChildNo}
-use Rattle.component.specs.declared.Id.{Id}
+use Rattle.primitive.specs.declared.Id.{Id}
 use Rattle.component.specs.declared.Record.{Record}
 use Rattle.component.specs.declared.Says.{Says}
 use Rattle.component.specs.declared.Says.the-variants.{Component, Connection, InputMap, OutputMap}

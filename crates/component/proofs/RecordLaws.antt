@@ -20,7 +20,7 @@ use Rattle.component.specs.Record.{isPrimitive}
 use Rattle.primitive.specs.Kinds.{primitive}
 use Rattle.component.specs.declared.Record.{Record}
 use Rattle.component.specs.declared.ChildNo.{ChildNo}
-use Rattle.component.specs.declared.Id.{Id}
+use Rattle.primitive.specs.declared.Id.{Id}
 use Rattle.component.specs.declared.Says.{Says}
 use Rattle.component.specs.declared.Says.the-variants.{Component, Connection, InputMap, OutputMap}
 use Rattle.component.specs.declared.Reading.{Reading}

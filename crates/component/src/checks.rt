@@ -15,7 +15,6 @@ ghost use Rattle.component.specs.Drawing.{child, deepest, holds, deeper,
 ghost use Rattle.component.specs.Drawing.{fails3, fails4, fails5, fails6, fails7, fails8, fails9};
 ghost use Rattle.component.specs.Drawing.{fails10, fails11, fails12, fails13, fails14};
 use crate::ChildNo;
-use crate::Id;
 use crate::Reading;
 use crate::Says;
 use crate::Stands;
@@ -23,6 +22,7 @@ use crate::index::child_of;
 use crate::index::is_owned;
 use crate::reader::component_at;
 use crate::reader::record_at;
+use primitive::Id;
 
 // The number of a check that fails, else 0.
 pub fn given(number: u32, fails: bool) -> u32

@@ -13,19 +13,14 @@ pub use index::index_outs;
 pub use index::index_ranges;
 pub use index::out_map_of;
 use primitive::Fields;
+use primitive::Id;
 use primitive::Refusal;
 pub use reader::component_at;
 pub use reader::is_primitive_at;
 pub use reader::record_at;
 
-// An id as drawn.
-pub struct Id(pub u32);
-
 // A child, counted below one owner.
 pub struct ChildNo(pub u16);
-
-// A primitive's place in the flat tables.
-pub struct FlatIdx(pub usize);
 
 // A record as the file has it: its nine numbers.
 pub struct Record {

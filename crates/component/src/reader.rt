@@ -10,12 +10,12 @@ ghost use Rattle.component.specs.Reading.{apart, said, number, StandsAs}
 ghost use Rattle.component.specs.Drawing.{fails3};
 ghost use Rattle.component.specs.Checks.{given};
 use crate::ChildNo;
-use crate::Id;
 use crate::Reading;
 use crate::Record;
 use crate::Says;
 use crate::Stands;
 use primitive::Fields;
+use primitive::Id;
 
 fn wide16(x: u8) -> u16
     ensures { λ r. ⌜ (r ≡ x) × (r < 256) ⌝ }

@@ -16,12 +16,12 @@ use Rattle.component.specs.declared.Verdict.the-variants.{Accepted}
 use Rattle.component.specs.Record.{IsBytes, recordAt, recordCount, fieldsOf, isPrimitive}
 use Rattle.component.specs.Drawing.{primitivesBefore}
 use Rattle.flatten.specs.declared.Pin.{Pin}
-use Rattle.flatten.specs.Descent.{flat, flatPin}
+use Rattle.flatten.specs.Descent.{flat}
 use Rattle.flatten.specs.Leads.{From, starts, through, Into, ends, maps, Leads}
-use Rattle.flatten.proofs.Wires.{wire}
 use Rattle.flatten.proofs.Primitives.{primitivesBefore-complete}
 use Rattle.tables.specs.Tables.{Tables, fieldsAt, wiresIn, numbers, firstInput, firstOutput, standingList, named}
-use Rattle.load.specs.Load.{loadVerdict, loadTables, standingAtLoad}
+use Rattle.load.specs.Load.{flatPin, loadVerdict, loadTables, standingAtLoad}
+use Rattle.load.proofs.FlatWires.{wire}
 use Rattle.loaded.proofs.Drawn.{IsDrawn}
 use Rattle.loaded.proofs.LoadTheorems.{accepted-net, accepted-fullSize, accepted-current, accepted-standing, accepted-following, accepted-drawn, accepted-primitive, accepted-below, accepted-leads-wired}
 use Rattle.net.proofs.NetLaws.{netNumber-0}

@@ -9,10 +9,9 @@ use Rattle.component.specs.declared.Verdict.the-variants.{Accepted}
 use Rattle.component.specs.Drawing.{deepest}
 use Rattle.flatten.specs.Descent.{outputBelow, inputsBelow, comesFrom, goesTo}
 use Rattle.flatten.specs.Verdict.{verdict}
-use Rattle.flatten.proofs.Wires.{wire}
-use Rattle.flatten.specs.Descent.{pin}
-use Rattle.tables.specs.Tables.{fullSize, wiresIn, currentList, followingList, standingList}
+use Rattle.tables.specs.Tables.{fullSize, endAt, wiresIn, currentList, followingList, standingList}
 use Rattle.load.specs.Load.{drawingTables, loadVerdict, loadTables}
+use Rattle.load.proofs.FlatWires.{wire}
 use Rattle.net.specs.Net.{countsWithin, kindsObeyed, idsDistinct, portsFollow, valuesFit, constsHeld, wiresFit, inputsOnce, names, isNet, netNumber}
 use Rattle.simulator.specs.Round.{leave, evaluated, send, visit, round, editedState, calm, roundOf}
 use Rattle.simulator.specs.Calls.{roundTables, editNumber, editTables, run}
@@ -23,7 +22,7 @@ pub lamp-accepted : verdict lamp ≡ Accepted
 unfolding verdict deepest obeys outputBelow inputsBelow comesFrom goesTo
 lamp-accepted = refl
 
-pub lamp-wires : wiresIn lampLoaded ≡ wire (pin 0 0) (pin 2 0) ∷ wire (pin 1 0) (pin 2 1) ∷ wire (pin 2 0) (pin 3 0) ∷ []
+pub lamp-wires : wiresIn lampLoaded ≡ wire (endAt 0 0) (endAt 2 0) ∷ wire (endAt 1 0) (endAt 2 1) ∷ wire (endAt 2 0) (endAt 3 0) ∷ []
 unfolding loadTables loadVerdict drawingTables verdict overlay fullSize deepest obeys outputBelow inputsBelow comesFrom goesTo
 lamp-wires = refl
 

@@ -11,10 +11,9 @@ use Rattle.primitive.specs.declared.kinds.Kind.the-variants.{And, Or, Nor, Xor,
 use Rattle.primitive.specs.Kinds.{numberOf}
 use Rattle.primitive.specs.Evaluate.{evaluateNumber, evaluateOutputs}
 use Rattle.component.specs.Record.{recordAt, recordCount}
-use Rattle.flatten.specs.Descent.{flatWires}
 use Rattle.primitive.specs.Given.{spoken}
 use Rattle.flatten.specs.Verdict.{verdict, verdictGives}
-use Rattle.load.specs.Load.{wireWords}
+use Rattle.load.specs.Load.{wireWords, flatWires}
 use Rattle.demands.specs.Lamp.{lamp, lampTwice}
 
 -- What the definitions find, and what the document wants.

@@ -16,19 +16,19 @@ use Rattle.component.specs.Record.{inputsOf}
 use Rattle.component.specs.Reading.{formOf}
 use Rattle.component.specs.Drawing.{primitivesBefore, inputsBefore}
 use Rattle.flatten.specs.declared.Pin.{Pin}
-use Rattle.flatten.specs.declared.Wire.{Wire}
+use Rattle.flatten.specs.declared.Lead.{Lead}
 use Rattle.flatten.specs.Descent.{pin, goesTo, wiresAt, wires}
 use Rattle.flatten.proofs.Accepted.{Passed}
-use Rattle.flatten.proofs.Wires.{wire}
+use Rattle.flatten.proofs.Wires.{lead}
 use Rattle.flatten.proofs.EnteredOnce.{targetsAt, targetsAt-distinct}
 use Rattle.flatten.proofs.Ends.{IsInput, wires-enter}
 use Rattle.flatten.proofs.Primitives.{primitive-below, primitivesBefore-complete, inputs-bound}
 
 -- The inputs that wires enter.
-abbrev pub entered : List Wire → List Pin
-entered ws = map (λ (w : Wire). w .dst) ws
+abbrev pub entered : List Lead → List Pin
+entered ws = map (λ (w : Lead). w .dst) ws
 
-entered-targets : (s : Pin) (ts : List Pin) → entered (map (wire s) ts) ≡ ts
+entered-targets : (s : Pin) (ts : List Pin) → entered (map (lead s) ts) ≡ ts
 entered-targets s [] = refl
 entered-targets s (t ∷ ts) = ap (λ (l : List Pin). t ∷ l) (entered-targets s ts)
 
@@ -41,13 +41,13 @@ module _ (at : ℕ → Record) (n : ℕ) where
       by-form true p = entered-targets _ (goesTo at n p)
       by-form false p = refl
 
-      wiresFrom : ℕ → List Wire
+      wiresFrom : ℕ → List Lead
       wiresFrom p = cond (eqb (formOf (at p)) 2) (wiresAt at n p) []
 
       by-records : (ps : List ℕ) → entered (joined wiresFrom ps) ≡ joined (targetsAt at n) ps
       by-records [] = refl
       by-records (p ∷ ps) =
-          map-append (λ (w : Wire). w .dst) (wiresFrom p) (joined wiresFrom ps)
+          map-append (λ (w : Lead). w .dst) (wiresFrom p) (joined wiresFrom ps)
           ∙ ap (λ (l : List Pin). l ++ entered (joined wiresFrom ps)) (by-form (eqb (formOf (at p)) 2) p)
           ∙ ap (λ (l : List Pin). targetsAt at n p ++ l) (by-records ps)
 
@@ -78,6 +78,6 @@ module _ (at : ℕ → Record) (n : ℕ) (d : Passed at n) where
   pub wires-bound : length (wires at n) ≤ 1024
   wires-bound =
       let r = distinct-bound (entered (wires at n)) (inputPins at n) wires-distinct
-      (λ t h. let m = map-sound (λ (w : Wire). w .dst) t (wires at n) h in
+      (λ t h. let m = map-sound (λ (w : Lead). w .dst) t (wires at n) h in
       inputPins-complete t (rw (m .2) (wires-enter at n d (m .0) (m .1)))) in
-      omega (arith, length-map (wires at n) (λ (w : Wire). w .dst), inputPins-length at n, inputs-bound at n d)
+      omega (arith, length-map (wires at n) (λ (w : Lead). w .dst), inputPins-length at n, inputs-bound at n d)

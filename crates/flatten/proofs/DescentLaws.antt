@@ -16,7 +16,7 @@ use types.Run.{OneOf}
 use denote.Enum.Declared.{tagOf}
 use Rattle.lists.specs.Lists.{from, any, joined}
 use Rattle.lists.proofs.ListsLaws.{from-step, from-end}
-use Rattle.lists.proofs.MembersLaws.{from-append}
+use Rattle.lists.proofs.MembersLaws.{any-append, any-map, from-append}
 use Rattle.primitive.specs.Kinds.{inputWidth, outputWidth}
 use Rattle.component.specs.declared.ChildNo.{ChildNo}
 use Rattle.component.specs.declared.Record.{Record}
@@ -26,7 +26,7 @@ use Rattle.component.specs.declared.Reading.{Reading}
 use Rattle.component.specs.declared.Reading.the-variants.{Taken, Refused}
 use Rattle.component.specs.declared.Stands.{Stands}
 use Rattle.component.specs.declared.Stands.the-variants.{Component as SeenComponent, Nothing as NotSeen}
-use Rattle.component.specs.declared.Id.{Id}
+use Rattle.primitive.specs.declared.Id.{Id}
 use Rattle.primitive.specs.declared.table.Fields.{Fields}
 use Rattle.component.specs.Record.{recordAt, portOf, fieldsOf, fromOf, outputOf, toOf, inputOf, isPrimitive}
 use Rattle.component.specs.Reading.{ownerOf, formOf, apart, said, formBy, StandsAs}
@@ -36,7 +36,7 @@ use Rattle.component.specs.Record.{ownedAs}
 use Rattle.component.proofs.Says.{the-type}
 use Rattle.component.proofs.RecordLaws.{no-connection, no-input-map, no-output-map, refused-is, taken-is, taken-form, taken-owner, unseen-fields, seen-is}
 use Rattle.flatten.specs.declared.Pin.{Pin}
-use Rattle.flatten.specs.declared.Wire.{Wire}
+use Rattle.flatten.specs.declared.Lead.{Lead}
 use Rattle.flatten.specs.declared.descent.Entered.{Entered}
 use Rattle.flatten.specs.declared.descent.Entered.the-variants.{To, Nothing}
 use Rattle.flatten.specs.Descent.{pin, outputBelow, inputsBelow, comesFrom, goesTo, wiresAt, fails15}
@@ -44,23 +44,11 @@ use Rattle.flatten.specs.Searches.{entered, unlike, IsStretch}
 
 -- Lists one after the other.
 
-or-assoc : (a b c : Bool) → (a || (b || c)) ≡ ((a || b) || c)
-or-assoc true b c = refl
-or-assoc false b c = refl
-
 or-false : (a : Bool) → (a || false) ≡ a
 or-false true = refl
 or-false false = refl
 
 module _ {A : Type 0} where
-  pub any-append : (f : A → Bool) (xs ys : List A) → any f (xs ++ ys) ≡ (any f xs || any f ys)
-  any-append f [] ys = refl
-  any-append f (x ∷ xs) ys = ap (λ (b : Bool). f x || b) (any-append f xs ys) ∙ or-assoc (f x) (any f xs) (any f ys)
-
-  pub any-map : {B : Type 0} (f : B → Bool) (g : A → B) (xs : List A) → any f (map g xs) ≡ any (λ x. f (g x)) xs
-  any-map f g [] = refl
-  any-map f g (x ∷ xs) = ap (λ (b : Bool). f (g x) || b) (any-map f g xs)
-
   pub joined-append : {B : Type 0} (g : A → List B) (xs ys : List A) → joined g (xs ++ ys) ≡ joined g xs ++ joined g ys
   joined-append g [] ys = refl
   joined-append {B} g (x ∷ xs) ys =
@@ -362,7 +350,7 @@ module _ (s : List ℕ) (n : ℕ) where
     pub form-is : formOf (recordAt s p) ≡ 2
     form-is = sym (ap formOf at-connection)
 
-    differing : Wire → Bool
+    differing : Lead → Bool
     differing w = not (eqb (outputWidth (fieldsOf (recordAt s (w .src .comp)))) (inputWidth (fieldsOf (recordAt s (w .dst .comp)))))
 
     fails15-is : any (unlike (recordAt s) (outputWidth (fieldsOf (recordAt s (comesFrom (recordAt s) n p .comp))))) (goesTo (recordAt s) n p)

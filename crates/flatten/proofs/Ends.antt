@@ -13,14 +13,14 @@ use Rattle.component.specs.declared.Record.{Record}
 use Rattle.component.specs.Record.{fieldsOf, toOf, inputOf, inputsOf, outputsOf, isPrimitive}
 use Rattle.component.specs.Drawing.{child}
 use Rattle.flatten.specs.declared.Pin.{Pin}
-use Rattle.flatten.specs.declared.Wire.{Wire}
+use Rattle.flatten.specs.declared.Lead.{Lead}
 use Rattle.flatten.specs.Descent.{comesFrom, goesTo, wiresAt, wires}
 use Rattle.flatten.specs.Leads.{From, starts, through, Into, ends, maps}
 use Rattle.flatten.proofs.Accepted.{Passed}
 use Rattle.flatten.proofs.Components.{output-component, component-composite}
 use Rattle.flatten.proofs.DescentLeads.{mapsIn-sound, outMap-there}
 use Rattle.flatten.proofs.EnteredOnce.{entry-there}
-use Rattle.flatten.proofs.Wires.{wire, Yielded, wires-sound, connection-ends, wires-lead}
+use Rattle.flatten.proofs.Wires.{lead, Yielded, wires-sound, connection-ends, wires-lead}
 
 -- An output of a primitive that there is, and an input of one.
 pub record IsOutput (at : ℕ → Record) (s : Pin) : Type 0 where
@@ -46,23 +46,23 @@ module _ (at : ℕ → Record) (n : ℕ) (d : Passed at n) where
       into-there (child at n c (toOf (at q))) (inputOf (at q)) t (rw (s .1) at (entry-there at n d q l (rw (s .0)))) r
 
   -- Each wire leaves an output of a primitive that is there,
-  pub wires-leave : (w : Wire) → In w (wires at n) → IsOutput at (w .src)
+  pub wires-leave : (w : Lead) → In w (wires at n) → IsOutput at (w .src)
   wires-leave w h =
       let r = wires-lead at n d w h in
       from-there _ _ (w .src) (connection-ends at n d (r .by) (r .in-file) (r .connects) .0) (r .source-is)
 
   -- and enters an input of a primitive that is there.
-  pub wires-enter : (w : Wire) → In w (wires at n) → IsInput at (w .dst)
+  pub wires-enter : (w : Lead) → In w (wires at n) → IsInput at (w .dst)
   wires-enter w h =
       let r = wires-lead at n d w h in
       into-there _ _ (w .dst) (connection-ends at n d (r .by) (r .in-file) (r .connects) .1) (r .target-is)
 
   -- The ends of each wire have the same width (check 15).
-  pub wires-width : (w : Wire) → In w (wires at n)
+  pub wires-width : (w : Lead) → In w (wires at n)
       → outputWidth (fieldsOf (at (w .src .comp))) ≡ inputWidth (fieldsOf (at (w .dst .comp)))
   wires-width w h = yielded-width (wires-sound at n w h)
     where
-      differs : Wire → Bool
+      differs : Lead → Bool
       differs v = not (eqb (outputWidth (fieldsOf (at (v .src .comp)))) (inputWidth (fieldsOf (at (v .dst .comp)))))
 
       yielded-width : Yielded at n w
@@ -71,5 +71,5 @@ module _ (at : ℕ → Record) (n : ℕ) (d : Passed at n) where
           let p = y .by in
           let fifteen : any differs (wiresAt at n p) ≡ false = rw (y .connects) at (d .passes 15 p (y .in-file)) in
           let yielded : In w (wiresAt at n p) =
-          rw (y .source-is) (map-complete (wire (comesFrom at n p)) (w .dst) (goesTo at n p) (y .target-is)) in
+          rw (y .source-is) (map-complete (lead (comesFrom at n p)) (w .dst) (goesTo at n p) (y .target-is)) in
           eqb-true _ _ (not-false _ (any-none differs w (wiresAt at n p) fifteen yielded))

@@ -8,5 +8,4 @@ pub mod Primitives
 pub mod EnteredOnce
 pub mod Ends
 pub mod Bound
-pub mod FlatWires
 pub mod WireTheorems

@@ -15,15 +15,14 @@ use Rattle.component.specs.Record.{recordAt, recordCount, fieldsOf, isPrimitive
 use Rattle.component.specs.Reading.{idOf}
 use Rattle.component.specs.Drawing.{primitivesBefore, inputsBefore, outputsBefore}
 use Rattle.flatten.specs.declared.Pin.{Pin}
-use Rattle.flatten.specs.declared.Wire.{Wire}
-use Rattle.flatten.specs.Descent.{wires, flat, flatPin, flatWires}
+use Rattle.flatten.specs.declared.Lead.{Lead}
+use Rattle.flatten.specs.Descent.{wires, flat}
 use Rattle.flatten.specs.Leads.{Leads}
 use Rattle.flatten.specs.Verdict.{verdict}
 use Rattle.flatten.proofs.Accepted.{Passed, checkNumbered, accepted-passed}
-use Rattle.flatten.proofs.Wires.{wire, wires-lead, leads-wires}
+use Rattle.flatten.proofs.Wires.{lead, wires-lead, leads-wires}
 use Rattle.flatten.proofs.Ends.{IsOutput, IsInput, wires-leave, wires-enter, wires-width}
 use Rattle.flatten.proofs.Bound.{entered, wires-distinct, wires-bound}
-use Rattle.flatten.proofs.FlatWires.{flatWires-lead, leads-flatWires, flatWires-distinct, flatWires-bound}
 use Rattle.flatten.proofs.Primitives.{flat-below, flat-inj, primitives-bound, inputs-bound, outputs-bound}
 use Rattle.flatten.proofs.Primitives.{primitive-obeys, ids-distinct}
 
@@ -43,50 +42,32 @@ module _ (file : List ℕ) where
     accepted-check = passed .passes
 
     -- From the source of each wire the drawing leads to its target.
-    pub accepted-wires-lead : (w : Wire) → In w (wires at n) → Leads at n (w .src) (w .dst)
+    pub accepted-wires-lead : (w : Lead) → In w (wires at n) → Leads at n (w .src) (w .dst)
     accepted-wires-lead = wires-lead at n passed
 
     -- Wherever the drawing leads from an output to an input, there is a wire: with the theorem above, the wires
     -- are exactly what the drawing leads to.
-    pub accepted-leads-wires : (s t : Pin) → Leads at n s t → In (wire s t) (wires at n)
+    pub accepted-leads-wires : (s t : Pin) → Leads at n s t → In (lead s t) (wires at n)
     accepted-leads-wires = leads-wires at n passed
 
-    -- By flat indexes, as a load writes them: a wire between ports of primitives is where the drawing leads,
-    pub accepted-flatWires-lead : (s t : Pin) → isPrimitive (at (s .comp)) ≡ true → isPrimitive (at (t .comp)) ≡ true
-        → In (wire (flatPin at n s) (flatPin at n t)) (flatWires at n) → Leads at n s t
-    accepted-flatWires-lead = flatWires-lead at n passed
-
-    -- and wherever the drawing leads there is one.
-    pub accepted-leads-flatWires : (s t : Pin) → Leads at n s t
-        → In (wire (flatPin at n s) (flatPin at n t)) (flatWires at n)
-    accepted-leads-flatWires = leads-flatWires at n passed
-
-    -- No two wires enter one input;
+    -- No two wires enter one input.
     pub accepted-wires-distinct : Distinct (entered (wires at n))
     accepted-wires-distinct = wires-distinct at n passed
 
-    -- nor do they by flat indexes.
-    pub accepted-flatWires-distinct : Distinct (entered (flatWires at n))
-    accepted-flatWires-distinct = flatWires-distinct at n passed
-
-    -- The wire table has room for all wires: they are at most 1,024,
+    -- The wire table has room for all wires: they are at most 1,024.
     pub accepted-wires-bound : length (wires at n) ≤ 1024
     accepted-wires-bound = wires-bound at n passed
 
-    -- and as many by flat indexes.
-    pub accepted-flatWires-bound : length (flatWires at n) ≤ 1024
-    accepted-flatWires-bound = flatWires-bound at n passed
-
     -- Each wire leaves an output that a primitive has,
-    pub accepted-wires-leave : (w : Wire) → In w (wires at n) → IsOutput at (w .src)
+    pub accepted-wires-leave : (w : Lead) → In w (wires at n) → IsOutput at (w .src)
     accepted-wires-leave = wires-leave at n passed
 
     -- enters an input that a primitive has,
-    pub accepted-wires-enter : (w : Wire) → In w (wires at n) → IsInput at (w .dst)
+    pub accepted-wires-enter : (w : Lead) → In w (wires at n) → IsInput at (w .dst)
     accepted-wires-enter = wires-enter at n passed
 
     -- and the two have the same width.
-    pub accepted-wires-width : (w : Wire) → In w (wires at n)
+    pub accepted-wires-width : (w : Lead) → In w (wires at n)
         → outputWidth (fieldsOf (at (w .src .comp))) ≡ inputWidth (fieldsOf (at (w .dst .comp)))
     accepted-wires-width = wires-width at n passed
 

@@ -16,18 +16,18 @@ use Rattle.component.specs.Record.{fromOf, outputOf, toOf, inputOf, inputsOf, o
 use Rattle.component.specs.Reading.{ownerOf, formOf}
 use Rattle.component.specs.Drawing.{deepest, child, fromThere, toThere}
 use Rattle.flatten.specs.declared.Pin.{Pin}
-use Rattle.flatten.specs.declared.Wire.{Wire}
+use Rattle.flatten.specs.declared.Lead.{Lead}
 use Rattle.flatten.specs.Descent.{comesFrom, goesTo, wiresAt, wires}
 use Rattle.flatten.specs.Leads.{Leads}
 use Rattle.flatten.proofs.Accepted.{Passed}
 use Rattle.flatten.proofs.DescentLeads.{targets-sound, targets-complete, source-sound, source-complete}
 
--- A wire from one end to the other.
-abbrev pub wire : Pin → Pin → Wire
-wire s t = record { src = s; dst = t }
+-- From one pin to the other.
+abbrev pub lead : Pin → Pin → Lead
+lead s t = record { src = s; dst = t }
 
 -- A connection of the file yields the wire.
-pub record Yielded (at : ℕ → Record) (n : ℕ) (w : Wire) : Type 0 where
+pub record Yielded (at : ℕ → Record) (n : ℕ) (w : Lead) : Type 0 where
   pub by : ℕ
   pub in-file : by < n
   pub connects : formOf (at by) ≡ 2
@@ -36,27 +36,27 @@ pub record Yielded (at : ℕ → Record) (n : ℕ) (w : Wire) : Type 0 where
 
 module _ (at : ℕ → Record) (n : ℕ) where
   -- The wires are those that connections yield.
-  pub wires-sound : (w : Wire) → In w (wires at n) → Yielded at n w
+  pub wires-sound : (w : Lead) → In w (wires at n) → Yielded at n w
   wires-sound w h =
       let r = joined-sound (λ p. cond (eqb (formOf (at p)) 2) (wiresAt at n p) []) w (from 0 n) h in
       let p = r .0 in
       let c = in-cond w (eqb (formOf (at p)) 2) (wiresAt at n p) (r .2) in
-      let m = map-sound (wire (comesFrom at n p)) w (goesTo at n p) (c .1) in
+      let m = map-sound (lead (comesFrom at n p)) w (goesTo at n p) (c .1) in
       record {
         by = p;
         in-file = from0-sound n p (r .1);
         connects = eqb-true (formOf (at p)) 2 (c .0);
-        source-is = ap (λ (v : Wire). v .src) (m .2);
-        target-is = subst (λ (t : Pin). In t (goesTo at n p)) (sym (ap (λ (v : Wire). v .dst) (m .2))) (m .1);
+        source-is = ap (λ (v : Lead). v .src) (m .2);
+        target-is = subst (λ (t : Pin). In t (goesTo at n p)) (sym (ap (λ (v : Lead). v .dst) (m .2))) (m .1);
       }
 
   -- And what a connection yields is a wire.
-  pub wires-complete : (w : Wire) → Yielded at n w → In w (wires at n)
+  pub wires-complete : (w : Lead) → Yielded at n w → In w (wires at n)
   wires-complete w y =
       let p = y .by in
       joined-complete (λ p. cond (eqb (formOf (at p)) 2) (wiresAt at n p) []) w (from 0 n) p
       (from0-complete n p (y .in-file))
-      (rw (y .connects, ← y .source-is) (map-complete (wire (w .src)) (w .dst) (goesTo at n p) (y .target-is)))
+      (rw (y .connects, ← y .source-is) (map-complete (lead (w .src)) (w .dst) (goesTo at n p) (y .target-is)))
 
 module _ (at : ℕ → Record) (n : ℕ) (d : Passed at n) where
   -- The output that a connection starts at and the input that it enters are there (check 12).
@@ -74,7 +74,7 @@ module _ (at : ℕ → Record) (n : ℕ) (d : Passed at n) where
   full-depth = omega arith
 
   -- From the source of what a connection yields the drawing leads to its target; and the other way.
-  yielded-leads : (w : Wire) → Yielded at n w → Leads at n (w .src) (w .dst)
+  yielded-leads : (w : Lead) → Yielded at n w → Leads at n (w .src) (w .dst)
   unfolding comesFrom goesTo
   yielded-leads w y =
       record {
@@ -86,7 +86,7 @@ module _ (at : ℕ → Record) (n : ℕ) (d : Passed at n) where
         target-is = targets-sound at n deepest _ _ (w .dst) (y .target-is);
       }
 
-  leads-yielded : (s t : Pin) → Leads at n s t → Yielded at n (wire s t)
+  leads-yielded : (s t : Pin) → Leads at n s t → Yielded at n (lead s t)
   unfolding comesFrom goesTo
   leads-yielded s t r =
       record {
@@ -98,9 +98,9 @@ module _ (at : ℕ → Record) (n : ℕ) (d : Passed at n) where
       }
 
   -- From the source of each wire the drawing leads to its target.
-  pub wires-lead : (w : Wire) → In w (wires at n) → Leads at n (w .src) (w .dst)
+  pub wires-lead : (w : Lead) → In w (wires at n) → Leads at n (w .src) (w .dst)
   wires-lead w h = yielded-leads w (wires-sound at n w h)
 
   -- Wherever the drawing leads from an output to an input, there is a wire.
-  pub leads-wires : (s t : Pin) → Leads at n s t → In (wire s t) (wires at n)
-  leads-wires s t r = wires-complete at n (wire s t) (leads-yielded s t r)
+  pub leads-wires : (s t : Pin) → Leads at n s t → In (lead s t) (wires at n)
+  leads-wires s t r = wires-complete at n (lead s t) (leads-yielded s t r)

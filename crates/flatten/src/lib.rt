@@ -10,14 +10,14 @@ pub use descent::stretch_of;
 pub use judgement::is_sized;
 pub use judgement::judge;
 
-// A port of a component: in a drawing by the component's number, in the tables by its flat index.
+// A port of a component of a drawing, by the component's number.
 pub struct Pin {
     pub comp: usize,
     pub port: u16,
 }
 
-// From an output to an input.
-pub struct Wire {
+// From an output to an input that it leads to.
+pub struct Lead {
     pub src: Pin,
     pub dst: Pin,
 }

@@ -5,7 +5,7 @@ ghost use Rattle.simulator.specs.Calls.{editNumber, editTables};
 ghost use Rattle.host.specs.Host.{CallChanges};
 use crate::counts::counts_in;
 use crate::counts::keep;
-use component::FlatIdx;
+use tables::FlatIdx;
 
 // An edit of the component at an index to a plain number.
 #[no_mangle]

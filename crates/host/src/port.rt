@@ -5,7 +5,7 @@ ghost use Rattle.host.specs.Host.{CallAnswers, sideOf};
 use crate::answers::lay_value;
 use crate::answers::side_of;
 use crate::counts::counts_in;
-use component::FlatIdx;
+use tables::FlatIdx;
 
 // The value of a port: its number and its width, into two lent words. Side 0 is the component's inputs, any other its outputs.
 #[no_mangle]

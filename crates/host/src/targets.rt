@@ -10,7 +10,7 @@ ghost use Rattle.simulator.specs.Questions.{listNumber};
 ghost use Rattle.host.specs.Host.{CallLists};
 use crate::answers::lay_listed;
 use crate::counts::counts_in;
-use component::FlatIdx;
+use tables::FlatIdx;
 
 // The targets of the component at an index, into a list of 256; how many they are, into a lent word.
 #[no_mangle]

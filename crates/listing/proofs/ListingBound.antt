@@ -151,8 +151,8 @@ module _ (T : Tables) (z : netNumber T ≡ 0) where
       let to-there = s .target x i in
       let port-here = s .source-port x i in
       let port-there = s .target-port x i in
-      let outs = portsFollow-outputs T p (x .src .comp) from-here in
-      let ins = portsFollow-inputs T p (x .dst .comp) to-there in
+      let outs = portsFollow-outputs T p (x .src .comp .0) from-here in
+      let ins = portsFollow-inputs T p (x .dst .comp .0) to-there in
       wire-few (T .wires) k (omega (arith, w .components)) (omega (arith, w .outputs)) (omega (arith, w .components))
       (omega (arith, w .inputs))
 

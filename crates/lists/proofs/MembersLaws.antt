@@ -33,6 +33,10 @@ pub or-right-false : (a b : Bool) → (a || b) ≡ false → b ≡ false
 or-right-false true b e = absurd (true≢false e)
 or-right-false false b e = e
 
+or-assoc : (a b c : Bool) → (a || (b || c)) ≡ ((a || b) || c)
+or-assoc true b c = refl
+or-assoc false b c = refl
+
 pub or-cases : (a b : Bool) → (a || b) ≡ true → (a ≡ true) ⊎ (b ≡ true)
 or-cases true b e = inl refl
 or-cases false b e = inr e
@@ -108,6 +112,14 @@ module _ {A : Type 0} where
   any-none f a [] e h = absurd h
   any-none f a (x ∷ xs) e (inl u) = ap f u ∙ or-left-false (f x) (any f xs) e
   any-none f a (x ∷ xs) e (inr u) = any-none f a xs (or-right-false (f x) (any f xs) e) u
+
+  pub any-append : (f : A → Bool) (xs ys : List A) → any f (xs ++ ys) ≡ (any f xs || any f ys)
+  any-append f [] ys = refl
+  any-append f (x ∷ xs) ys = ap (λ (b : Bool). f x || b) (any-append f xs ys) ∙ or-assoc (f x) (any f xs) (any f ys)
+
+  pub any-map : {B : Type 0} (f : B → Bool) (g : A → B) (xs : List A) → any f (map g xs) ≡ any (λ x. f (g x)) xs
+  any-map f g [] = refl
+  any-map f g (x ∷ xs) = ap (λ (b : Bool). f (g x) || b) (any-map f g xs)
 
   pub any-some : (f : A → Bool) (a : A) (xs : List A) → f a ≡ true → In a xs → any f xs ≡ true
   any-some f a [] e h = absurd h

@@ -14,7 +14,6 @@ use Rattle.primitive.specs.declared.answers.Refusal.{Refusal}
 use Rattle.component.specs.declared.Verdict.{Verdict}
 use Rattle.component.specs.declared.Verdict.the-variants.{Accepted, Refused}
 use Rattle.component.specs.Record.{recordAt, recordCount}
-use Rattle.flatten.specs.Descent.{flatWires}
 use Rattle.flatten.specs.Verdict.{sized, refused, verdict}
 use Rattle.flatten.proofs.Accepted.{refused-not, accepted-passed}
 use Rattle.flatten.proofs.WireTheorems.{accepted-primitives-bound, accepted-inputs-bound}
@@ -25,7 +24,7 @@ use Rattle.tables.proofs.SizesLaws.{fullSize-sound}
 use Rattle.tables.proofs.NamedLaws.{overlay-list, overlay-count}
 use Rattle.load.specs.declared.rows.Before.{Before}
 use Rattle.load.specs.Load.{wireWords, primitives, componentWords, standingAtLoad, drawingTables, loadVerdict}
-use Rattle.load.specs.Load.{loadTables, Loads}
+use Rattle.load.specs.Load.{flatWires, loadTables, Loads}
 use Rattle.load.specs.Laying.{beforeAt, startingOf}
 use Rattle.load.proofs.LayingLaws.{sets-overlay}
 use Rattle.load.proofs.StandingLaws.{standing-bound}

@@ -16,7 +16,7 @@ use Rattle.lists.proofs.MembersLaws.{total-append}
 use Rattle.lists.proofs.OverlayLaws.{joined-width}
 use Rattle.primitive.specs.declared.table.Fields.{Fields}
 use Rattle.primitive.specs.Kinds.{primitive}
-use Rattle.component.specs.declared.Id.{Id}
+use Rattle.primitive.specs.declared.Id.{Id}
 use Rattle.component.specs.declared.Record.{Record}
 use Rattle.component.specs.declared.Stands.{Stands}
 use Rattle.component.specs.declared.Stands.the-variants.{Component as SeenComponent, Nothing}

@@ -16,7 +16,7 @@ use Rattle.primitive.specs.declared.table.Fields.{Fields}
 use Rattle.primitive.specs.Kinds.{numberOf, is, primitive, obeys}
 use Rattle.primitive.specs.Evaluate.{starting}
 use Rattle.primitive.proofs.UpdateLaws.{obeyed-row}
-use Rattle.component.specs.declared.Id.{Id}
+use Rattle.primitive.specs.declared.Id.{Id}
 use Rattle.component.specs.declared.Record.{Record}
 use Rattle.component.specs.declared.Verdict.the-variants.{Accepted}
 use Rattle.component.specs.Record.{recordAt, recordCount, fieldsOf, outputsOf, isPrimitive}

@@ -15,7 +15,7 @@ use Rattle.lists.proofs.MembersLaws.{keep-length, from-length}
 use Rattle.primitive.specs.declared.kinds.Kind.the-variants.{Clock, Const}
 use Rattle.primitive.specs.declared.table.Fields.{Fields}
 use Rattle.primitive.specs.Kinds.{is}
-use Rattle.component.specs.declared.Id.{Id}
+use Rattle.primitive.specs.declared.Id.{Id}
 use Rattle.component.specs.declared.Record.{Record}
 use Rattle.component.specs.declared.Verdict.the-variants.{Accepted}
 use Rattle.component.specs.Record.{recordAt, recordCount, fieldsOf, isPrimitive}

@@ -1,6 +1,6 @@
 -- Laws of the wires at load: those of one connection, written while its target goes down through the input maps, and
 -- all of them.
---   led s n f ts    the words of the wires from the output f, by flat index, to the inputs ts of the drawing
+--   led s n f ts    the words of the wires from the output f of the net to the inputs ts of the drawing
 --   Leading         the invariant of the loop over input maps: what is written and what the maps to come give is what
 --                   the input gives
 -- Not here: laws of the source and the targets (DescentLaws of crate flatten).
@@ -33,10 +33,10 @@ use Rattle.component.specs.Drawing.{deepest, child}
 use Rattle.component.proofs.Says.{the-type}
 use Rattle.component.proofs.RecordLaws.{no-connection, refused-is, taken-form}
 use Rattle.flatten.specs.declared.Pin.{Pin}
-use Rattle.flatten.specs.declared.Wire.{Wire}
+use Rattle.flatten.specs.declared.Lead.{Lead}
 use Rattle.flatten.specs.declared.descent.Entered.{Entered}
 use Rattle.flatten.specs.declared.descent.Entered.the-variants.{To, Nothing}
-use Rattle.flatten.specs.Descent.{outputBelow, inputsBelow, comesFrom, goesTo, wiresAt, wires, flat, flatPin, flatWires}
+use Rattle.flatten.specs.Descent.{outputBelow, inputsBelow, comesFrom, goesTo, wiresAt, wires, flat}
 use Rattle.flatten.specs.Searches.{entered, IsStretch}
 use Rattle.flatten.specs.Verdict.{verdict}
 use Rattle.flatten.proofs.DescentLaws.{given, targets-bottom, targets-ends, targets-stretch, given-to, given-nothing}
@@ -46,22 +46,23 @@ use Rattle.flatten.proofs.Components.{primitive-component, component-number}
 use Rattle.flatten.proofs.DescentLeads.{source-sound}
 use Rattle.flatten.proofs.Wires.{connection-ends}
 use Rattle.flatten.proofs.Ends.{from-there}
-use Rattle.flatten.proofs.FlatWires.{flatWire, flatWires-bound}
-use Rattle.load.specs.Load.{wireWords}
+use Rattle.tables.specs.declared.End.{End}
+use Rattle.load.specs.Load.{wireWords, flatPin, flatWires}
 use Rattle.load.specs.Laying.{Written, Ready, leadWords, wiresGiven}
+use Rattle.load.proofs.FlatWires.{flatWire, flatWires-bound}
 use Rattle.load.proofs.LayingLaws.{sets-append, Laid, laid-room, laid-step, laid-end, laid-count}
 
-abbrev pub led : List ℕ → ℕ → Pin → List Pin → List ℕ
+abbrev pub led : List ℕ → ℕ → End → List Pin → List ℕ
 led s n f ts = joined (leadWords (recordAt s) n f) ts
 
-pub record Leading (s : List ℕ) (n d c i : ℕ) (f : Pin) (t : List ℕ) (k q e : ℕ) (u : List ℕ) (m : ℕ) : Type 0 where
+pub record Leading (s : List ℕ) (n d c i : ℕ) (f : End) (t : List ℕ) (k q e : ℕ) (u : List ℕ) (m : ℕ) : Type 0 where
   pub size : length u ≡ length t
   pub table : sets u m (led s n f (joined (given (recordAt s) n (d - 1) c i) (from q (e - q))))
       ≡ sets t k (led s n f (inputsBelow (recordAt s) n d c i))
   pub place : m + length (led s n f (joined (given (recordAt s) n (d - 1) c i) (from q (e - q))))
       ≡ k + length (led s n f (inputsBelow (recordAt s) n d c i))
 
-module _ (s : List ℕ) (n d c i : ℕ) (f : Pin) (t : List ℕ) (k : ℕ) where
+module _ (s : List ℕ) (n d c i : ℕ) (f : End) (t : List ℕ) (k : ℕ) where
   -- No depth left.
   pub lead-bottom : d ≡ 0 → Written t k (led s n f (inputsBelow (recordAt s) n d c i)) t k
   lead-bottom h =
@@ -71,19 +72,19 @@ module _ (s : List ℕ) (n d c i : ℕ) (f : Pin) (t : List ℕ) (k : ℕ) where
   module _ (b : Bool) (h : d ≡ 0 → ⊥) (eb : b ≡ isPrimitive (recordAt s c)) where
     -- A primitive: one wire.
     module _ (p : b ≡ true) where
-      led-here : led s n f (inputsBelow (recordAt s) n d c i) ≡ f .comp ∷ f .port ∷ flat (recordAt s) n c ∷ i ∷ []
+      led-here : led s n f (inputsBelow (recordAt s) n d c i) ≡ f .comp .0 ∷ f .port ∷ flat (recordAt s) n c ∷ i ∷ []
       led-here = ap (led s n f) (targets-ends (recordAt s) n d c i h (sym eb ∙ p))
 
       pub lead-room : k + length (led s n f (inputsBelow (recordAt s) n d c i)) ≤ length t → k + 4 ≤ length t
       lead-room room = omega (arith, ap (λ (l : List ℕ). length l) led-here)
 
-      pub lead-here : (u : List ℕ) (x : Pin) → x ≡ flatPin (recordAt s) n (record { comp = c; port = i })
+      pub lead-here : (u : List ℕ) (x : End) → x ≡ flatPin (recordAt s) n (record { comp = c; port = i })
           → u ≡ sets t k (wireWords (record { src = f; dst = x }))
           → Written t k (led s n f (inputsBelow (recordAt s) n d c i)) u (k + 4)
       lead-here u x ex eu =
           record {
             table =
-                eu ∙ ap (λ (y : Pin). sets t k (wireWords (record { src = f; dst = y }))) ex
+                eu ∙ ap (λ (y : End). sets t k (wireWords (record { src = f; dst = y }))) ex
                 ∙ ap (sets t k) (sym led-here);
             place = omega (arith, ap (λ (l : List ℕ). length l) led-here);
           }
@@ -208,12 +209,12 @@ module _ (s : List ℕ) (n : ℕ) where
           (primitive-component (recordAt s (comesFrom (recordAt s) n p .comp))
           (from-there (recordAt s) n d _ _ _ there comes .of-primitive)))
 
-      module _ (l q : ℕ) (i : Pin) (el : l ≡ deepest) (eq : q ≡ child (recordAt s) n w (g .0))
+      module _ (l q : ℕ) (i : End) (el : l ≡ deepest) (eq : q ≡ child (recordAt s) n w (g .0))
           (ei : i ≡ flatPin (recordAt s) n x) where
         pub wires-are : led s n i (inputsBelow (recordAt s) n l q b) ≡ wiresGiven (recordAt s) n p
         wires-are =
             ap (led s n i) (targets-are s n p v e w a b f g r h y l q el eq)
-            ∙ ap (λ (z : Pin). led s n z (goesTo (recordAt s) n p)) (ei ∙ ap (flatPin (recordAt s) n) from-source)
+            ∙ ap (λ (z : End). led s n z (goesTo (recordAt s) n p)) (ei ∙ ap (flatPin (recordAt s) n) from-source)
             ∙ ap (λ (z : Bool). cond z
             (led s n (flatPin (recordAt s) n (comesFrom (recordAt s) n p)) (goesTo (recordAt s) n p)) [])
             (sym (eq-eqb (formOf (recordAt s p)) 2 (form-is s n p v e w a b f g r h y)))
@@ -243,14 +244,14 @@ module _ (at : ℕ → Record) (n : ℕ) where
   pub wires-joined : joined wireWords (flatWires at n) ≡ joined (wiresGiven at n) (from 0 n)
   wires-joined =
       joined-map wireWords (flatWire at n) (wires at n)
-      ∙ joined-joined (λ (w : Wire). wireWords (flatWire at n w))
+      ∙ joined-joined (λ (w : Lead). wireWords (flatWire at n w))
       (λ p. cond (eqb (formOf (at p)) 2) (wiresAt at n p) []) (from 0 n)
       ∙ (λ j. joined (λ p. by-form p (eqb (formOf (at p)) 2) j) (from 0 n))
     where
-      by-form : (p : ℕ) (b : Bool) → joined (λ (w : Wire). wireWords (flatWire at n w)) (cond b (wiresAt at n p) [])
+      by-form : (p : ℕ) (b : Bool) → joined (λ (w : Lead). wireWords (flatWire at n w)) (cond b (wiresAt at n p) [])
           ≡ cond b (joined (leadWords at n (flatPin at n (comesFrom at n p))) (goesTo at n p)) []
       by-form p true =
-          joined-map (λ (w : Wire). wireWords (flatWire at n w)) (λ t. record { src = comesFrom at n p; dst = t })
+          joined-map (λ (w : Lead). wireWords (flatWire at n w)) (λ t. record { src = comesFrom at n p; dst = t })
           (goesTo at n p)
       by-form p false = refl
 

@@ -14,7 +14,7 @@ use Rattle.primitive.specs.declared.table.Fields.{Fields}
 use Rattle.primitive.specs.declared.kinds.Kind.the-variants.{Clock, Const}
 use Rattle.primitive.specs.Kinds.{is}
 use Rattle.primitive.specs.Evaluate.{starting}
-use Rattle.component.specs.declared.Id.{Id}
+use Rattle.primitive.specs.declared.Id.{Id}
 use Rattle.component.specs.declared.Record.{Record}
 use Rattle.component.specs.Record.{recordAt, recordCount, fieldsOf, isPrimitive}
 use Rattle.component.specs.Reading.{idOf, formOf}
@@ -22,14 +22,15 @@ use Rattle.component.specs.Drawing.{child, primitivesBefore, inputsBefore, outp
 use Rattle.component.specs.Index.{IsTable, IsRange}
 use Rattle.component.specs.declared.Verdict.the-variants.{Accepted}
 use Rattle.flatten.specs.declared.Pin.{Pin}
-use Rattle.flatten.specs.Descent.{inputsBelow, comesFrom, goesTo, flat, flatPin}
+use Rattle.flatten.specs.Descent.{inputsBelow, comesFrom, goesTo, flat}
 use Rattle.flatten.specs.Verdict.{verdict}
+use Rattle.tables.specs.declared.End.{End}
 use Rattle.load.specs.declared.names.Stood.{Stood}
 use Rattle.load.specs.declared.rows.Drawn.{Drawn}
 use Rattle.load.specs.declared.rows.Drawn.the-variants.{Primitive, Other}
 use Rattle.load.specs.declared.rows.Before.{Before}
 use Rattle.load.specs.declared.wires.Goal.{Goal}
-use Rattle.load.specs.Load.{wireWords}
+use Rattle.load.specs.Load.{wireWords, flatPin}
 
 pub record Written (t : List ℕ) (k : ℕ) (xs : List ℕ) (u : List ℕ) (m : ℕ) : Type 0 where
   pub table : u ≡ sets t k xs
@@ -91,8 +92,8 @@ module _ (at : ℕ → Record) (n : ℕ) where
     pub size : length t ≡ 256
     pub word : (c : ℕ) → c < 256 → getD t c 0 ≡ flat at n c
 
-  -- The words of a wire from the output f, by flat index, to the input t of the drawing.
-  abbrev pub leadWords : Pin → Pin → List ℕ
+  -- The words of a wire from the output f of the net to the input t of the drawing.
+  abbrev pub leadWords : End → Pin → List ℕ
   leadWords f t = wireWords (record { src = f; dst = flatPin at n t })
 
   abbrev pub reached : Goal → List Pin

@@ -13,15 +13,18 @@ use Rattle.component.specs.declared.Verdict.{Verdict}
 use Rattle.component.specs.declared.Verdict.the-variants.{Accepted, Refused}
 use Rattle.component.specs.Record.{recordAt, recordCount, fieldsOf, inputsOf, outputsOf}
 use Rattle.component.specs.Drawing.{primitivesBefore, inputsBefore, outputsBefore}
-use Rattle.flatten.specs.declared.Wire.{Wire}
-use Rattle.tables.specs.declared.Answer.{Answer}
-use Rattle.flatten.specs.Descent.{flat, flatWires}
+use Rattle.flatten.specs.declared.Pin.{Pin}
+use Rattle.flatten.specs.declared.Lead.{Lead}
+use Rattle.flatten.specs.Descent.{flat, wires}
 use Rattle.flatten.specs.Verdict.{sized, refused, verdict, verdictGives}
-use Rattle.tables.specs.Tables.{Tables, countsOf, tablesOf, fullSize, answerGives, Changes}
+use Rattle.tables.specs.declared.End.{End}
+use Rattle.tables.specs.declared.Wire.{Wire}
+use Rattle.tables.specs.declared.Answer.{Answer}
+use Rattle.tables.specs.Tables.{Tables, endAt, countsOf, tablesOf, fullSize, answerGives, Changes}
 
 -- The words of a wire's entry.
 abbrev pub wireWords : Wire → List ℕ
-wireWords w = w .src .comp ∷ w .src .port ∷ w .dst .comp ∷ w .dst .port ∷ []
+wireWords w = w .src .comp .0 ∷ w .src .port ∷ w .dst .comp .0 ∷ w .dst .port ∷ []
 
 module _ (at : ℕ → Record) (n : ℕ) where
   -- The primitives, in file order.
@@ -34,6 +37,14 @@ module _ (at : ℕ → Record) (n : ℕ) where
       fieldsOf (at x) .kind ∷ (at x .id) ∷ fieldsOf (at x) .width ∷ fieldsOf (at x) .parameter ∷ inputsOf (at x) ∷ outputsOf (at x)
       ∷ inputsBefore at x ∷ outputsBefore at x ∷ []
 
+  -- A port of the drawing as the net has it, its component by flat index.
+  abbrev pub flatPin : Pin → End
+  flatPin s = endAt (flat at n (s .comp)) (s .port)
+
+  -- The wires of the net, in the order of the drawing's.
+  abbrev pub flatWires : List Wire
+  flatWires = map (λ (l : Lead). record { src = flatPin (l .src); dst = flatPin (l .dst) }) (wires at n)
+
   -- The standing list at load: every Const and Clock, ascending.
   abbrev pub standingAtLoad : List ℕ
   standingAtLoad = map (flat at n) (keep (λ x. is Const (fieldsOf (at x)) || is Clock (fieldsOf (at x))) primitives)
@@ -43,9 +54,9 @@ module _ (at : ℕ → Record) (n : ℕ) where
   drawingTables T =
       tablesOf (overlay (joined componentWords primitives) (T .components)) (overlay (replicate (inputsBefore at n) 0) (T .inputs))
       (overlay (joined (λ x. starting (fieldsOf (at x))) primitives) (T .outputs))
-      (overlay (joined wireWords (flatWires at n)) (T .wires)) (overlay (from 0 (length primitives)) (T .current))
+      (overlay (joined wireWords flatWires) (T .wires)) (overlay (from 0 (length primitives)) (T .current))
       (overlay standingAtLoad (T .following)) (overlay standingAtLoad (T .standing))
-      (countsOf (length primitives) (inputsBefore at n) (outputsBefore at n) (length (flatWires at n)) (length primitives)
+      (countsOf (length primitives) (inputsBefore at n) (outputsBefore at n) (length flatWires) (length primitives)
       (length standingAtLoad) (length standingAtLoad))
 
 -- The verdict of a load: check 2 stands between 1 and 3.

@@ -9,10 +9,10 @@ ghost use Rattle.component.specs.declared.Verdict.the-variants.{Accepted};
 ghost use Rattle.flatten.specs.Verdict.{verdict};
 ghost use Rattle.load.specs.Load.{primitives, componentWords};
 ghost use Rattle.load.specs.Laying.{seen, componentBy, rowBy, beforeBy, beforeAt, outputsBy, startingOf};
-use component::Id;
 use component::Stands;
 use component::component_at;
 use primitive::Fields;
+use primitive::Id;
 use primitive::Kind;
 
 // A primitive of the drawing, or any other record.

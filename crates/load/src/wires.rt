@@ -9,9 +9,8 @@ ghost use Rattle.component.specs.Record.{recordAt, recordCount};
 ghost use Rattle.component.specs.Drawing.{outMap};
 ghost use Rattle.component.specs.Index.{IsTable};
 ghost use Rattle.component.specs.declared.Verdict.the-variants.{Accepted};
-ghost use Rattle.flatten.specs.Descent.{flatPin, flatWires};
 ghost use Rattle.flatten.specs.Verdict.{verdict};
-ghost use Rattle.load.specs.Load.{wireWords};
+ghost use Rattle.load.specs.Load.{wireWords, flatPin, flatWires};
 ghost use Rattle.load.specs.Laying.{Written, IsFlat, Ready, leadWords, reached, wiresGiven};
 use crate::names::index_flat;
 use component::Reading;
@@ -24,10 +23,11 @@ use component::index_ranges;
 use component::is_primitive_at;
 use component::record_at;
 use flatten::Entered;
-use flatten::Pin;
 use flatten::enter;
 use flatten::source_of;
 use flatten::stretch_of;
+use tables::End;
+use tables::FlatIdx;
 
 // An input of a component, to be led to with the depth left.
 struct Goal {
@@ -36,25 +36,25 @@ struct Goal {
     depth: u8,
 }
 
-// A port of a component, by its flat index.
-fn flat_pin(file: &[u8], n: usize, indexes: &[u16], comp: usize, port: u16) -> Pin
+// A port of a component of the drawing as the net has it.
+fn flat_pin(file: &[u8], n: usize, indexes: &[u16], comp: usize, port: u16) -> End
     requires { ⌜ IsFlat (recordAt (now file)) n (now indexes) × (comp < 256) ⌝ }
-    ensures { λ r. ⌜ (r ≡ flatPin (recordAt (now (file .entry))) n (record { comp = comp; port = port })) × (r .comp < 65536) ⌝ }
+    ensures { λ r. ⌜ (r ≡ flatPin (recordAt (now (file .entry))) n (record { comp = comp; port = port })) × (r .comp .0 < 65536) ⌝ }
 {
-    Pin {
-        comp: indexes[comp] as usize,
+    End {
+        comp: FlatIdx(indexes[comp] as usize),
         port,
     }
 }
 
 // Writes the words of a wire.
-fn write_wire(wires: &mut [u16], at: usize, from: Pin, to: Pin)
-    requires { ⌜ (at + 4 ≤ length (now wires)) × (from .comp < 65536) × (to .comp < 65536) ⌝ }
+fn write_wire(wires: &mut [u16], at: usize, from: End, to: End)
+    requires { ⌜ (at + 4 ≤ length (now wires)) × (from .comp .0 < 65536) × (to .comp .0 < 65536) ⌝ }
     ensures { λ _. ⌜ now (wires .exit) ≡ sets (now (wires .entry)) at (wireWords (record { src = from; dst = to })) ⌝ }
 {
-    wires[at] = from.comp as u16;
+    wires[at] = from.comp.0 as u16;
     wires[at + 1] = from.port;
-    wires[at + 2] = to.comp as u16;
+    wires[at + 2] = to.comp.0 as u16;
     wires[at + 3] = to.port;
 }
 
@@ -67,13 +67,13 @@ fn lead(
     lo: &[u16],
     hi: &[u16],
     indexes: &[u16],
-    from: Pin,
+    from: End,
     goal: Goal,
     wires: &mut [u16],
     at: usize,
 ) -> usize
     requires { ⌜ Ready (now file) n (now children) (now lo) (now hi) (now indexes) ⌝ }
-    requires { ⌜ (from .comp < 65536) × (at + length (joined (leadWords (recordAt (now file)) n from) (reached (recordAt (now file)) n goal)) ≤ length
+    requires { ⌜ (from .comp .0 < 65536) × (at + length (joined (leadWords (recordAt (now file)) n from) (reached (recordAt (now file)) n goal)) ≤ length
         (now wires)) ⌝ }
     ensures { λ r. ⌜ Written (now (wires .entry)) at (joined (leadWords (recordAt (now (file .entry))) n from)
         (reached (recordAt (now (file .entry))) n goal)) (now (wires .exit)) r ⌝ }

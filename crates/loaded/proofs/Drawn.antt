@@ -18,17 +18,17 @@ use Rattle.component.specs.Record.{fieldsOf, inputsOf, outputsOf, isPrimitive}
 use Rattle.component.specs.Reading.{idOf}
 use Rattle.component.specs.Drawing.{primitivesBefore, inputsBefore, outputsBefore}
 use Rattle.flatten.specs.declared.Pin.{Pin}
-use Rattle.flatten.specs.declared.Wire.{Wire}
-use Rattle.flatten.specs.Descent.{pin, flat, flatPin, flatWires}
+use Rattle.flatten.specs.Descent.{pin, flat}
 use Rattle.flatten.specs.Leads.{Leads}
 use Rattle.flatten.proofs.Accepted.{Passed}
-use Rattle.flatten.proofs.Wires.{wire, wires-lead}
+use Rattle.flatten.proofs.Wires.{wires-lead}
 use Rattle.flatten.proofs.Ends.{IsOutput, IsInput}
 use Rattle.flatten.proofs.Primitives.{flat-below, flat-inj, flat-onto, portsBefore-within}
-use Rattle.flatten.proofs.FlatWires.{flatWires-sound, leads-flatWires, flatWires-lead}
+use Rattle.tables.specs.declared.Wire.{Wire}
 use Rattle.tables.specs.Tables.{Tables, fieldsAt, idAt, firstInput, firstOutput, inputPlace}
 use Rattle.tables.specs.Tables.{indexes, wiresIn}
-use Rattle.load.specs.Load.{primitives, drawingTables}
+use Rattle.load.specs.Load.{primitives, flatPin, flatWires, drawingTables}
+use Rattle.load.proofs.FlatWires.{wire, flatWires-sound, leads-flatWires, flatWires-lead}
 use Rattle.net.specs.Net.{isOutput, isInput}
 use Rattle.loaded.proofs.Entries.{loaded-wires, loaded-fields, loaded-id, loaded-firstInput, loaded-firstOutput}
 use Rattle.tables.proofs.SameLaws.{SameWiring, sameWiring-word, sameWiring-fields, sameWiring-wires}

@@ -20,15 +20,16 @@ use Rattle.component.specs.Record.{fieldsOf, isPrimitive}
 use Rattle.component.specs.Reading.{idOf}
 use Rattle.component.specs.Drawing.{primitivesBefore, inputsBefore, outputsBefore}
 use Rattle.flatten.specs.declared.Pin.{Pin}
-use Rattle.flatten.specs.declared.Wire.{Wire}
-use Rattle.flatten.specs.Descent.{flat, flatPin, flatWires}
+use Rattle.flatten.specs.Descent.{flat}
 use Rattle.flatten.proofs.Accepted.{Passed}
 use Rattle.flatten.proofs.Components.{primitive-component}
 use Rattle.flatten.proofs.Ends.{IsInput, wires-leave, wires-enter, wires-width}
-use Rattle.flatten.proofs.Bound.{entered}
 use Rattle.flatten.proofs.Primitives.{primitive-obeyed, flat-onto, id-inj}
-use Rattle.flatten.proofs.FlatWires.{flatWires-sound, flatWires-distinct}
+use Rattle.tables.specs.declared.End.{End}
+use Rattle.tables.specs.declared.Wire.{Wire}
 use Rattle.tables.specs.Tables.{Tables, fieldsAt, idAt, firstInput, firstOutput, inputPlace, indexes}
+use Rattle.load.specs.Load.{flatPin, flatWires}
+use Rattle.load.proofs.FlatWires.{enteredEnds, flatWires-sound, flatWires-distinct}
 use Rattle.net.specs.Net.{kindsObeyed, idsDistinct, inputSum, outputSum, portsFollow, isOutput, isInput, wiresFit}
 use Rattle.net.specs.Net.{inputsOnce}
 use Rattle.loaded.proofs.Drawn.{IsDrawn, drawn-primitive, drawn-every, drawn-isOutput, drawn-isInput}
@@ -99,7 +100,7 @@ module _ (at : ℕ → Record) (n : ℕ) (p : Passed at n) (U : Tables) (d : IsD
       fit : Wire → Bool
       fit w =
           isOutput U (w .src) && isInput U (w .dst)
-          && eqb (outputWidth (fieldsAt U (w .src .comp))) (inputWidth (fieldsAt U (w .dst .comp)))
+          && eqb (outputWidth (fieldsAt U (w .src .comp .0))) (inputWidth (fieldsAt U (w .dst .comp .0)))
 
       each : (v : Wire) → In v (flatWires at n) → fit v ≡ true
       each v h =
@@ -116,7 +117,7 @@ module _ (at : ℕ → Record) (n : ℕ) (p : Passed at n) (U : Tables) (d : IsD
           ∙ eq-eqb _ _ (wires-width at n p w (r .1))
 
   -- What a wire enters, by flat index, is an input of a primitive.
-  entered-input : (t : Pin) → In t (entered (flatWires at n)) → (x : Pin) × IsInput at x × (t ≡ flatPin at n x)
+  entered-input : (t : End) → In t (enteredEnds (flatWires at n)) → (x : Pin) × IsInput at x × (t ≡ flatPin at n x)
   entered-input t h =
       let r = map-sound (λ (w : Wire). w .dst) t (flatWires at n) h in
       let s = flatWires-sound at n (r .0) (r .1) in
@@ -129,9 +130,9 @@ module _ (at : ℕ → Record) (n : ℕ) (p : Passed at n) (U : Tables) (d : IsD
       ap (λ (ws : List Wire). distinct (map (λ (w : Wire). inputPlace U (w .dst)) ws)) (d .wires)
       ∙ distinct-complete (map (λ (w : Wire). inputPlace U (w .dst)) (flatWires at n))
       (subst Distinct (map-map (inputPlace U) (λ (w : Wire). w .dst) (flatWires at n))
-      (distinct-map (inputPlace U) (entered (flatWires at n)) same (flatWires-distinct at n p)))
+      (distinct-map (inputPlace U) (enteredEnds (flatWires at n)) same (flatWires-distinct at n p)))
     where
-      same : (s t : Pin) → In s (entered (flatWires at n)) → In t (entered (flatWires at n))
+      same : (s t : End) → In s (enteredEnds (flatWires at n)) → In t (enteredEnds (flatWires at n))
           → inputPlace U s ≡ inputPlace U t → s ≡ t
       same s t u v e =
           let x = entered-input s u in

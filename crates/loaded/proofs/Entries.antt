@@ -12,17 +12,17 @@ use Rattle.component.specs.declared.Record.{Record}
 use Rattle.component.specs.Record.{fieldsOf, isPrimitive}
 use Rattle.component.specs.Reading.{idOf}
 use Rattle.component.specs.Drawing.{inputsBefore, outputsBefore}
-use Rattle.flatten.specs.declared.Wire.{Wire}
-use Rattle.flatten.specs.Descent.{pin, flat, flatWires}
+use Rattle.flatten.specs.Descent.{flat}
 use Rattle.flatten.proofs.Accepted.{Passed}
-use Rattle.flatten.proofs.Wires.{wire}
 use Rattle.flatten.proofs.Primitives.{primitive-below, flat-below, flat-place}
-use Rattle.tables.specs.Tables.{Tables, wordIn, fieldsAt, idAt, firstInput, firstOutput, wireAt, wiresIn}
-use Rattle.load.specs.Load.{wireWords, primitives, componentWords, drawingTables}
+use Rattle.tables.specs.declared.Wire.{Wire}
+use Rattle.tables.specs.Tables.{Tables, wordIn, endAt, fieldsAt, idAt, firstInput, firstOutput, wireAt, wiresIn}
+use Rattle.load.specs.Load.{wireWords, primitives, componentWords, flatWires, drawingTables}
+use Rattle.load.proofs.FlatWires.{wire}
 
 -- What stands past the last wire; no law depends on it.
 abbrev noWire : Wire
-noWire = wire (pin 0 0) (pin 0 0)
+noWire = wire (endAt 0 0) (endAt 0 0)
 
 -- The wire table.
 module _ (at : ℕ → Record) (n : ℕ) (T : Tables) where
@@ -41,7 +41,7 @@ module _ (at : ℕ → Record) (n : ℕ) (T : Tables) where
       let b = wire-word i 1 h (omega arith) in
       let c = wire-word i 2 h (omega arith) in
       let e = wire-word i 3 h (omega arith) in
-      λ j. wire (pin (a j) (b j)) (pin (c j) (e j))
+      λ j. wire (endAt (a j) (b j)) (endAt (c j) (e j))
 
   -- The wires of the tables are those of the drawing, by flat indexes and in order.
   pub loaded-wires : wiresIn (drawingTables at n T) ≡ flatWires at n

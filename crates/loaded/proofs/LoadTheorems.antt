@@ -15,13 +15,13 @@ use Rattle.component.specs.declared.Record.{Record}
 use Rattle.component.specs.declared.Verdict.the-variants.{Accepted}
 use Rattle.component.specs.Record.{IsBytes, recordAt, recordCount, fieldsOf, isPrimitive}
 use Rattle.flatten.specs.declared.Pin.{Pin}
-use Rattle.flatten.specs.declared.Wire.{Wire}
-use Rattle.flatten.specs.Descent.{flat, flatPin}
+use Rattle.flatten.specs.Descent.{flat}
 use Rattle.flatten.specs.Leads.{Leads}
 use Rattle.flatten.proofs.Accepted.{Passed}
-use Rattle.flatten.proofs.Wires.{wire}
+use Rattle.tables.specs.declared.Wire.{Wire}
 use Rattle.tables.specs.Tables.{Tables, fullSize, outputsAt, wiresIn, currentList, followingList, standingList}
-use Rattle.load.specs.Load.{standingAtLoad, drawingTables, loadVerdict, loadTables}
+use Rattle.load.specs.Load.{flatPin, standingAtLoad, drawingTables, loadVerdict, loadTables}
+use Rattle.load.proofs.FlatWires.{wire}
 use Rattle.load.proofs.LoadLaws.{load-passed}
 use Rattle.net.specs.Net.{isNet}
 use Rattle.loaded.proofs.LoadedPorts.{loaded-input, loaded-outputs}

@@ -23,10 +23,10 @@ use Rattle.flatten.specs.Descent.{flat}
 use Rattle.flatten.proofs.Accepted.{Passed}
 use Rattle.flatten.proofs.Primitives.{primitive-obeyed, flat-below, flat-inj, primitivesBefore-sound}
 use Rattle.flatten.proofs.Primitives.{primitivesBefore-distinct, primitives-bound, inputs-bound, outputs-bound}
-use Rattle.flatten.proofs.FlatWires.{flatWires-bound}
 use Rattle.tables.specs.Tables.{Tables, fieldsAt, firstOutput, inputsAt, outputsAt, currentList, followingList}
 use Rattle.tables.specs.Tables.{standingList}
 use Rattle.load.specs.Load.{primitives, standingAtLoad, drawingTables}
+use Rattle.load.proofs.FlatWires.{flatWires-bound}
 use Rattle.load.proofs.StandingLaws.{standing-bound}
 use Rattle.load.proofs.PortsLaws.{starting-length}
 use Rattle.net.specs.Net.{countsWithin, valuesFit, constsHeld, names}

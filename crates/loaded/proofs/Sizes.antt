@@ -11,14 +11,13 @@ use Rattle.lists.proofs.MembersLaws.{from-length}
 use Rattle.lists.proofs.OverlayLaws.{overlay-length, overlay-front, joined-width}
 use Rattle.component.specs.declared.Record.{Record}
 use Rattle.component.specs.Drawing.{inputsBefore}
-use Rattle.flatten.specs.Descent.{flatWires}
 use Rattle.flatten.proofs.Accepted.{Passed}
 use Rattle.flatten.proofs.Primitives.{primitives-bound, inputs-bound, outputs-bound}
-use Rattle.flatten.proofs.FlatWires.{flatWires-bound}
 use Rattle.tables.proofs.SizesLaws.{fullSize-sound}
 use Rattle.tables.proofs.SameLaws.{SameLengths}
 use Rattle.tables.specs.Tables.{Tables, fullSize, currentList, followingList, standingList}
-use Rattle.load.specs.Load.{wireWords, primitives, componentWords, standingAtLoad, drawingTables}
+use Rattle.load.specs.Load.{wireWords, primitives, componentWords, flatWires, standingAtLoad, drawingTables}
+use Rattle.load.proofs.FlatWires.{flatWires-bound}
 use Rattle.load.specs.Laying.{startingOf}
 use Rattle.load.proofs.StandingLaws.{standing-bound}
 use Rattle.load.proofs.PortsLaws.{starting-before}

@@ -11,7 +11,7 @@ use lib.Dec.{leb, ltb, eqb}
 use Rattle.lists.specs.Lists.{from, every, distinct}
 use Rattle.lists.proofs.ListsLaws.{and-left, and-right, every-from, every-end}
 use Rattle.primitive.specs.Kinds.{primitive, obeys, inputWidth, outputWidth}
-use Rattle.flatten.specs.declared.Wire.{Wire}
+use Rattle.tables.specs.declared.Wire.{Wire}
 use Rattle.tables.specs.declared.Counts.{Counts}
 use Rattle.tables.specs.Tables.{Tables, wordIn, fieldsIn, fieldsAt, firstInput, firstOutput, inputPlace, wireAt}
 use Rattle.tables.specs.Words.{fieldsFit}
@@ -192,7 +192,7 @@ module _ (cs ws : List ℕ) (m : Counts) where
   abbrev right : Wire → Bool
   right w =
       isOutput T (w .src) && isInput T (w .dst)
-      && eqb (outputWidth (fieldsAt T (w .src .comp))) (inputWidth (fieldsAt T (w .dst .comp)))
+      && eqb (outputWidth (fieldsAt T (w .src .comp .0))) (inputWidth (fieldsAt T (w .dst .comp .0)))
 
   -- All wires, by their places in the table.
   pub wiresFit-every : every (wireRight cs ws (m .components)) (from 0 (m .wires)) ≡ wiresFit T

@@ -17,8 +17,8 @@ use Rattle.lists.proofs.MembersLaws.{In, Distinct, every-sound, map-complete, d
 use Rattle.value.specs.Value.{below}
 use Rattle.primitive.specs.declared.kinds.Kind.the-variants.{Const}
 use Rattle.primitive.specs.Kinds.{is, inputWidth, outputWidth}
-use Rattle.flatten.specs.declared.Pin.{Pin}
-use Rattle.flatten.specs.declared.Wire.{Wire}
+use Rattle.tables.specs.declared.End.{End}
+use Rattle.tables.specs.declared.Wire.{Wire}
 use Rattle.tables.specs.declared.Counts.{Counts}
 use Rattle.tables.specs.Tables.{Tables, fullSize, wordIn, fieldsAt, firstOutput, inputPlace, inputsAt, outputsAt, wireAt, wiresIn, currentList, followingList, standingList}
 use Rattle.tables.proofs.PartsLaws.{AllTrue, parts-sound, parts-complete}
@@ -131,35 +131,35 @@ constsHeld-at T e i h k =
 
 -- Ports that exist, taken apart.
 module _ (T : Tables) where
-  pub isOutput-comp : (s : Pin) → isOutput T s ≡ true → s .comp < T .counts .components
+  pub isOutput-comp : (s : End) → isOutput T s ≡ true → s .comp .0 < T .counts .components
   isOutput-comp s e =
-      ltb-true _ _ (and-left (ltb (s .comp) (T .counts .components)) (ltb (s .port) (fieldsAt T (s .comp) .outputs)) e)
+      ltb-true _ _ (and-left (ltb (s .comp .0) (T .counts .components)) (ltb (s .port) (fieldsAt T (s .comp .0) .outputs)) e)
 
-  pub isOutput-port : (s : Pin) → isOutput T s ≡ true → s .port < fieldsAt T (s .comp) .outputs
+  pub isOutput-port : (s : End) → isOutput T s ≡ true → s .port < fieldsAt T (s .comp .0) .outputs
   isOutput-port s e =
-      ltb-true _ _ (and-right (ltb (s .comp) (T .counts .components)) (ltb (s .port) (fieldsAt T (s .comp) .outputs)) e)
+      ltb-true _ _ (and-right (ltb (s .comp .0) (T .counts .components)) (ltb (s .port) (fieldsAt T (s .comp .0) .outputs)) e)
 
-  pub isInput-comp : (t : Pin) → isInput T t ≡ true → t .comp < T .counts .components
+  pub isInput-comp : (t : End) → isInput T t ≡ true → t .comp .0 < T .counts .components
   isInput-comp t e =
-      ltb-true _ _ (and-left (ltb (t .comp) (T .counts .components)) (ltb (t .port) (fieldsAt T (t .comp) .inputs)) e)
+      ltb-true _ _ (and-left (ltb (t .comp .0) (T .counts .components)) (ltb (t .port) (fieldsAt T (t .comp .0) .inputs)) e)
 
-  pub isInput-port : (t : Pin) → isInput T t ≡ true → t .port < fieldsAt T (t .comp) .inputs
+  pub isInput-port : (t : End) → isInput T t ≡ true → t .port < fieldsAt T (t .comp .0) .inputs
   isInput-port t e =
-      ltb-true _ _ (and-right (ltb (t .comp) (T .counts .components)) (ltb (t .port) (fieldsAt T (t .comp) .inputs)) e)
+      ltb-true _ _ (and-right (ltb (t .comp .0) (T .counts .components)) (ltb (t .port) (fieldsAt T (t .comp .0) .inputs)) e)
 
 -- "wires have ends that exist and equal widths"
 module _ (T : Tables) (e : wiresFit T ≡ true) (w : Wire) (h : In w (wiresIn T)) where
   abbrev right : Wire → Bool
   right w =
       isOutput T (w .src) && isInput T (w .dst)
-      && eqb (outputWidth (fieldsAt T (w .src .comp))) (inputWidth (fieldsAt T (w .dst .comp)))
+      && eqb (outputWidth (fieldsAt T (w .src .comp .0))) (inputWidth (fieldsAt T (w .dst .comp .0)))
 
   wire-parts : AllTrue (isOutput T (w .src) ∷ isInput T (w .dst)
-      ∷ eqb (outputWidth (fieldsAt T (w .src .comp))) (inputWidth (fieldsAt T (w .dst .comp))) ∷ [])
+      ∷ eqb (outputWidth (fieldsAt T (w .src .comp .0))) (inputWidth (fieldsAt T (w .dst .comp .0))) ∷ [])
   unfolding wiresFit
   wire-parts =
       parts-sound (isOutput T (w .src)) (isInput T (w .dst)
-      ∷ eqb (outputWidth (fieldsAt T (w .src .comp))) (inputWidth (fieldsAt T (w .dst .comp))) ∷ [])
+      ∷ eqb (outputWidth (fieldsAt T (w .src .comp .0))) (inputWidth (fieldsAt T (w .dst .comp .0))) ∷ [])
       (every-sound right w (wiresIn T) e h)
 
   pub wiresFit-source : isOutput T (w .src) ≡ true
@@ -168,7 +168,7 @@ module _ (T : Tables) (e : wiresFit T ≡ true) (w : Wire) (h : In w (wiresIn T)
   pub wiresFit-target : isInput T (w .dst) ≡ true
   wiresFit-target = wire-parts .1 .0
 
-  pub wiresFit-widths : outputWidth (fieldsAt T (w .src .comp)) ≡ inputWidth (fieldsAt T (w .dst .comp))
+  pub wiresFit-widths : outputWidth (fieldsAt T (w .src .comp .0)) ≡ inputWidth (fieldsAt T (w .dst .comp .0))
   wiresFit-widths = eqb-true _ _ (wire-parts .1 .1 .0)
 
 -- What the clauses before it give the test of inputs.

@@ -20,3 +20,6 @@ pub use table::input_width;
 pub use table::is_primitive;
 pub use table::obeys;
 pub use table::output_width;
+
+// An id as drawn.
+pub struct Id(pub u32);

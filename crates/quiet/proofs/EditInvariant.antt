@@ -12,7 +12,7 @@ use Rattle.lists.proofs.NamesLaws.{appendNew-has, appendNew-kept}
 use Rattle.primitive.specs.declared.kinds.Kind.the-variants.{Switch, Input, Clock}
 use Rattle.primitive.specs.Kinds.{is}
 use Rattle.primitive.specs.Evaluate.{outputsAfter}
-use Rattle.flatten.specs.declared.Wire.{Wire}
+use Rattle.tables.specs.declared.Wire.{Wire}
 use Rattle.tables.specs.Tables.{Tables, fieldsAt, firstInput, firstOutput, inputsAt, outputsAt, wiresIn}
 use Rattle.simulator.specs.Round.{State, editedState}
 use Rattle.simulator.specs.Calls.{driven}
@@ -32,11 +32,11 @@ module _ (T : Tables) (ran : Bool) (t i : ℕ) (unclocked : clocked T i ≡ fals
   abbrev new : State
   new = stood i s xs ys
 
-  stood-inv : ((w : Wire) → In w (wiresIn T) → (w .src .comp ≡ i → ⊥) → Agree T s w → Agree T new w)
+  stood-inv : ((w : Wire) → In w (wiresIn T) → (w .src .comp .0 ≡ i → ⊥) → Agree T s w → Agree T new w)
       → ((d : ℕ) → d < n → (d ≡ i → ⊥) → Fits T t s d → Fits T t new d) → Inv T ran t new
   stood-inv agree fits =
       record {
-        wired = λ w m. wire w m (ℕ-discrete (w .src .comp) i) (a .wired w m);
+        wired = λ w m. wire w m (ℕ-discrete (w .src .comp .0) i) (a .wired w m);
         fitted = λ d q. fit d q (ℕ-discrete d i) (a .fitted d q);
         clock-current = a .clock-current;
         clock-following = a .clock-following;
@@ -55,11 +55,11 @@ module _ (T : Tables) (ran : Bool) (t i : ℕ) (unclocked : clocked T i ≡ fals
             later (appendNew-has i (s .standing)),
           )
 
-      wire : (w : Wire) → In w (wiresIn T) → Dec (w .src .comp ≡ i) → Agree T s w ⊎ Awaits T ran s (w .src .comp)
-          → Agree T new w ⊎ Awaits T ran new (w .src .comp)
-      wire w m (yes e) o = inr (own (w .src .comp) e)
+      wire : (w : Wire) → In w (wiresIn T) → Dec (w .src .comp .0 ≡ i) → Agree T s w ⊎ Awaits T ran s (w .src .comp .0)
+          → Agree T new w ⊎ Awaits T ran new (w .src .comp .0)
+      wire w m (yes e) o = inr (own (w .src .comp .0) e)
       wire w m (no ne) (inl q) = inl (agree w m ne q)
-      wire w m (no ne) (inr q) = inr (q .0, named (w .src .comp) (q .1))
+      wire w m (no ne) (inr q) = inr (q .0, named (w .src .comp .0) (q .1))
 
       fit : (d : ℕ) → d < n → Dec (d ≡ i) → Fits T t s d ⊎ Awaits T ran s d → Fits T t new d ⊎ Awaits T ran new d
       fit d q (yes e) o = inr (own d e)
@@ -73,7 +73,7 @@ module _ (T : Tables) (g : Sound T) (ran : Bool) (t i v : ℕ) (h : i < T .count
   switched-inv k =
       stood-inv T ran t i (is-other (fieldsAt T i) Switch Clock refl k) s a (s .inputs)
       (set (s .outputs) (firstOutput T i) v)
-      (λ w m ne q. switch-others T g i v h s b k (w .src .comp) (w .src .port) (g .source w m) ne
+      (λ w m ne q. switch-others T g i v h s b k (w .src .comp .0) (w .src .port) (g .source w m) ne
       (g .source-port w m) ∙ q)
       (λ d q ne f. subst (λ (ys : List ℕ). outputsAfter (fieldsAt T d) (inputsAt T (s .inputs) d) ys t ≡ ys)
       (sym (switch-left T g i v h s b k d q ne)) f)
@@ -83,7 +83,7 @@ module _ (T : Tables) (g : Sound T) (ran : Bool) (t i v : ℕ) (h : i < T .count
   fed-inv k free =
       stood-inv T ran t i (is-other (fieldsAt T i) Input Clock refl k) s a (set (s .inputs) (firstInput T i) v)
       (s .outputs)
-      (λ w m ne q. q ∙ sym (input-others T g i v h s b k (w .dst .comp) (w .dst .port) (g .target w m)
+      (λ w m ne q. q ∙ sym (input-others T g i v h s b k (w .dst .comp .0) (w .dst .port) (g .target w m)
       (driven-none T i w free m) (g .target-port w m)))
       (λ d q ne f. ap (λ (xs : List ℕ). outputsAfter (fieldsAt T d) xs (outputsAt T (s .outputs) d) t)
       (input-left T g i v h s b k d q ne) ∙ f)

@@ -19,7 +19,7 @@ use Rattle.lists.proofs.NamesLaws.{names-append}
 use Rattle.value.specs.Value.{below}
 use Rattle.primitive.specs.declared.kinds.Kind.the-variants.{Switch, Input, Const}
 use Rattle.primitive.specs.Kinds.{is, inputWidth, outputWidth}
-use Rattle.flatten.specs.declared.Wire.{Wire}
+use Rattle.tables.specs.declared.Wire.{Wire}
 use Rattle.tables.specs.Tables.{Tables, fieldsAt, firstInput, firstOutput, numbers, inputsAt, outputsAt, wiresIn}
 use Rattle.simulator.specs.Round.{State, editedState}
 use Rattle.simulator.specs.Calls.{driven, editNumber}
@@ -53,9 +53,9 @@ editNumber-editable T i v e =
     )
 
 -- No wire enters an Input that is not driven.
-pub driven-none : (T : Tables) (i : ℕ) (w : Wire) → driven T i ≡ false → In w (wiresIn T) → w .dst .comp ≡ i → ⊥
+pub driven-none : (T : Tables) (i : ℕ) (w : Wire) → driven T i ≡ false → In w (wiresIn T) → w .dst .comp .0 ≡ i → ⊥
 driven-none T i w e m q =
-    true≢false (sym (eq-eqb (w .dst .comp) i q) ∙ any-none (λ (v : Wire). eqb (v .dst .comp) i) w (wiresIn T) e m)
+    true≢false (sym (eq-eqb (w .dst .comp .0) i q) ∙ any-none (λ (v : Wire). eqb (v .dst .comp .0) i) w (wiresIn T) e m)
 
 -- The state with other tables of ports, and component i in the standing list.
 abbrev pub stood : ℕ → State → List ℕ → List ℕ → State

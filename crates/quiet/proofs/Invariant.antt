@@ -26,7 +26,7 @@ use Rattle.lists.proofs.NamesLaws.{appendNew-has, appendNew-kept, strike-kept}
 use Rattle.primitive.specs.declared.kinds.Kind.the-variants.{Clock}
 use Rattle.primitive.specs.Kinds.{is}
 use Rattle.primitive.specs.Evaluate.{outputsAfter}
-use Rattle.flatten.specs.declared.Wire.{Wire}
+use Rattle.tables.specs.declared.Wire.{Wire}
 use Rattle.tables.specs.Tables.{Tables, fieldsAt, firstInput, firstOutput, inputPlace, outputPlace, inputsAt, outputsAt, wiresIn}
 use Rattle.simulator.specs.Round.{State, wiresFrom, turn, evaluated, send, visit, round}
 use Rattle.simulator.proofs.Ports.{Off, sets-at-ne, numbers-set, numbers-sets, numbers-sets-same}
@@ -58,7 +58,7 @@ Awaits T ran s i = ((ran && clocked T i) ≡ false) × Named s i
 -- for that. All three lists name every Clock.
 pub record Inv (T : Tables) (ran : Bool) (t : ℕ) (s : State) : Type 0 where
   pub wired : (w : Wire) → In w (wiresIn T)
-      → Agree T s w ⊎ Awaits T ran s (w .src .comp)
+      → Agree T s w ⊎ Awaits T ran s (w .src .comp .0)
   pub fitted : (i : ℕ) → i < T .counts .components → Fits T t s i ⊎ Awaits T ran s i
   pub clock-current : Clocks T (s .current)
   pub clock-following : Clocks T (s .following)
@@ -71,7 +71,7 @@ pub data Due (T : Tables) (rest : List ℕ) (s : State) (i : ℕ) : Type 0 where
 
 pub record Mid (T : Tables) (t : ℕ) (rest : List ℕ) (todo : List Wire) (s : State) : Type 0 where
   pub held : Held T s
-  pub wired : (w : Wire) → In w (wiresIn T) → Agree T s w ⊎ (Due T rest s (w .src .comp) ⊎ In w todo)
+  pub wired : (w : Wire) → In w (wiresIn T) → Agree T s w ⊎ (Due T rest s (w .src .comp .0) ⊎ In w todo)
   pub fitted : (i : ℕ) → i < T .counts .components → Fits T t s i ⊎ Due T rest s i
   pub clock-following : Clocks T (s .following)
   pub clock-standing : Clocks T (s .standing)
@@ -104,8 +104,8 @@ module _ (T : Tables) (g : Sound T) where
           clock-standing = a .clock-standing;
         }
       where
-        wire : (w : Wire) → Agree T s w ⊎ (Due T rest s (w .src .comp) ⊎ In w (v ∷ ws))
-            → Agree T s w ⊎ (Due T rest s (w .src .comp) ⊎ In w ws)
+        wire : (w : Wire) → Agree T s w ⊎ (Due T rest s (w .src .comp .0) ⊎ In w (v ∷ ws))
+            → Agree T s w ⊎ (Due T rest s (w .src .comp .0) ⊎ In w ws)
         wire w (inl q) = inl q
         wire w (inr (inl q)) = inr (inl q)
         wire w (inr (inr (inl e))) = inl (subst (λ (x : Wire). Agree T s x) (sym e) p)
@@ -118,8 +118,8 @@ module _ (T : Tables) (g : Sound T) where
         record {
           held = b;
           wired = λ w mw. wire w mw (ℕ-discrete (inputPlace T (w .dst)) (inputPlace T (v .dst))) (a .wired w mw);
-          fitted = λ i h. fit i h (ℕ-discrete i (v .dst .comp)) (a .fitted i h);
-          clock-following = λ i h e. appendNew-kept (v .dst .comp) i (s .following) (a .clock-following i h e);
+          fitted = λ i h. fit i h (ℕ-discrete i (v .dst .comp .0)) (a .fitted i h);
+          clock-following = λ i h e. appendNew-kept (v .dst .comp .0) i (s .following) (a .clock-following i h e);
           clock-standing = a .clock-standing;
         }
       where
@@ -128,27 +128,27 @@ module _ (T : Tables) (g : Sound T) where
 
         due : (i : ℕ) → Due T rest s i → Due T rest (written T s v) i
         due i (in-rest q) = in-rest q
-        due i (in-following e q) = in-following e (appendNew-kept (v .dst .comp) i (s .following) q)
+        due i (in-following e q) = in-following e (appendNew-kept (v .dst .comp .0) i (s .following) q)
         due i (in-standing e q) = in-standing e q
 
         own : Agree T (written T s v) v
         own = sym (getD-set-same (s .inputs) (inputPlace T (v .dst)) (carried T s v) 0 room)
 
         wire : (w : Wire) → In w (wiresIn T) → Dec (inputPlace T (w .dst) ≡ inputPlace T (v .dst))
-            → Agree T s w ⊎ (Due T rest s (w .src .comp) ⊎ In w (v ∷ ws))
-            → Agree T (written T s v) w ⊎ (Due T rest (written T s v) (w .src .comp) ⊎ In w ws)
+            → Agree T s w ⊎ (Due T rest s (w .src .comp .0) ⊎ In w (v ∷ ws))
+            → Agree T (written T s v) w ⊎ (Due T rest (written T s v) (w .src .comp .0) ⊎ In w ws)
         wire w mw (yes e) o = inl (subst (λ (x : Wire). Agree T (written T s v) x) (sym (g .once w v mw m e)) own)
         wire w mw (no e) (inl q) =
             inl (q ∙ sym (getD-set-other (s .inputs) (inputPlace T (v .dst)) (inputPlace T (w .dst))
             (carried T s v) 0 e))
-        wire w mw (no e) (inr (inl q)) = inr (inl (due (w .src .comp) q))
+        wire w mw (no e) (inr (inl q)) = inr (inl (due (w .src .comp .0) q))
         wire w mw (no e) (inr (inr (inl q))) = absurd (e (ap (λ (x : Wire). inputPlace T (x .dst)) q))
         wire w mw (no e) (inr (inr (inr q))) = inr (inr q)
 
-        target : Due T rest (written T s v) (v .dst .comp)
-        target = in-following (target-unclocked T g v m) (appendNew-has (v .dst .comp) (s .following))
+        target : Due T rest (written T s v) (v .dst .comp .0)
+        target = in-following (target-unclocked T g v m) (appendNew-has (v .dst .comp .0) (s .following))
 
-        fit : (i : ℕ) → i < n → Dec (i ≡ v .dst .comp) → Fits T t s i ⊎ Due T rest s i
+        fit : (i : ℕ) → i < n → Dec (i ≡ v .dst .comp .0) → Fits T t s i ⊎ Due T rest s i
             → Fits T t (written T s v) i ⊎ Due T rest (written T s v) i
         fit i h (yes e) o = inr (subst (λ (k : ℕ). Due T rest (written T s v) k) (sym e) target)
         fit i h (no ne) (inl q) =
@@ -199,7 +199,7 @@ module _ (T : Tables) (g : Sound T) where
         beside (inr u) = inr u
 
     -- Another component's wire sees what it saw.
-    others-agree : (w : Wire) → In w (wiresIn T) → (w .src .comp ≡ i → ⊥) → Agree T s w → Agree T (evaluated T t i s) w
+    others-agree : (w : Wire) → In w (wiresIn T) → (w .src .comp .0 ≡ i → ⊥) → Agree T s w → Agree T (evaluated T t i s) w
     unfolding evaluated
     others-agree w m ne q =
         sets-at-ne (made T t s i) (s .outputs) (firstOutput T i) (outputPlace T (w .src))
@@ -237,19 +237,19 @@ module _ (T : Tables) (g : Sound T) where
     evaluated-mid =
         record {
           held = evaluated-held T g t i h s (a .held);
-          wired = λ w m. wire w m (ℕ-discrete (w .src .comp) i) (a .wired w m);
+          wired = λ w m. wire w m (ℕ-discrete (w .src .comp .0) i) (a .wired w m);
           fitted = λ d q. fit d q (ℕ-discrete d i) (a .fitted d q);
           clock-following = a .clock-following;
           clock-standing = λ d q e. clock-stands d e (ℕ-discrete d i) (a .clock-standing d q e);
         }
       where
-        wire : (w : Wire) → In w (wiresIn T) → Dec (w .src .comp ≡ i)
-            → Agree T s w ⊎ (Due T (i ∷ rest) s (w .src .comp) ⊎ In w [])
-            → Agree T (evaluated T t i s) w ⊎ (Due T rest (evaluated T t i s) (w .src .comp) ⊎ In w (wiresFrom i ws))
+        wire : (w : Wire) → In w (wiresIn T) → Dec (w .src .comp .0 ≡ i)
+            → Agree T s w ⊎ (Due T (i ∷ rest) s (w .src .comp .0) ⊎ In w [])
+            → Agree T (evaluated T t i s) w ⊎ (Due T rest (evaluated T t i s) (w .src .comp .0) ⊎ In w (wiresFrom i ws))
         wire w m (yes e) q =
-            inr (inr (keep-complete (λ (v : Wire). eqb (v .src .comp) i) w ws (eq-eqb (w .src .comp) i e) (o .all w m)))
+            inr (inr (keep-complete (λ (v : Wire). eqb (v .src .comp .0) i) w ws (eq-eqb (w .src .comp .0) i e) (o .all w m)))
         wire w m (no ne) (inl q) = inl (others-agree w m ne q)
-        wire w m (no ne) (inr (inl q)) = inr (inl (still-due (w .src .comp) ne q))
+        wire w m (no ne) (inr (inl q)) = inr (inl (still-due (w .src .comp .0) ne q))
         wire w m (no ne) (inr (inr q)) = absurd q
 
         fit : (d : ℕ) → d < n → Dec (d ≡ i) → Fits T t s d ⊎ Due T (i ∷ rest) s d
@@ -290,10 +290,10 @@ module _ (T : Tables) (g : Sound T) where
         due i h false e (later m) = in-standing e m
 
         wire : (w : Wire) → In w (wiresIn T)
-            → Agree T s w ⊎ Awaits T ran s (w .src .comp)
-            → Agree T s w ⊎ (Due T (s .current) s (w .src .comp) ⊎ In w [])
+            → Agree T s w ⊎ Awaits T ran s (w .src .comp .0)
+            → Agree T s w ⊎ (Due T (s .current) s (w .src .comp .0) ⊎ In w [])
         wire w m (inl q) = inl q
-        wire w m (inr q) = inr (inl (due (w .src .comp) (g .source w m) (clocked T (w .src .comp)) refl (q .1)))
+        wire w m (inr q) = inr (inl (due (w .src .comp .0) (g .source w m) (clocked T (w .src .comp .0)) refl (q .1)))
 
         fit : (i : ℕ) → i < n → (b : Bool) → clocked T i ≡ b
             → Fits T t s i ⊎ Awaits T ran s i → Fits T u s i ⊎ Due T (s .current) s i
@@ -318,10 +318,10 @@ module _ (T : Tables) (g : Sound T) where
         held i (in-following e m) = (e, now m)
         held i (in-standing e m) = (e, later m)
 
-        wire : (w : Wire) → Agree T s w ⊎ (Due T [] s (w .src .comp) ⊎ In w [])
-            → Agree T s w ⊎ ((clocked T (w .src .comp) ≡ false) × Named (turn s) (w .src .comp))
+        wire : (w : Wire) → Agree T s w ⊎ (Due T [] s (w .src .comp .0) ⊎ In w [])
+            → Agree T s w ⊎ ((clocked T (w .src .comp .0) ≡ false) × Named (turn s) (w .src .comp .0))
         wire w (inl q) = inl q
-        wire w (inr (inl q)) = inr (held (w .src .comp) q)
+        wire w (inr (inl q)) = inr (held (w .src .comp .0) q)
         wire w (inr (inr q)) = absurd q
 
         fit : (i : ℕ) → Fits T u s i ⊎ Due T [] s i → Fits T u s i ⊎ ((clocked T i ≡ false) × Named (turn s) i)
@@ -341,7 +341,7 @@ pub start-inv : (T : Tables) (t : ℕ) (s : State) → Sound T → ((i : ℕ) �
     → Clocks T (s .standing) → Inv T false t s
 start-inv T t s g all fol std =
     record {
-      wired = λ w m. inr (refl, now (all (w .src .comp) (g .source w m)));
+      wired = λ w m. inr (refl, now (all (w .src .comp .0) (g .source w m)));
       fitted = λ i h. inr (refl, now (all i h));
       clock-current = λ i h e. all i h;
       clock-following = fol;

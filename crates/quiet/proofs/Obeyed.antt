@@ -19,7 +19,7 @@ use Rattle.lists.proofs.MembersLaws.{In, has-complete}
 use Rattle.primitive.specs.declared.kinds.Kind.the-variants.{Switch, Clock, Const}
 use Rattle.primitive.specs.Kinds.{is}
 use Rattle.primitive.specs.Evaluate.{functionOf}
-use Rattle.flatten.specs.declared.Wire.{Wire}
+use Rattle.tables.specs.declared.Wire.{Wire}
 use Rattle.tables.specs.Tables.{Tables, fieldsAt, firstOutput, inputPlace, outputPlace, numbers, inputsAt, outputsAt, wiresIn, currentList, followingList, standingList, named}
 use Rattle.net.specs.Net.{netNumber}
 use Rattle.simulator.specs.Round.{stateOf}
@@ -46,7 +46,7 @@ pub record SatisfiedAt (T : Tables) (t : ℕ) : Type 0 where
 -- The three parts of demand 3 for tables in which a round has run or not, the last at time t.
 pub record ObeyedAt (T : Tables) (ran : Bool) (t : ℕ) : Type 0 where
   -- Where the ends of a wire differ, a list names the component that it leaves.
-  pub differing : (w : Wire) → In w (wiresIn T) → (Equal T w → ⊥) → named T (w .src .comp) ≡ true
+  pub differing : (w : Wire) → In w (wiresIn T) → (Equal T w → ⊥) → named T (w .src .comp .0) ≡ true
   -- So is each component, Switches and Clocks aside, whose outputs are not its function of its inputs.
   pub unfollowed : (i : ℕ) → i < T .counts .components → (is Switch (fieldsAt T i) || is Clock (fieldsAt T i)) ≡ false
       → (Follows T t i → ⊥) → named T i ≡ true
@@ -99,10 +99,10 @@ module _ (T : Tables) (ran : Bool) (t : ℕ) (e : netNumber T ≡ 0) (a : Unbrok
       }
     where
       differ : (w : Wire) → Agree T (stateOf T) w
-          ⊎ Awaits T ran (stateOf T) (w .src .comp)
-          → (Equal T w → ⊥) → named T (w .src .comp) ≡ true
+          ⊎ Awaits T ran (stateOf T) (w .src .comp .0)
+          → (Equal T w → ⊥) → named T (w .src .comp .0) ≡ true
       differ w (inl q) ne = absurd (ne q)
-      differ w (inr q) ne = named-test T (w .src .comp) (q .1)
+      differ w (inr q) ne = named-test T (w .src .comp .0) (q .1)
 
       unfollow : (i : ℕ) → i < T .counts .components → is Switch (fieldsAt T i) ≡ false
           → Fits T t (stateOf T) i ⊎ Awaits T ran (stateOf T) i → (Follows T t i → ⊥)
@@ -124,9 +124,9 @@ module _ (T : Tables) (ran : Bool) (t : ℕ) (e : netNumber T ≡ 0) (a : Unbrok
 
           agree : (w : Wire) → In w (wiresIn T)
               → Agree T (stateOf T) w
-              ⊎ Awaits T ran (stateOf T) (w .src .comp) → Equal T w
+              ⊎ Awaits T ran (stateOf T) (w .src .comp .0) → Equal T w
           agree w m (inl q) = q
-          agree w m (inr q) = absurd (clash (w .src .comp) (g .source w m) q)
+          agree w m (inr q) = absurd (clash (w .src .comp .0) (g .source w m) q)
 
           follow : (i : ℕ) → i < T .counts .components → is Switch (fieldsAt T i) ≡ false
               → Fits T t (stateOf T) i ⊎ Awaits T ran (stateOf T) i → Follows T t i

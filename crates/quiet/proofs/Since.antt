@@ -12,7 +12,7 @@ use Rattle.lists.specs.Lists.{from, has}
 use Rattle.lists.proofs.MembersLaws.{In, has-sound, from0-complete}
 use Rattle.primitive.specs.declared.kinds.Kind.the-variants.{Clock}
 use Rattle.primitive.specs.Kinds.{is}
-use Rattle.flatten.specs.declared.Wire.{Wire}
+use Rattle.tables.specs.declared.Wire.{Wire}
 use Rattle.tables.specs.Tables.{Tables, fieldsAt, wiresIn, currentList, followingList, standingList}
 use Rattle.net.specs.Net.{netNumber}
 use Rattle.simulator.specs.Round.{State, stateOf, leave, round, editedState as editedState, roundOf}

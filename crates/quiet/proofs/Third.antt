@@ -12,7 +12,7 @@ use native.Mathlib.Decide.{ℕ-discrete}
 use Rattle.lists.specs.Lists.{has}
 use Rattle.lists.proofs.MembersLaws.{In, has-complete}
 use Rattle.lists.proofs.NamesLaws.{appendNew-has, appendNew-kept}
-use Rattle.flatten.specs.declared.Wire.{Wire}
+use Rattle.tables.specs.declared.Wire.{Wire}
 use Rattle.tables.specs.Tables.{Tables, wiresIn, currentList, followingList, standingList}
 use Rattle.net.specs.Net.{netNumber}
 use Rattle.simulator.specs.Round.{State, stateOf, leave, wiresFrom, evaluated, send, visit, round, editedState, roundOf}
@@ -32,7 +32,7 @@ module _ (T : Tables) (x : ℕ) where
     where
       by-case : SendCase T s w → In x (send T s w .following)
       by-case (agrees p e) = rw e m
-      by-case (writes p e) = rw e (appendNew-kept (w .dst .comp) x (s .following) m)
+      by-case (writes p e) = rw e (appendNew-kept (w .dst .comp .0) x (s .following) m)
 
   send-standing : (s : State) (w : Wire) → In x (s .standing) → In x (send T s w .standing)
   unfolding written

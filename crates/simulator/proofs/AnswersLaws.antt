@@ -9,7 +9,7 @@ use lib.ListN.{getD, drop}
 use Rattle.value.specs.declared.Value.{Value}
 use Rattle.value.specs.Value.{level}
 use Rattle.primitive.proofs.GivenLaws.{done-values, done-declined, declined-refusal}
-use Rattle.component.specs.declared.FlatIdx.{FlatIdx}
+use Rattle.tables.specs.declared.FlatIdx.{FlatIdx}
 use Rattle.tables.specs.declared.Counts.{Counts}
 use Rattle.tables.specs.Tables.{countWords}
 use Rattle.tables.proofs.AnswerLaws.{countWords-is}

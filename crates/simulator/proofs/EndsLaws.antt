@@ -13,9 +13,8 @@ use lib.ListN.{length, getD, drop, set, replicate, length-append, length-replica
 use lib.Seq.{drop-cons, append-snoc, getD-set-same, getD-set-other, set-append-seam}
 use lib.Dec.{eqb}
 use Rattle.lists.specs.Lists.{from, keep, any, overlay}
-use Rattle.lists.proofs.MembersLaws.{from-last, keep-append}
-use Rattle.flatten.specs.declared.Wire.{Wire}
-use Rattle.flatten.proofs.DescentLaws.{any-append, any-map}
+use Rattle.lists.proofs.MembersLaws.{any-append, any-map, from-last, keep-append}
+use Rattle.tables.specs.declared.Wire.{Wire}
 use Rattle.tables.specs.Tables.{Tables, wireAt, joins, sources, targets, indexes}
 use Rattle.simulator.specs.Calls.{driven}
 use Rattle.simulator.specs.Asked.{endOf, meets, met, ends, markedBelow}
@@ -132,7 +131,7 @@ at-zero ws k = let z : 4 * k ≡ 4 * k + 0 = omega arith in ap (λ (p : ℕ). ge
 -- Wires join component i to component j: i stands at their end 0, and j at their end 2.
 joins-meets : (T : Tables) (i j : ℕ) → joins T i j ≡ meets (T .wires) (T .counts .wires) 0 2 i j
 joins-meets T i j =
-    any-map (λ (w : Wire). eqb (w .src .comp) i && eqb (w .dst .comp) j) (wireAt T) (from 0 (T .counts .wires))
+    any-map (λ (w : Wire). eqb (w .src .comp .0) i && eqb (w .dst .comp .0) j) (wireAt T) (from 0 (T .counts .wires))
     ∙ any-cong _ _ (from 0 (T .counts .wires))
     (λ k. ap (λ (x : ℕ). eqb x i && eqb (endOf (T .wires) k 2) j) (at-zero (T .wires) k))
 
@@ -153,4 +152,4 @@ targets-met T i =
     keep-cong (λ j. joins T i j) (meets (T .wires) (T .counts .wires) 0 2 i) (indexes T) (joins-meets T i)
 
 pub driven-ends : (T : Tables) (i : ℕ) → driven T i ≡ ends (T .wires) (T .counts .wires) 2 i
-driven-ends T i = any-map (λ (w : Wire). eqb (w .dst .comp) i) (wireAt T) (from 0 (T .counts .wires))
+driven-ends T i = any-map (λ (w : Wire). eqb (w .dst .comp .0) i) (wireAt T) (from 0 (T .counts .wires))

@@ -24,7 +24,7 @@ use Rattle.primitive.specs.Kinds.{is, inputWidth, outputWidth}
 use Rattle.primitive.specs.Evaluate.{outputsAfter}
 use Rattle.primitive.specs.Own.{Own}
 use Rattle.primitive.proofs.FitLaws.{outputsAfter-length, outputsAfter-fits}
-use Rattle.flatten.specs.declared.Wire.{Wire}
+use Rattle.tables.specs.declared.Wire.{Wire}
 use Rattle.tables.specs.Tables.{Tables, fieldsAt, firstInput, firstOutput, inputPlace, outputPlace, inputsAt, outputsAt, wiresIn}
 use Rattle.simulator.specs.Round.{State, wiresFrom, evaluated, send, visit, round}
 use Rattle.simulator.proofs.Ports.{off-apart, sets-at-ne, sets-at, numbers-length, numbers-at, numbers-fit}
@@ -84,7 +84,7 @@ written T s w =
       inputs = set (s .inputs) (inputPlace T (w .dst)) (carried T s w);
       outputs = s .outputs;
       current = s .current;
-      following = appendNew (w .dst .comp) (s .following);
+      following = appendNew (w .dst .comp .0) (s .following);
       standing = s .standing;
     }
 
@@ -115,15 +115,15 @@ module _ (T : Tables) (g : Sound T) where
   unfolding written
   send-held s w m a = by-case (send-case T s w)
     where
-      value : below (carried T s w) (inputWidth (fieldsAt T (w .dst .comp))) ≡ true
+      value : below (carried T s w) (inputWidth (fieldsAt T (w .dst .comp .0))) ≡ true
       value =
           ap (below (carried T s w)) (sym (g .widths w m))
-          ∙ a .outputs-fit (w .src .comp) (g .source w m) (w .src .port) (g .source-port w m)
+          ∙ a .outputs-fit (w .src .comp .0) (g .source w m) (w .src .port) (g .source-port w m)
 
       room : inputPlace T (w .dst) < length (s .inputs)
       room = omega (arith, a .inputs-length, input-room T g w m)
 
-      at-input : (i j : ℕ) → i ≡ w .dst .comp → i < T .counts .components → j < fieldsAt T i .inputs
+      at-input : (i j : ℕ) → i ≡ w .dst .comp .0 → i < T .counts .components → j < fieldsAt T i .inputs
           → Dec (firstInput T i + j ≡ inputPlace T (w .dst))
           → inputFits T (written T s w .inputs) i j ≡ true
       at-input i j e h l (yes p) =
@@ -137,7 +137,7 @@ module _ (T : Tables) (g : Sound T) where
           (getD-set-other (s .inputs) (inputPlace T (w .dst)) (firstInput T i + j) (carried T s w) 0 p)
           ∙ a .inputs-fit i h j l
 
-      fit : (i : ℕ) → i < T .counts .components → (j : ℕ) → j < fieldsAt T i .inputs → Dec (i ≡ w .dst .comp)
+      fit : (i : ℕ) → i < T .counts .components → (j : ℕ) → j < fieldsAt T i .inputs → Dec (i ≡ w .dst .comp .0)
           → inputFits T (written T s w .inputs) i j ≡ true
       fit i h j l (yes e) = at-input i j e h l (ℕ-discrete (firstInput T i + j) (inputPlace T (w .dst)))
       fit i h j l (no e) =
@@ -152,11 +152,11 @@ module _ (T : Tables) (g : Sound T) where
           record {
             inputs-length = length-set (s .inputs) (inputPlace T (w .dst)) (carried T s w) ∙ a .inputs-length;
             outputs-length = a .outputs-length;
-            inputs-fit = λ i h j l. fit i h j l (ℕ-discrete i (w .dst .comp));
+            inputs-fit = λ i h j l. fit i h j l (ℕ-discrete i (w .dst .comp .0));
             outputs-fit = a .outputs-fit;
             consts = a .consts;
             current = a .current;
-            following = names-append (T .counts .components) (w .dst .comp) (s .following) (g .target w m)
+            following = names-append (T .counts .components) (w .dst .comp .0) (s .following) (g .target w m)
                 (a .following);
             standing = a .standing;
           }
@@ -276,7 +276,7 @@ module _ (T : Tables) (g : Sound T) where
   -- A whole round, wires in any order.
   module _ (ws : List Wire) (o : Order T ws) (t : ℕ) where
     pub wiresFrom-in : (i : ℕ) (w : Wire) → In w (wiresFrom i ws) → In w (wiresIn T)
-    wiresFrom-in i w m = o .only w (keep-sound (λ (v : Wire). eqb (v .src .comp) i) w ws m .1)
+    wiresFrom-in i w m = o .only w (keep-sound (λ (v : Wire). eqb (v .src .comp .0) i) w ws m .1)
 
     pub visit-held : (s : State) (i : ℕ) → i < T .counts .components → Held T s → Held T (visit T ws t s i)
     unfolding visit

@@ -7,7 +7,7 @@ use mathlib.Core.List.{List}
 use Prim.Native.Nat.{ℕ}
 use borrow.Author.Tests.{eqb-true, ne-eqb}
 use lib.Dec.{eqb}
-use Rattle.flatten.specs.declared.Wire.{Wire}
+use Rattle.tables.specs.declared.Wire.{Wire}
 use Rattle.tables.specs.Tables.{Tables, fullSize, wiresIn}
 use Rattle.net.specs.Net.{isNet, netNumber}
 use Rattle.net.proofs.NetLaws.{netNumber-full, netNumber-isNet, netNumber-0}

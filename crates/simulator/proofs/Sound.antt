@@ -13,7 +13,7 @@ use Rattle.lists.proofs.MembersLaws.{In, map-complete, from0-complete}
 use Rattle.lists.proofs.NamesLaws.{distinct-key}
 use Rattle.primitive.specs.declared.kinds.Kind.the-variants.{Clock}
 use Rattle.primitive.specs.Kinds.{is, primitive, obeys, inputWidth, outputWidth}
-use Rattle.flatten.specs.declared.Wire.{Wire}
+use Rattle.tables.specs.declared.Wire.{Wire}
 use Rattle.tables.specs.Tables.{Tables, fullSize, fieldsAt, firstInput, firstOutput, inputPlace, outputPlace, wireAt, wiresIn}
 use Rattle.tables.proofs.SizesLaws.{Full, fullSize-sound}
 use Rattle.net.specs.Net.{isOutput, isInput, isNet, netNumber}
@@ -47,12 +47,12 @@ pub record Sound (T : Tables) : Type 0 where
   pub outputs-apart : (i j : ℕ) → i < j → j < T .counts .components → outputsEnd T i ≤ firstOutput T j
   pub inputs-in : (i : ℕ) → i < T .counts .components → inputsEnd T i ≤ length (T .inputs)
   pub outputs-in : (i : ℕ) → i < T .counts .components → outputsEnd T i ≤ length (T .outputs)
-  pub source : (w : Wire) → In w (wiresIn T) → w .src .comp < T .counts .components
-  pub source-port : (w : Wire) → In w (wiresIn T) → w .src .port < fieldsAt T (w .src .comp) .outputs
-  pub target : (w : Wire) → In w (wiresIn T) → w .dst .comp < T .counts .components
-  pub target-port : (w : Wire) → In w (wiresIn T) → w .dst .port < fieldsAt T (w .dst .comp) .inputs
+  pub source : (w : Wire) → In w (wiresIn T) → w .src .comp .0 < T .counts .components
+  pub source-port : (w : Wire) → In w (wiresIn T) → w .src .port < fieldsAt T (w .src .comp .0) .outputs
+  pub target : (w : Wire) → In w (wiresIn T) → w .dst .comp .0 < T .counts .components
+  pub target-port : (w : Wire) → In w (wiresIn T) → w .dst .port < fieldsAt T (w .dst .comp .0) .inputs
   pub widths : (w : Wire) → In w (wiresIn T)
-      → outputWidth (fieldsAt T (w .src .comp)) ≡ inputWidth (fieldsAt T (w .dst .comp))
+      → outputWidth (fieldsAt T (w .src .comp .0)) ≡ inputWidth (fieldsAt T (w .dst .comp .0))
   pub once : (w x : Wire) → In w (wiresIn T) → In x (wiresIn T) → inputPlace T (w .dst) ≡ inputPlace T (x .dst) → w ≡ x
 
 -- The tables of a net are sound.
@@ -148,27 +148,27 @@ module _ (T : Tables) (g : Sound T) where
   input-off = off (firstInput T) (inputCount T) n (g .inputs-apart)
 
   -- So a wire's output is none of another component's, and its input none of another's.
-  pub outputs-off : (i : ℕ) (w : Wire) → i < n → In w (wiresIn T) → (w .src .comp ≡ i → ⊥)
+  pub outputs-off : (i : ℕ) (w : Wire) → i < n → In w (wiresIn T) → (w .src .comp .0 ≡ i → ⊥)
       → Off (firstOutput T i) (outputCount T i) (outputPlace T (w .src))
-  outputs-off i w h m ne = output-off i (w .src .comp) (w .src .port) h (g .source w m) ne (g .source-port w m)
+  outputs-off i w h m ne = output-off i (w .src .comp .0) (w .src .port) h (g .source w m) ne (g .source-port w m)
 
-  pub inputs-off : (i : ℕ) (w : Wire) → i < n → In w (wiresIn T) → (w .dst .comp ≡ i → ⊥)
+  pub inputs-off : (i : ℕ) (w : Wire) → i < n → In w (wiresIn T) → (w .dst .comp .0 ≡ i → ⊥)
       → Off (firstInput T i) (inputCount T i) (inputPlace T (w .dst))
-  inputs-off i w h m ne = input-off i (w .dst .comp) (w .dst .port) h (g .target w m) ne (g .target-port w m)
+  inputs-off i w h m ne = input-off i (w .dst .comp .0) (w .dst .port) h (g .target w m) ne (g .target-port w m)
 
   -- A wire's output is there to be read, and its input to be written.
   pub output-room : (w : Wire) → In w (wiresIn T) → outputPlace T (w .src) < length (T .outputs)
-  output-room w m = omega (arith, g .source-port w m, g .outputs-in (w .src .comp) (g .source w m))
+  output-room w m = omega (arith, g .source-port w m, g .outputs-in (w .src .comp .0) (g .source w m))
 
   pub input-room : (w : Wire) → In w (wiresIn T) → inputPlace T (w .dst) < length (T .inputs)
-  input-room w m = omega (arith, g .target-port w m, g .inputs-in (w .dst .comp) (g .target w m))
+  input-room w m = omega (arith, g .target-port w m, g .inputs-in (w .dst .comp .0) (g .target w m))
 
   -- The target of a wire has an input, so it is no Clock.
-  pub target-unclocked : (w : Wire) → In w (wiresIn T) → is Clock (fieldsAt T (w .dst .comp)) ≡ false
-  target-unclocked w m = by-test (is Clock (fieldsAt T (w .dst .comp))) refl
+  pub target-unclocked : (w : Wire) → In w (wiresIn T) → is Clock (fieldsAt T (w .dst .comp .0)) ≡ false
+  target-unclocked w m = by-test (is Clock (fieldsAt T (w .dst .comp .0))) refl
     where
-      by-test : (b : Bool) → is Clock (fieldsAt T (w .dst .comp)) ≡ b → b ≡ false
+      by-test : (b : Bool) → is Clock (fieldsAt T (w .dst .comp .0)) ≡ b → b ≡ false
       by-test true e =
-          let none = clock-inputs (fieldsAt T (w .dst .comp)) (g .obeyed (w .dst .comp) (g .target w m)) e in
+          let none = clock-inputs (fieldsAt T (w .dst .comp .0)) (g .obeyed (w .dst .comp .0) (g .target w m)) e in
           absurd (omega (arith, g .target-port w m, none))
       by-test false e = refl

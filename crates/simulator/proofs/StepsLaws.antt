@@ -23,7 +23,7 @@ use Rattle.primitive.specs.Kinds.{is}
 use Rattle.primitive.specs.Evaluate.{outputsAfter}
 use Rattle.primitive.specs.Own.{Own}
 use Rattle.primitive.proofs.FitLaws.{outputsAfter-length}
-use Rattle.flatten.specs.declared.Wire.{Wire}
+use Rattle.tables.specs.declared.Wire.{Wire}
 use Rattle.tables.specs.declared.Counts.{Counts}
 use Rattle.tables.specs.Tables.{Tables, wordIn, fieldsAt, firstInput, firstOutput, numbers, inputsAt, outputsAt, inputPlace, outputPlace, wireAt, wiresIn}
 use Rattle.tables.proofs.NamedLaws.{overlay-list, overlay-count}
@@ -61,7 +61,7 @@ module _ (T : Tables) (ins outs fol : List ℕ) (n : ℕ) (w : Wire) (a b x y : 
       record { count = h; state = rw z }
 
   -- They differ, and the target is appended.
-  pub send-writes : (x ≡ y → ⊥) → (to r : ℕ) (fol' : List ℕ) → to ≡ w .dst .comp
+  pub send-writes : (x ≡ y → ⊥) → (to r : ℕ) (fol' : List ℕ) → to ≡ w .dst .comp .0
       → r ≡ length (appendNew to (take n fol))
       → fol' ≡ overlay (appendNew to (take n fol)) fol
       → Step r fol' (stateAt (set ins b x) outs (take r fol') []) (send T (stateAt ins outs (take n fol) []) w)
@@ -69,7 +69,7 @@ module _ (T : Tables) (ins outs fol : List ℕ) (n : ℕ) (w : Wire) (a b x y : 
   send-writes e to r fol' et er ef =
       let z : eqb (getD outs (outputPlace T (w .src)) 0) (getD ins (inputPlace T (w .dst)) 0) ≡ false =
       test ∙ ne-eqb x y e in
-      let l : take r fol' ≡ appendNew (w .dst .comp) (take n fol) =
+      let l : take r fol' ≡ appendNew (w .dst .comp .0) (take n fol) =
       rw ef (overlay-list (appendNew to (take n fol)) fol r er) ∙ ap (λ (c : ℕ). appendNew c (take n fol)) et in
       let i : set ins b x ≡ set ins (inputPlace T (w .dst)) (getD outs (outputPlace T (w .src)) 0) = rw (ex, pa, pb) in
       record { count = rw ef (overlay-count (appendNew to (take n fol)) fol r er); state = rw (z, l, i) }
@@ -180,14 +180,14 @@ module _ (T : Tables) where
       names-complete (T .counts .components) (appendNew x xs)
       (names-append (T .counts .components) x xs h (names-sound (T .counts .components) xs e))
 
-  pub send-names : (s : State) (w : Wire) → w .dst .comp < T .counts .components → names T (s .following) ≡ true
+  pub send-names : (s : State) (w : Wire) → w .dst .comp .0 < T .counts .components → names T (s .following) ≡ true
       → names T (send T s w .following) ≡ true
   unfolding written
   send-names s w h e = by-case (send-case T s w)
     where
       by-case : SendCase T s w → names T (send T s w .following) ≡ true
       by-case (agrees p q) = rw q e
-      by-case (writes p q) = rw q (append-names (w .dst .comp) (s .following) e h)
+      by-case (writes p q) = rw q (append-names (w .dst .comp .0) (s .following) e h)
 
 -- A loop over all wires, of which those of component i are sent: what is still to come.
 module _ (T : Tables) (i q n : ℕ) (s : State) (x : State) where
@@ -231,7 +231,7 @@ module _ (cs ws : List ℕ) (m : Counts) where
         source = g .source k h;
         target = g .target k h;
         count = l .count;
-        room = append-room (wiring cs ws m) (wireAt (uncounted cs ws) k .dst .comp) (take n fol) fol (l .named)
+        room = append-room (wiring cs ws m) (wireAt (uncounted cs ws) k .dst .comp .0) (take n fol) fol (l .named)
             (g .named k h) (g .few) (l .whole);
       }
 
@@ -325,25 +325,25 @@ module _ (T : Tables) where
       ∙ ap (λ (u : State). foldl (send T) u (wiresFrom i ws)) v
 
   -- The following list stays one of names.
-  sends-names : (ws : List Wire) → ((w : Wire) → In w ws → w .dst .comp < T .counts .components) → (s : State)
+  sends-names : (ws : List Wire) → ((w : Wire) → In w ws → w .dst .comp .0 < T .counts .components) → (s : State)
       → names T (s .following) ≡ true → names T (foldl (send T) s ws .following) ≡ true
   sends-names ws f =
       foldl-keeps (λ (s : State). names T (s .following) ≡ true) (send T) ws (λ u w m. send-names T u w (f w m))
 
-  pub visit-names : (ws : List Wire) (t i : ℕ) → ((w : Wire) → In w ws → w .dst .comp < T .counts .components)
+  pub visit-names : (ws : List Wire) (t i : ℕ) → ((w : Wire) → In w ws → w .dst .comp .0 < T .counts .components)
       → (s : State)
       → names T (s .following) ≡ true → names T (visit T ws t s i .following) ≡ true
   unfolding visit evaluated
   visit-names ws t i f s e =
-      sends-names (wiresFrom i ws) (λ w m. f w (keep-sound (λ (x : Wire). eqb (x .src .comp) i) w ws m .1))
+      sends-names (wiresFrom i ws) (λ w m. f w (keep-sound (λ (x : Wire). eqb (x .src .comp .0) i) w ws m .1))
       (evaluated T t i s) e
 
   -- A wire of the table is one of those by number.
-  pub wires-named : ((k : ℕ) → k < T .counts .wires → wireAt T k .dst .comp < T .counts .components)
-      → (w : Wire) → In w (wiresIn T) → w .dst .comp < T .counts .components
+  pub wires-named : ((k : ℕ) → k < T .counts .wires → wireAt T k .dst .comp .0 < T .counts .components)
+      → (w : Wire) → In w (wiresIn T) → w .dst .comp .0 < T .counts .components
   wires-named f w m =
       let r = map-sound (wireAt T) w (from 0 (T .counts .wires)) m in
-      subst (λ (x : Wire). x .dst .comp < T .counts .components) (sym (r .2))
+      subst (λ (x : Wire). x .dst .comp .0 < T .counts .components) (sym (r .2))
       (f (r .0) (from0-sound (T .counts .wires) (r .0) (r .1)))
 
 -- What visits need at a turn, and keep.

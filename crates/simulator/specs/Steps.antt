@@ -12,7 +12,7 @@ use mathlib.Core.List.{List, []}
 use lib.ListN.{length, take}
 use Rattle.lists.specs.Lists.{appendNew}
 use Rattle.primitive.specs.Kinds.{primitive, obeys}
-use Rattle.flatten.specs.declared.Wire.{Wire}
+use Rattle.tables.specs.declared.Wire.{Wire}
 use Rattle.tables.specs.declared.Counts.{Counts}
 use Rattle.tables.specs.Tables.{Tables, tablesOf, fieldsAt, firstInput, firstOutput, inputPlace, outputPlace, wireAt}
 use Rattle.net.specs.Net.{names}
@@ -47,7 +47,7 @@ pub record CanSend (T : Tables) (is os : List ℕ) (n : ℕ) (t : List ℕ) (w :
   pub source : outputPlace T (w .src) < length os
   pub target : inputPlace T (w .dst) < length is
   pub count : n ≤ length t
-  pub room : length (appendNew (w .dst .comp) (take n t)) ≤ length t
+  pub room : length (appendNew (w .dst .comp .0) (take n t)) ≤ length t
 
 -- What a net gives: components obey the table of kinds, their ports and the ends of wires stand in the tables.
 pub record CanRun (T : Tables) (is os : List ℕ) : Type 0 where
@@ -58,7 +58,7 @@ pub record CanRun (T : Tables) (is os : List ℕ) : Type 0 where
   pub outputs-in : (i : ℕ) → i < T .counts .components → firstOutput T i + fieldsAt T i .outputs ≤ length os
   pub source : (k : ℕ) → k < T .counts .wires → outputPlace T (wireAt T k .src) < length os
   pub target : (k : ℕ) → k < T .counts .wires → inputPlace T (wireAt T k .dst) < length is
-  pub named : (k : ℕ) → k < T .counts .wires → wireAt T k .dst .comp < T .counts .components
+  pub named : (k : ℕ) → k < T .counts .wires → wireAt T k .dst .comp .0 < T .counts .components
 
 -- A list in a table of full size.
 pub record ListFits (T : Tables) (n : ℕ) (t : List ℕ) : Type 0 where

@@ -11,11 +11,11 @@ ghost use Rattle.tables.specs.Words.{fieldsFit};
 ghost use Rattle.simulator.specs.Calls.{editNumber, Edits};
 ghost use Rattle.simulator.specs.Asked.{ends, editRefusal};
 use crate::questions::is_kind;
-use component::FlatIdx;
 use primitive::Kind;
 use primitive::Refusal;
 use tables::Answer;
 use tables::Counts;
+use tables::FlatIdx;
 
 // Whether one of the first `count` wires enters component i.
 fn is_driven(wires: &[u16], count: usize, i: usize) -> bool

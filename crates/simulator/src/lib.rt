@@ -3,7 +3,6 @@ mod edits;
 mod questions;
 mod rounds;
 
-use component::FlatIdx;
 pub use edits::edit;
 use primitive::Refusal;
 pub use questions::index_of;
@@ -14,6 +13,7 @@ pub use questions::value_of;
 pub use rounds::round;
 pub use rounds::run_until_calm;
 use tables::Counts;
+use tables::FlatIdx;
 use value::Value;
 
 // Which ports of a component.

@@ -20,11 +20,11 @@ use crate::Index;
 use crate::Listed;
 use crate::Port;
 use crate::Side;
-use component::FlatIdx;
-use component::Id;
+use primitive::Id;
 use primitive::Kind;
 use primitive::Refusal;
 use tables::Counts;
+use tables::FlatIdx;
 use value::Value;
 
 // Full size of a list: the most that can be listed.

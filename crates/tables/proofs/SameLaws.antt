@@ -8,9 +8,8 @@ use mathlib.Core.List.{List, map}
 use Prim.Native.Nat.{ℕ, _+_, _*_}
 use lib.ListN.{length, getD}
 use Rattle.lists.specs.Lists.{from}
-use Rattle.flatten.specs.declared.Wire.{Wire}
-use Rattle.flatten.specs.Descent.{pin}
-use Rattle.tables.specs.Tables.{Tables, fullSize, wordIn, fieldsAt, wiresIn}
+use Rattle.tables.specs.declared.Wire.{Wire}
+use Rattle.tables.specs.Tables.{Tables, fullSize, wordIn, endAt, fieldsAt, wiresIn}
 
 pub record SameWiring (T U : Tables) : Type 0 where
   pub components : U .components ≡ T .components
@@ -80,8 +79,8 @@ abbrev wiresOf : List ℕ → ℕ → List Wire
 wiresOf ws k =
     let at : ℕ → Wire = λ q.
     record {
-      src = pin (getD ws (4 * q) 0) (getD ws (4 * q + 1) 0);
-      dst = pin (getD ws (4 * q + 2) 0) (getD ws (4 * q + 3) 0);
+      src = endAt (getD ws (4 * q) 0) (getD ws (4 * q + 1) 0);
+      dst = endAt (getD ws (4 * q + 2) 0) (getD ws (4 * q + 3) 0);
     } in
     map at (from 0 k)
 

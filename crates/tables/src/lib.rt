@@ -16,6 +16,21 @@ pub use words::entry;
 pub use words::word;
 pub use words::word_of;
 
+// The place of a component in the table of components.
+pub struct FlatIdx(pub usize);
+
+// A port of a component of the net.
+pub struct End {
+    pub comp: FlatIdx,
+    pub port: u16,
+}
+
+// A wire of the net, from an output to an input.
+pub struct Wire {
+    pub src: End,
+    pub dst: End,
+}
+
 // How many entries of each lent table are in use.
 pub struct Counts {
     pub components: usize,

@@ -18,7 +18,7 @@ cast-t9 c = omega (arith, c .shared-slice-known .given (c .before .args .comp))
 returns : tie.Need-returns
 returns c =
     let s = c .before in (
-      ap (λ x. record { comp = x; port = s .args .port }) (s .pre .0 .word (s .args .comp) (s .pre .1)),
+      ap (λ x. record { comp = record { 0 = x }; port = s .args .port }) (s .pre .0 .word (s .args .comp) (s .pre .1)),
       omega (arith, c .shared-slice-known .given (s .args .comp)),
     )
 

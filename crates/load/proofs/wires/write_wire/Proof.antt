@@ -53,7 +53,7 @@ same-length c = search needs
 returns : tie.Need-returns
 returns c =
     let a = c .before .before .args in
-    stores-entry (a .wires .now) (a .at) (a .from .comp) (a .from .port ∷ a .to .comp ∷ a .to .port ∷ [])
+    stores-entry (a .wires .now) (a .at) (a .from .comp .0) (a .from .port ∷ a .to .comp .0 ∷ a .to .port ∷ [])
 
 pub write-wire-spec : {M : Type 1} → statement M
 write-wire-spec =

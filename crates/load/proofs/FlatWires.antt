@@ -1,5 +1,5 @@
--- The wires between flat indexes, as the tables hold them, are the images of the wires of the drawing; where
--- there is one between two primitives' ports, the drawing leads from one to the other.
+-- The wires of the net are the images of the wires of the drawing; where there is one between two primitives' ports,
+-- the drawing leads from one to the other.
 -- docs/SPECIFICATION.md, "Flattening".
 -- Assumes nothing.
 use mathlib.Core.Path.{_≡_, refl, sym, ap, subst, subst₂}
@@ -11,27 +11,38 @@ use lib.ListN.{length, length-map}
 use Rattle.lists.proofs.MembersLaws.{In, Distinct, map-sound, map-complete, distinct-map}
 use Rattle.component.specs.declared.Record.{Record}
 use Rattle.component.specs.Record.{isPrimitive}
 use Rattle.flatten.specs.declared.Pin.{Pin}
-use Rattle.flatten.specs.declared.Wire.{Wire}
-use Rattle.flatten.specs.Descent.{pin, wires, flatPin, flatWires}
+use Rattle.flatten.specs.declared.Lead.{Lead}
+use Rattle.flatten.specs.Descent.{pin, flat, wires}
 use Rattle.flatten.specs.Leads.{Leads}
+use Rattle.tables.specs.declared.End.{End}
+use Rattle.tables.specs.declared.Wire.{Wire}
+use Rattle.load.specs.Load.{flatPin, flatWires}
 use Rattle.flatten.proofs.Accepted.{Passed}
-use Rattle.flatten.proofs.Wires.{wire, wires-lead, leads-wires}
+use Rattle.flatten.proofs.Wires.{lead, wires-lead, leads-wires}
 use Rattle.flatten.proofs.Ends.{wires-leave, wires-enter}
 use Rattle.flatten.proofs.Primitives.{flat-inj}
 use Rattle.flatten.proofs.Bound.{entered, wires-distinct, wires-bound}
+
+-- A wire of the net from one end to the other.
+abbrev pub wire : End → End → Wire
+wire s t = record { src = s; dst = t }
+
+-- The inputs that wires of the net enter.
+abbrev pub enteredEnds : List Wire → List End
+enteredEnds ws = map (λ (w : Wire). w .dst) ws
 
 module _ (at : ℕ → Record) (n : ℕ) where
-  -- The wire between flat indexes.
-  abbrev pub flatWire : Wire → Wire
+  -- The image of a wire of the drawing.
+  abbrev pub flatWire : Lead → Wire
   flatWire w = wire (flatPin at n (w .src)) (flatPin at n (w .dst))
 
   -- A flat wire is the image of a wire;
-  pub flatWires-sound : (v : Wire) → In v (flatWires at n) → (w : Wire) × In w (wires at n) × (v ≡ flatWire w)
+  pub flatWires-sound : (v : Wire) → In v (flatWires at n) → (w : Lead) × In w (wires at n) × (v ≡ flatWire w)
   flatWires-sound v h = map-sound flatWire v (wires at n) h
 
   -- and the image of a wire is one.
-  pub flatWires-complete : (w : Wire) → In w (wires at n) → In (flatWire w) (flatWires at n)
+  pub flatWires-complete : (w : Lead) → In w (wires at n) → In (flatWire w) (flatWires at n)
   flatWires-complete w h = map-complete flatWire w (wires at n) h
 
   -- There are as many of them.
@@ -42,14 +53,14 @@ module _ (at : ℕ → Record) (n : ℕ) where
   pub flatPin-inj : (s t : Pin) → isPrimitive (at (s .comp)) ≡ true → isPrimitive (at (t .comp)) ≡ true
       → flatPin at n s ≡ flatPin at n t → s ≡ t
   flatPin-inj s t e f h =
-      let c : s .comp ≡ t .comp = flat-inj at n (s .comp) (t .comp) e f (ap (λ (x : Pin). x .comp) h) in
-      let i : s .port ≡ t .port = ap (λ (x : Pin). x .port) h in
+      let c : s .comp ≡ t .comp = flat-inj at n (s .comp) (t .comp) e f (ap (λ (x : End). x .comp .0) h) in
+      let i : s .port ≡ t .port = ap (λ (x : End). x .port) h in
       λ k. pin (c k) (i k)
 
 module _ (at : ℕ → Record) (n : ℕ) (d : Passed at n) where
   -- Wherever the drawing leads from an output to an input, there is a flat wire;
   pub leads-flatWires : (s t : Pin) → Leads at n s t → In (wire (flatPin at n s) (flatPin at n t)) (flatWires at n)
-  leads-flatWires s t r = flatWires-complete at n (wire s t) (leads-wires at n d s t r)
+  leads-flatWires s t r = flatWires-complete at n (lead s t) (leads-wires at n d s t r)
 
   -- and where there is one between ports of primitives, the drawing leads from one to the other.
   pub flatWires-lead : (s t : Pin) → isPrimitive (at (s .comp)) ≡ true → isPrimitive (at (t .comp)) ≡ true
@@ -64,21 +75,21 @@ module _ (at : ℕ → Record) (n : ℕ) (d : Passed at n) where
       subst₂ (Leads at n) (sym a) (sym b) (wires-lead at n d w (r .1))
 
   -- No two flat wires enter one input.
-  pub flatWires-distinct : Distinct (entered (flatWires at n))
+  pub flatWires-distinct : Distinct (enteredEnds (flatWires at n))
   flatWires-distinct =
       subst Distinct (by-wires (wires at n))
       (distinct-map (flatPin at n) (entered (wires at n))
       (λ s t u v. flatPin-inj at n s t (of-primitive s u) (of-primitive t v)) (wires-distinct at n d))
     where
-      by-wires : (ws : List Wire) → map (flatPin at n) (entered ws) ≡ entered (map (flatWire at n) ws)
+      by-wires : (ws : List Lead) → map (flatPin at n) (entered ws) ≡ enteredEnds (map (flatWire at n) ws)
       by-wires [] = refl
-      by-wires (w ∷ ws) = ap (λ (l : List Pin). flatPin at n (w .dst) ∷ l) (by-wires ws)
+      by-wires (w ∷ ws) = ap (λ (l : List End). flatPin at n (w .dst) ∷ l) (by-wires ws)
 
       of-primitive : (t : Pin) → In t (entered (wires at n)) → isPrimitive (at (t .comp)) ≡ true
       of-primitive t h =
-          let m = map-sound (λ (w : Wire). w .dst) t (wires at n) h in
+          let m = map-sound (λ (w : Lead). w .dst) t (wires at n) h in
           rw (m .2) (wires-enter at n d (m .0) (m .1) .of-primitive)
 
-  -- There are at most 1,024 flat wires,
+  -- There are at most 1,024 flat wires.
   pub flatWires-bound : length (flatWires at n) ≤ 1024
   flatWires-bound = omega (arith, flatWires-length at n, wires-bound at n d)
