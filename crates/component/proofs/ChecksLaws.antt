@@ -5,11 +5,12 @@ use mathlib.Core.Path.{_≡_, refl, sym, ap, _∙_}
 use mathlib.Core.Bool.{Bool, true, false, cond, not, _&&_, _||_}
 use mathlib.Core.Logic.{⊎-elim}
 use mathlib.Core.List.{List, [], _∷_}
-use Prim.Native.Nat.{ℕ, zero, suc, _+_, _-_, _<_, _≤_}
+use Prim.Native.Nat.{ℕ, zero, suc, _+_, _-_, _/_, _<_, _≤_}
 use native.Mathlib.Nat.{sub-zero}
 use native.Mathlib.Numerals.{add-one}
+use native.Mathlib.Decide.{decLt}
 use native.Mathlib.Omega.{arith}
-use borrow.Author.Tests.{eq-eqb, ne-eqb, le-leb, lt-leb, lt-ltb, le-ltb, not-true, not-false}
+use borrow.Author.Tests.{eq-eqb, ne-eqb, le-leb, lt-leb, lt-ltb, le-ltb, ltb-true, not-true, not-false}
 use lib.Dec.{eqb, leb, ltb}
 use lib.ListN.{length}
 use types.Run.{OneOf}
@@ -29,7 +30,8 @@ use Rattle.component.specs.declared.Stands.the-variants.{Component as St
 use Rattle.component.specs.declared.checks.Entry.{Entry}
 use Rattle.component.specs.declared.checks.Entry.the-variants.{Of, Nothing as NoEntry}
 use Rattle.component.specs.Record.{recordAt, fromOf, outputOf, toOf, inputOf, portOf, noRecord}
-use Rattle.component.specs.Reading.{idOf, ownerOf, formOf, apart, formBy, said, number, number3, StandsAs, EntryAs}
+use Rattle.component.specs.Reading.{idOf, ownerOf, formOf, apart, formBy, said, number, StandsAs, EntryAs}
+use Rattle.component.specs.Checks.{given}
 use Rattle.component.specs.Record.{inputsOf, outputsOf, isPrimitive, composite}
 use Rattle.component.specs.Record.{hasId, entering, enters, enteringAs}
 use Rattle.component.specs.Drawing.{fromThere, portThere, toThere}
@@ -40,13 +42,47 @@ use Rattle.component.proofs.Says.{the-type}
 use Rattle.component.proofs.RecordLaws.{formBy-tag, no-component, form-apart, owner-apart, refused-is, taken-is, taken-form, taken-owner, unseen-test, unseen-fields, seen-is}
 use Rattle.component.proofs.ScanLaws.{tested}
 
+-- A check fails, or not; r is what `given` answers.
+module _ (k : ℕ) (b : Bool) where
+  pub given-fails : true ≡ b → k ≡ given k b
+  given-fails e = ap (given k) e
+
+  pub given-passes : false ≡ b → 0 ≡ given k b
+  given-passes e = ap (given k) e
+
+  pub given-by : (r : ℕ) (a : Bool) → r ≡ given k a → a ≡ b → r ≡ given k b
+  given-by r a h e = h ∙ ap (given k) e
+
+  -- and what the number given says of it: it is not 0; it is 0
+  module _ (r : ℕ) (e : r ≡ given k b) where
+    pub given-failed : (r ≡ 0 → ⊥) → b ≡ true
+    given-failed h = by-test b e
+      where
+        by-test : (c : Bool) → r ≡ given k c → c ≡ true
+        by-test true d = refl
+        by-test false d = absurd (h d)
+
+    pub given-number : (r ≡ 0 → ⊥) → r ≡ k
+    given-number h = e ∙ ap (given k) (given-failed h)
+
+    pub given-passed : r ≡ 0 → 0 < k → b ≡ false
+    given-passed z h = by-test b e
+      where
+        by-test : (c : Bool) → r ≡ given k c → c ≡ false
+        by-test true d = absurd (omega arith)
+        by-test false d = refl
+
 -- 3: taken apart; refused
-module _ (t : Record) (r : Reading) (e : number r ≡ number3 t) where
-  pub number-taken : {o : ℕ} {x : Says} → r ≡ Taken o x → 0 ≡ number3 t
+module _ (m : ℕ) (r : Reading) (e : number r ≡ m) where
+  pub number-taken : {o : ℕ} {x : Says} → r ≡ Taken o x → 0 ≡ m
   number-taken h = sym (ap number h) ∙ e
 
-  pub number-refused : (k : ℕ) → r ≡ Refused k → k ≡ number3 t
+  pub number-refused : (k : ℕ) → r ≡ Refused k → k ≡ m
   number-refused k h = sym (ap number h) ∙ e
+
+or-true : (a : Bool) → (a || true) ≡ true
+or-true true = refl
+or-true false = refl
 
 -- 4: the order of two record kinds
 module _ (f g o m : ℕ) where
@@ -108,6 +144,18 @@ module _ (x y : Says) (o m : ℕ) where
         kind-rises (formBy x) (formBy y) o m
         (⊎-elim (λ z. omega (arith, ap formBy h, formBy-tag y)) (⊎-elim (λ z. omega (arith, ap formBy h, formBy-tag y))
         (λ z. omega (arith, ap formBy h, formBy-tag y))) k)
+
+-- 11: the sums a and b so far and those to come, s and t, are x and y: one of them is too many already; neither is, and nothing is to come
+module _ (a b s t x y : ℕ) (ex : a + s ≡ x) (ey : b + t ≡ y) where
+  pub overfull-here : (ltb 1024 a || ltb 1024 b) ≡ true → true ≡ (ltb 1024 x || ltb 1024 y)
+  overfull-here h = by-test (ltb 1024 a) refl h
+    where
+      by-test : (c : Bool) → ltb 1024 a ≡ c → (c || ltb 1024 b) ≡ true → true ≡ (ltb 1024 x || ltb 1024 y)
+      by-test true e k = rw (lt-ltb 1024 x (omega (arith, ltb-true 1024 a e)))
+      by-test false e k = rw (lt-ltb 1024 y (omega (arith, ltb-true 1024 b k))) (sym (or-true (ltb 1024 x)))
+
+pub overfull-none : (a b x y : ℕ) → a ≡ x → b ≡ y → a ≤ 1024 → b ≤ 1024 → false ≡ (ltb 1024 x || ltb 1024 y)
+overfull-none a b x y ex ey h k = rw (← ex, ← ey, le-ltb 1024 a h, le-ltb 1024 b k)
 
 -- A record taken apart has a kind.
 formBy-some : (x : Says) → formBy x ≡ 0 → ⊥
@@ -320,9 +368,19 @@ module _ (s : List ℕ) where
           let y : idOf (recordAt s p) ≡ i .0 = rw (seen-is (recordAt s p) g e o i f h) in
           k ∙ rw (form-is, y)
 
-      pub fails11-component : (a b : ℕ) → a ≡ inputsBefore (recordAt s) (p + 1) → b ≡ outputsBefore (recordAt s) (p + 1)
-          → (ltb 1024 a || ltb 1024 b) ≡ fails11 (recordAt s) p
-      fails11-component a b k l = rw (k, l, add-one p, form-is)
+      -- a component stands in the file
+      pub component-within : p < length s / 24
+      component-within = by-place (decLt p (length s / 24))
+        where
+          by-place : Dec (p < length s / 24) → p < length s / 24
+          by-place (yes l) = l
+          by-place (no l) =
+              let z : recordAt s p ≡ noRecord = rw (le-ltb p (length s / 24) (omega arith)) in
+              absurd (omega (arith, ap formOf (sym z ∙ seen-is (recordAt s p) g e o i f h)))
+
+      pub fails11-component : (b : Bool)
+          → b ≡ (ltb 1024 (inputsBefore (recordAt s) (p + 1)) || ltb 1024 (outputsBefore (recordAt s) (p + 1))) → b ≡ fails11 (recordAt s) p
+      fails11-component b k = k ∙ rw (add-one p, form-is)
 
       pub composite-component : eqb (f .kind) 0 ≡ composite (recordAt s p)
       composite-component = rw (seen-is (recordAt s p) g e o i f h)

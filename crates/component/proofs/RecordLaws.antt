@@ -14,7 +14,8 @@ use denote.Enum.Declared.{tagOf}
 use Rattle.lists.proofs.ListsLaws.{and-left, and-right}
 use Rattle.primitive.specs.declared.table.Fields.{Fields}
 use Rattle.component.specs.Record.{le16, le32, le64, numbersIn, bare, wellFormed, noRecord, recordIn, recordAt, fieldsOf, noFields}
-use Rattle.component.specs.Reading.{ownerOf, formOf, apart, formBy, said, number, number3, StandsAs}
+use Rattle.component.specs.Reading.{ownerOf, formOf, apart, formBy, said, number, StandsAs}
+use Rattle.component.specs.Checks.{given}
 use Rattle.component.specs.Record.{isPrimitive}
 use Rattle.primitive.specs.Kinds.{primitive}
 use Rattle.component.specs.declared.Record.{Record}
@@ -198,20 +199,20 @@ module _ (r : Record) (w : wellFormed r ≡ true) where
 
 -- Reading: refused; taken apart.
 module _ (r : Record) (b : Bool) (e : b ≡ wellFormed r) where
-  pub read-refused : not b ≡ true → (said (Refused 3) ≡ recordIn r) × (number (Refused 3) ≡ number3 (recordIn r))
+  pub read-refused : not b ≡ true → (said (Refused 3) ≡ recordIn r) × (number (Refused 3) ≡ given 3 (eqb (formOf (recordIn r)) 0))
   read-refused h = (rw (← e, not-true b h), rw (← e, not-true b h))
 
   pub read-well : not b ≡ false → wellFormed r ≡ true
   read-well h = sym e ∙ not-false b h
 
   pub read-taken : (x : Says) → not b ≡ false → apart (r .owner) x ≡ r
-      → (said (Taken (r .owner) x) ≡ recordIn r) × (number (Taken (r .owner) x) ≡ number3 (recordIn r))
+      → (said (Taken (r .owner) x) ≡ recordIn r) × (number (Taken (r .owner) x) ≡ given 3 (eqb (formOf (recordIn r)) 0))
   read-taken x h k =
       let w = read-well h in
       let z : recordIn r ≡ r = rw w in
-      (k ∙ sym z, sym (ap number3 (z ∙ sym k) ∙ by-kind x))
+      (k ∙ sym z, sym (ap (λ (t : Record). given 3 (eqb (formOf t) 0)) (z ∙ sym k) ∙ by-kind x))
     where
-      by-kind : (x : Says) → number3 (apart (r .owner) x) ≡ 0
+      by-kind : (x : Says) → given 3 (eqb (formOf (apart (r .owner) x)) 0) ≡ 0
       by-kind (Component i f) = refl
       by-kind (Connection a b c d) = refl
       by-kind (InputMap a c d) = refl
@@ -220,14 +221,14 @@ module _ (r : Record) (b : Bool) (e : b ≡ wellFormed r) where
 -- A position in the file, and one past its end.
 module _ (s : List ℕ) (p : ℕ) where
   pub recordAt-read : (x : Reading) (r : Record) → p < length s / 24 → r ≡ numbersIn (take (24 * p + 24 - 24 * p) (drop (24 * p) s))
-      → said x ≡ recordIn r → number x ≡ number3 (recordIn r) → (said x ≡ recordAt s p) × (number x ≡ number3 (recordAt s p))
+      → said x ≡ recordIn r → number x ≡ given 3 (eqb (formOf (recordIn r)) 0) → (said x ≡ recordAt s p) × (number x ≡ given 3 (eqb (formOf (recordAt s p)) 0))
   recordAt-read x r h e a b =
       let n : 24 * p + 24 - 24 * p ≡ 24 = omega arith in
       let z : recordIn r ≡ recordAt s p =
       ap recordIn (e ∙ ap (λ (n : ℕ). numbersIn (take n (drop (24 * p) s))) n) ∙ rw (lt-ltb p (length s / 24) h) in
-      (a ∙ z, b ∙ ap number3 z)
+      (a ∙ z, b ∙ ap (λ (t : Record). given 3 (eqb (formOf t) 0)) z)
 
-  pub recordAt-past : length s / 24 ≤ p → (said (Refused 3) ≡ recordAt s p) × (number (Refused 3) ≡ number3 (recordAt s p))
+  pub recordAt-past : length s / 24 ≤ p → (said (Refused 3) ≡ recordAt s p) × (number (Refused 3) ≡ given 3 (eqb (formOf (recordAt s p)) 0))
   recordAt-past h = (rw (le-ltb p (length s / 24) h), rw (le-ltb p (length s / 24) h))
 
 -- The nine numbers, each read at its offset.
@@ -236,11 +237,3 @@ pub numbers-read : (s : List ℕ) (o a b c d i p : ℕ) → o ≡ le16 s 2 → a
     → _≡_ {A = Record}
     (record { form = getD s 0 0; kind = getD s 1 0; owner = o; a = a; b = b; c = c; d = d; id = i; parameter = p }) (numbersIn s)
 numbers-read s o a b c d i p eo ea eb ec ed ei ep = rw (eo, ea, eb, ec, ed, ei, ep)
-
--- The number of check 3 is not 0 exactly where the record is none.
-pub number3-fails : (t : Record) (n : ℕ) → n ≡ number3 t → not (eqb n 0) ≡ eqb (formOf t) 0
-number3-fails t n e = ap (λ (k : ℕ). not (eqb k 0)) e ∙ by-test (eqb (formOf t) 0)
-  where
-    by-test : (b : Bool) → not (eqb (cond b 3 0) 0) ≡ b
-    by-test true = refl
-    by-test false = refl

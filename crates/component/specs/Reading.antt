@@ -3,8 +3,7 @@
 -- Assumes nothing.
 use mathlib.Core.Path.{_≡_}
 use Prim.Native.Nat.{ℕ}
-use mathlib.Core.Bool.{true, false, cond}
-use lib.Dec.{eqb}
+use mathlib.Core.Bool.{true, false}
 use Rattle.component.specs.declared.Record.{Record}
 use Rattle.component.specs.declared.Says.{Says}
 use Rattle.component.specs.declared.Says.the-variants.{Component, Connection, InputMap, OutputMap}
@@ -61,10 +60,6 @@ said (Refused k) = noRecord
 abbrev pub number : Reading → ℕ
 number (Taken o s) = 0
 number (Refused k) = k
-
--- The number that check 3 gives.
-abbrev pub number3 : Record → ℕ
-number3 r = cond (eqb (r .form) 0) 3 0
 
 -- What is seen of a record: the component, taken apart, or that it is none.
 abbrev pub StandsAs : Stands → Record → Type 0

@@ -1,5 +1,4 @@
-// The checks 3 to 14, each of one record. Rule: docs/SPECIFICATION.md, "Numbers given back".
-// Only crate flatten calls them: over all records of a file, in number order.
+// The checks 3 to 14, each of one record: it answers the refusal's number, or 0. Rule: docs/SPECIFICATION.md, "Numbers given back".
 ghost use mathlib.Core.Path.{_≡_};
 ghost use mathlib.Core.Bool.{cond, _&&_, _||_};
 ghost use Prim.Native.Nat.{_≤_, _<_};
@@ -7,12 +6,13 @@ ghost use lib.ListN.{length};
 ghost use lib.Dec.{eqb, leb, ltb};
 ghost use Rattle.lists.specs.Lists.{from, any};
 ghost use Rattle.component.specs.Record.{recordAt};
-ghost use Rattle.component.specs.Reading.{number3, apart, formBy};
+ghost use Rattle.component.specs.Reading.{formBy};
 ghost use Rattle.component.specs.Index.{IsTable};
+ghost use Rattle.component.specs.Checks.{given, failsBy};
 ghost use Rattle.component.specs.Record.{inputsOf, outputsOf, isPrimitive, composite, hasId, enters};
 ghost use Rattle.component.specs.Reading.{EntryAs};
 ghost use Rattle.component.specs.Drawing.{child, deepest, holds, deeper, outMaps, inputsBefore, outputsBefore};
-ghost use Rattle.component.specs.Drawing.{fails4, fails5, fails6, fails7, fails8, fails9};
+ghost use Rattle.component.specs.Drawing.{fails3, fails4, fails5, fails6, fails7, fails8, fails9};
 ghost use Rattle.component.specs.Drawing.{fails10, fails11, fails12, fails13, fails14};
 use crate::ChildNo;
 use crate::Reading;
@@ -24,9 +24,19 @@ use crate::reader::component_at;
 use crate::reader::record_at;
 use primitive::Id;
 
-// 3: the number that refuses the record, 0 where it is taken apart.
-pub fn check3(file: &[u8], p: usize) -> u32
-    ensures { λ r. ⌜ r ≡ number3 (recordAt (now (file .entry)) p) ⌝ }
+// The number of a check that fails, else 0.
+pub fn given(number: u32, fails: bool) -> u32
+    ensures { λ r. ⌜ r ≡ given number fails ⌝ }
+{
+    if fails {
+        return number;
+    }
+    0
+}
+
+// 3: the record is not taken apart.
+fn check3(file: &[u8], p: usize) -> u32
+    ensures { λ r. ⌜ r ≡ given 3 (fails3 (recordAt (now (file .entry))) p) ⌝ }
 {
     let Reading::Refused(number) = record_at(file, p) else {
         return 0;
@@ -61,26 +71,26 @@ fn falls(here: Says, owner: u16, before: Says, was: u16) -> bool
 }
 
 // 4: kinds do not fall, nor owners among equal kinds 2 to 4; the first record is of kind 1.
-pub fn check4(file: &[u8], p: usize) -> bool
-    ensures { λ r. ⌜ r ≡ fails4 (recordAt (now (file .entry))) p ⌝ }
+fn check4(file: &[u8], p: usize) -> u32
+    ensures { λ r. ⌜ r ≡ given 4 (fails4 (recordAt (now (file .entry))) p) ⌝ }
 {
     if p == 0 {
         let Stands::Component { .. } = component_at(file, 0) else {
-            return true;
+            return 4;
         };
-        return false;
+        return 0;
     }
     let Reading::Taken { owner, says } = record_at(file, p) else {
-        return false;
+        return 0;
     };
     let Reading::Taken {
         owner: was,
         says: before,
     } = record_at(file, p - 1)
     else {
-        return false;
+        return 0;
     };
-    falls(says, owner, before, was)
+    given(4, falls(says, owner, before, was))
 }
 
 // Whether composite o holds component q, at most f owners up.
@@ -117,26 +127,26 @@ fn is_composite_at(file: &[u8], p: usize) -> bool
 }
 
 // 5: the root's owner is 0; any other is a composite, a component's one that is the component before or holds it.
-pub fn check5(file: &[u8], p: usize) -> bool
-    ensures { λ r. ⌜ r ≡ fails5 (recordAt (now (file .entry))) p ⌝ }
+fn check5(file: &[u8], p: usize) -> u32
+    ensures { λ r. ⌜ r ≡ given 5 (fails5 (recordAt (now (file .entry))) p) ⌝ }
 {
     let Reading::Taken { owner, says } = record_at(file, p) else {
-        return false;
+        return 0;
     };
     let o = owner as usize;
     if p == 0 {
-        return o != 0;
+        return given(5, o != 0);
     }
     if !is_composite_at(file, o) {
-        return true;
+        return 5;
     }
     let Says::Component { .. } = says else {
-        return false;
+        return 0;
     };
     if o == p - 1 {
-        return false;
+        return 0;
     }
-    !holds(file, p - 1, o, p - 1)
+    given(5, !holds(file, p - 1, o, p - 1))
 }
 
 // The greatest depth, the root's being 1.
@@ -166,46 +176,46 @@ fn deeper(file: &[u8], d: u8, p: usize) -> bool
 }
 
 // 6: component number 256 or more, or too deep.
-pub fn check6(file: &[u8], p: usize) -> bool
-    ensures { λ r. ⌜ r ≡ fails6 (recordAt (now (file .entry))) p ⌝ }
+fn check6(file: &[u8], p: usize) -> u32
+    ensures { λ r. ⌜ r ≡ given 6 (fails6 (recordAt (now (file .entry))) p) ⌝ }
 {
     let Stands::Component { .. } = component_at(file, p) else {
-        return false;
+        return 0;
     };
     if 256 <= p {
-        return true;
+        return 6;
     }
-    deeper(file, deepest(), p)
+    given(6, deeper(file, deepest(), p))
 }
 
 // 7: the kind is the one kept for Custom.
-pub fn check7(file: &[u8], p: usize) -> bool
-    ensures { λ r. ⌜ r ≡ fails7 (recordAt (now (file .entry))) p ⌝ }
+fn check7(file: &[u8], p: usize) -> u32
+    ensures { λ r. ⌜ r ≡ given 7 (fails7 (recordAt (now (file .entry))) p) ⌝ }
 {
     let Stands::Component { fields, .. } = component_at(file, p) else {
-        return false;
+        return 0;
     };
-    fields.kind == 14
+    given(7, fields.kind == 14)
 }
 
 // 8: the kind is none.
-pub fn check8(file: &[u8], p: usize) -> bool
-    ensures { λ r. ⌜ r ≡ fails8 (recordAt (now (file .entry))) p ⌝ }
+fn check8(file: &[u8], p: usize) -> u32
+    ensures { λ r. ⌜ r ≡ given 8 (fails8 (recordAt (now (file .entry))) p) ⌝ }
 {
     let Stands::Component { fields, .. } = component_at(file, p) else {
-        return false;
+        return 0;
     };
-    15 <= fields.kind
+    given(8, 15 <= fields.kind)
 }
 
 // 9: the component breaks the table of kinds.
-pub fn check9(file: &[u8], p: usize) -> bool
-    ensures { λ r. ⌜ r ≡ fails9 (recordAt (now (file .entry))) p ⌝ }
+fn check9(file: &[u8], p: usize) -> u32
+    ensures { λ r. ⌜ r ≡ given 9 (fails9 (recordAt (now (file .entry))) p) ⌝ }
 {
     let Stands::Component { fields, .. } = component_at(file, p) else {
-        return false;
+        return 0;
     };
-    !primitive::obeys(fields)
+    given(9, !primitive::obeys(fields))
 }
 
 // Whether a component at a position of the file has the id.
@@ -233,13 +243,13 @@ fn id_before(file: &[u8], p: usize, id: Id) -> bool
 }
 
 // 10: an earlier component's id.
-pub fn check10(file: &[u8], p: usize) -> bool
-    ensures { λ r. ⌜ r ≡ fails10 (recordAt (now (file .entry))) p ⌝ }
+fn check10(file: &[u8], p: usize) -> u32
+    ensures { λ r. ⌜ r ≡ given 10 (fails10 (recordAt (now (file .entry))) p) ⌝ }
 {
     let Stands::Component { id, .. } = component_at(file, p) else {
-        return false;
+        return 0;
     };
-    id_before(file, p, id)
+    given(10, id_before(file, p, id))
 }
 
 // The inputs and the outputs of some primitives.
@@ -270,10 +280,9 @@ fn ports_at(file: &[u8], q: usize) -> Ports
     }
 }
 
-// Those of the primitives before position p.
-fn ports_before(file: &[u8], p: usize) -> Ports
-    requires { ⌜ p ≤ 1024 ⌝ }
-    ensures { λ r. ⌜ (r .inputs ≡ inputsBefore (recordAt (now (file .entry))) p) × (r .outputs ≡ outputsBefore (recordAt (now (file .entry))) p) ⌝ }
+// Whether the primitives before position p have over 1,024 inputs or over 1,024 outputs.
+fn is_overfull(file: &[u8], p: usize) -> bool
+    ensures { λ r. ⌜ r ≡ (ltb 1024 (inputsBefore (recordAt (now (file .entry))) p) || ltb 1024 (outputsBefore (recordAt (now (file .entry))) p)) ⌝ }
 {
     let mut inputs: usize = 0;
     let mut outputs: usize = 0;
@@ -282,22 +291,22 @@ fn ports_before(file: &[u8], p: usize) -> Ports
         let ports = ports_at(file, q);
         inputs += ports.inputs;
         outputs += ports.outputs;
+        if (1024 < inputs) | (1024 < outputs) {
+            return true;
+        }
         q += 1;
     }
-    Ports { inputs, outputs }
+    false
 }
 
-// 11: the primitives so far, this one counted, have too many inputs or outputs. Crate flatten calls it for each of at most 1,024
-// records.
-pub fn check11(file: &[u8], p: usize) -> bool
-    requires { ⌜ p < 1024 ⌝ }
-    ensures { λ r. ⌜ r ≡ fails11 (recordAt (now (file .entry))) p ⌝ }
+// 11: the primitives so far, this one counted, have too many inputs or outputs.
+fn check11(file: &[u8], p: usize) -> u32
+    ensures { λ r. ⌜ r ≡ given 11 (fails11 (recordAt (now (file .entry))) p) ⌝ }
 {
     let Stands::Component { .. } = component_at(file, p) else {
-        return false;
+        return 0;
     };
-    let ports = ports_before(file, p + 1);
-    (1024 < ports.inputs) | (1024 < ports.outputs)
+    given(11, is_overfull(file, p + 1))
 }
 
 // Whether component c has an input i.
@@ -320,31 +329,34 @@ fn has_output(file: &[u8], c: usize, i: u16) -> bool
     i < fields.outputs
 }
 
-// 12: a child or port in kinds 2 to 4 does not exist. Crate flatten calls it with the table that `index_children` has filled.
-pub fn check12(file: &[u8], n: usize, children: &[u16], p: usize) -> bool
+// 12: a child or port in kinds 2 to 4 does not exist.
+fn check12(file: &[u8], n: usize, children: &[u16], p: usize) -> u32
     requires { ⌜ IsTable 256 (child (recordAt (now file)) n) (now children) ⌝ }
-    ensures { λ r. ⌜ r ≡ fails12 (recordAt (now (file .entry))) n p ⌝ }
+    ensures { λ r. ⌜ r ≡ given 12 (fails12 (recordAt (now (file .entry))) n p) ⌝ }
 {
     let Reading::Taken { owner, says } = record_at(file, p) else {
-        return false;
+        return 0;
     };
     let o = owner as usize;
     match says {
-        Says::Component { .. } => false,
+        Says::Component { .. } => 0,
         Says::Connection {
             from,
             output,
             to,
             input,
         } => {
-            !(has_output(file, child_of(file, n, children, o, from), output)
-                & has_input(file, child_of(file, n, children, o, to), input))
+            let from_there = has_output(file, child_of(file, n, children, o, from), output);
+            let to_there = has_input(file, child_of(file, n, children, o, to), input);
+            given(12, !(from_there & to_there))
         }
         Says::InputMap { port, to, input } => {
-            !(has_input(file, o, port) & has_input(file, child_of(file, n, children, o, to), input))
+            let to_there = has_input(file, child_of(file, n, children, o, to), input);
+            given(12, !(has_input(file, o, port) & to_there))
         }
         Says::OutputMap { from, output } => {
-            !has_output(file, child_of(file, n, children, o, from), output)
+            let from_there = has_output(file, child_of(file, n, children, o, from), output);
+            given(12, !from_there)
         }
     }
 }
@@ -386,20 +398,20 @@ fn same_entry(file: &[u8], q: usize, owner: u16, to: ChildNo, input: u16) -> boo
 }
 
 // 13: an earlier record of kind 2 or 3 entered the same input.
-pub fn check13(file: &[u8], p: usize) -> bool
-    ensures { λ r. ⌜ r ≡ fails13 (recordAt (now (file .entry))) p ⌝ }
+fn check13(file: &[u8], p: usize) -> u32
+    ensures { λ r. ⌜ r ≡ given 13 (fails13 (recordAt (now (file .entry))) p) ⌝ }
 {
     let Entry::Of { owner, to, input } = entry_at(file, p) else {
-        return false;
+        return 0;
     };
     let mut q: usize = 0;
     while q < p {
         if same_entry(file, q, owner, to, input) {
-            return true;
+            return 13;
         }
         q += 1;
     }
-    false
+    0
 }
 
 // How many output maps composite c has.
@@ -418,14 +430,37 @@ fn out_map_count(file: &[u8], n: usize, c: usize) -> usize
 }
 
 // 14: a composite's output maps differ in number from its outputs.
-pub fn check14(file: &[u8], n: usize, p: usize) -> bool
-    ensures { λ r. ⌜ r ≡ fails14 (recordAt (now (file .entry))) n p ⌝ }
+fn check14(file: &[u8], n: usize, p: usize) -> u32
+    ensures { λ r. ⌜ r ≡ given 14 (fails14 (recordAt (now (file .entry))) n p) ⌝ }
 {
     let Stands::Component { fields, .. } = component_at(file, p) else {
-        return false;
+        return 0;
     };
     if fields.kind != 0 {
-        return false;
+        return 0;
     }
-    fields.outputs as usize != out_map_count(file, n, p)
+    given(14, fields.outputs as usize != out_map_count(file, n, p))
+}
+
+// What check k, of 3 to 14, gives of the record at p. Crate flatten calls it over all records of a file, in number order, with the
+// table that `index_children` has filled.
+pub fn check(file: &[u8], n: usize, children: &[u16], k: u32, p: usize) -> u32
+    requires { ⌜ IsTable 256 (child (recordAt (now file)) n) (now children) ⌝ }
+    ensures { λ r. ⌜ r ≡ given k (failsBy (recordAt (now (file .entry))) n k p) ⌝ }
+{
+    match k {
+        3 => check3(file, p),
+        4 => check4(file, p),
+        5 => check5(file, p),
+        6 => check6(file, p),
+        7 => check7(file, p),
+        8 => check8(file, p),
+        9 => check9(file, p),
+        10 => check10(file, p),
+        11 => check11(file, p),
+        12 => check12(file, n, children, p),
+        13 => check13(file, p),
+        14 => check14(file, n, p),
+        _ => 0,
+    }
 }

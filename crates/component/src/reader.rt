@@ -3,9 +3,12 @@ ghost use mathlib.Core.Path.{_≡_};
 ghost use Prim.Native.Nat.{_+_, _*_, _≤_, _<_};
 ghost use lib.ListN.{length};
 ghost use mathlib.Core.Bool.{true};
+ghost use lib.Dec.{eqb};
 ghost use Rattle.component.specs.Record.{le16, le32, le64, numbersIn, wellFormed, recordIn, recordAt};
 ghost use Rattle.component.specs.Record.{isPrimitive};
-ghost use Rattle.component.specs.Reading.{apart, said, number, number3, StandsAs};
+ghost use Rattle.component.specs.Reading.{apart, said, number, StandsAs};
+ghost use Rattle.component.specs.Drawing.{fails3};
+ghost use Rattle.component.specs.Checks.{given};
 use crate::ChildNo;
 use crate::Reading;
 use crate::Record;
@@ -122,7 +125,7 @@ fn take(r: Record) -> Says
 
 // A record taken apart, or refused at once.
 fn read(r: Record) -> Reading
-    ensures { λ x. ⌜ (said x ≡ recordIn r) × (number x ≡ number3 (recordIn r)) ⌝ }
+    ensures { λ x. ⌜ (said x ≡ recordIn r) × (number x ≡ given 3 (eqb (recordIn r .form) 0)) ⌝ }
 {
     if !is_well_formed(r) {
         return Reading::Refused(3);
@@ -135,7 +138,7 @@ fn read(r: Record) -> Reading
 
 // The record at a position of the file; refused past its end.
 pub fn record_at(file: &[u8], p: usize) -> Reading
-    ensures { λ r. ⌜ (said r ≡ recordAt (now (file .entry)) p) × (number r ≡ number3 (recordAt (now (file .entry)) p)) ⌝ }
+    ensures { λ r. ⌜ (said r ≡ recordAt (now (file .entry)) p) × (number r ≡ given 3 (fails3 (recordAt (now (file .entry))) p)) ⌝ }
 {
     if p < file.len() / 24 {
         let a = 24 * p;

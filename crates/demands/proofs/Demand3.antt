@@ -1,5 +1,5 @@
 -- Demand 3 is met: the invariant that rounds and edits keep on the tables (crate quiet), carried to the drawing by what a load leaves
--- (crate loaded) and by the wires being what the drawing leads to (crate leads). Assumes nothing.
+-- (crate loaded) and by the wires being what the drawing leads to (crate flatten). Assumes nothing.
 use mathlib.Core.Path.{_≡_, refl, sym, ap, _∙_, subst, transport}
 use mathlib.Core.Bool.{Bool, true, false, _||_}
 use mathlib.Core.List.{List}
@@ -18,7 +18,7 @@ use Rattle.component.specs.Drawing.{primitivesBefore}
 use Rattle.flatten.specs.declared.Pin.{Pin}
 use Rattle.flatten.specs.Descent.{flat}
 use Rattle.flatten.specs.Leads.{From, starts, through, Into, ends, maps, Leads}
-use Rattle.leads.proofs.Primitives.{primitivesBefore-complete}
+use Rattle.flatten.proofs.Primitives.{primitivesBefore-complete}
 use Rattle.tables.specs.Tables.{Tables, fieldsAt, wiresIn, numbers, firstInput, firstOutput, standingList, named}
 use Rattle.load.specs.Load.{flatPin, loadVerdict, loadTables, standingAtLoad}
 use Rattle.load.proofs.FlatWires.{wire}

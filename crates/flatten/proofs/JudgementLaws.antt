@@ -19,20 +19,14 @@ use Rattle.primitive.proofs.GivenLaws.{done-declined, declined-refusal}
 use Rattle.component.specs.declared.Verdict.{Verdict}
 use Rattle.component.specs.declared.Verdict.the-variants.{Accepted, Refused}
 use Rattle.component.specs.Record.{recordAt}
-use Rattle.flatten.specs.declared.judgement.Found.{Found}
-use Rattle.flatten.specs.declared.judgement.Found.the-variants.{At, Nowhere}
-use Rattle.flatten.specs.Verdict.{Check, checks, refused, orLater, judged, sized, verdict, verdictGives, Judges}
-use Rattle.flatten.specs.Searches.{noCheck, failsBy, asFound}
+use Rattle.component.specs.Checks.{given, failsBy}
+use Rattle.component.proofs.ChecksLaws.{given-number, given-failed, given-passed}
+use Rattle.flatten.specs.Verdict.{Check, check, checks, refused, orLater, judged, sized, verdict, verdictGives, Judges}
+use Rattle.flatten.specs.Searches.{failsAt}
 
--- A search's answer.
-
-found-at : (x : Option ℕ) (g : Found) (p : ℕ) → g ≡ asFound x → g ≡ At p → x ≡ some p
-found-at (some q) g p e h = let z : q ≡ p = cc in ap some z
-found-at none g p e h = let z : _≡_ {A = ℕ} 0 1 = cc in absurd (omega arith)
-
-found-nowhere : (x : Option ℕ) (g : Found) → g ≡ asFound x → g ≡ Nowhere → x ≡ none
-found-nowhere (some q) g e h = let z : _≡_ {A = ℕ} 0 1 = cc in absurd (omega arith)
-found-nowhere none g e h = refl
+-- Past the list of checks.
+abbrev noCheck : Check
+noCheck = check 0 (λ p. false)
 
 -- What is found is one of the positions looked at.
 first-below : (f : ℕ → Bool) (q k p : ℕ) → first f (from q k) ≡ some p → p < q + k
@@ -46,26 +40,24 @@ first-below f q (suc k) p e = by-test (f q) e (first-below f (suc q) k p)
 
 module _ (s : List ℕ) (n k : ℕ) where
   -- the search for the first record that fails check k: its start; this record; the next; none
-  pub search-start : first (failsBy (recordAt s) n k) (from 0 (n - 0)) ≡ first (failsBy (recordAt s) n k) (from 0 n)
-  search-start = ap (λ (m : ℕ). first (failsBy (recordAt s) n k) (from 0 m)) (sub-zero n)
+  pub search-start : first (failsAt (recordAt s) n k) (from 0 (n - 0)) ≡ first (failsAt (recordAt s) n k) (from 0 n)
+  search-start = ap (λ (m : ℕ). first (failsAt (recordAt s) n k) (from 0 m)) (sub-zero n)
 
-  module _ (q : ℕ) (x : Option ℕ) (inv : first (failsBy (recordAt s) n k) (from q (n - q)) ≡ x) where
-    pub search-here : (b : Bool) → q < n → b ≡ failsBy (recordAt s) n k q → b ≡ true → At q ≡ asFound x
-    search-here b l e t = ap asFound (first-here (failsBy (recordAt s) n k) q n x inv l (sym e ∙ t))
+  module _ (q : ℕ) (x : Option ℕ) (inv : first (failsAt (recordAt s) n k) (from q (n - q)) ≡ x) where
+    pub search-here : (r : ℕ) → q < n → r ≡ given k (failsAt (recordAt s) n k q) → (r ≡ 0 → ⊥) → refused r q ≡ orLater k x Accepted
+    search-here r l e h =
+        ap (λ (m : ℕ). refused m q) (given-number k (failsAt (recordAt s) n k q) r e h)
+        ∙ ap (λ (y : Option ℕ). orLater k y Accepted)
+        (first-here (failsAt (recordAt s) n k) q n x inv l (given-failed k (failsAt (recordAt s) n k q) r e h))
 
-    pub search-next : (b : Bool) → q < n → b ≡ failsBy (recordAt s) n k q → b ≡ false
-        → first (failsBy (recordAt s) n k) (from (q + 1) (n - (q + 1))) ≡ x
-    search-next b l e t = first-next (failsBy (recordAt s) n k) q n x inv l (sym e ∙ t)
+    pub search-next : (r : ℕ) → 3 ≤ k → q < n → r ≡ given k (failsAt (recordAt s) n k q) → r ≡ 0
+        → first (failsAt (recordAt s) n k) (from (q + 1) (n - (q + 1))) ≡ x
+    search-next r h l e z = first-next (failsAt (recordAt s) n k) q n x inv l (given-passed k (failsAt (recordAt s) n k q) r e z (omega arith))
 
-    pub search-none : n ≤ q → Nowhere ≡ asFound x
-    search-none l = ap asFound (first-none (failsBy (recordAt s) n k) q n x inv l)
+    pub search-none : n ≤ q → Accepted ≡ orLater k x Accepted
+    search-none l = ap (λ (y : Option ℕ). orLater k y Accepted) (first-none (failsAt (recordAt s) n k) q n x inv l)
 
-  -- what it finds is a position of the file
-  pub found-below : (g : Found) (p : ℕ) → g ≡ asFound (first (failsBy (recordAt s) n k) (from 0 n)) → g ≡ At p → p < n
-  found-below g p e h =
-      omega (arith, first-below (failsBy (recordAt s) n k) 0 n p (found-at (first (failsBy (recordAt s) n k) (from 0 n)) g p e h))
-
--- Checks numbered from m on: the one at place j has number m + j.
+-- Checks numbered from m on: the one at place j has number m + j, and F says what fails it, if F says that of each.
 number-at : (cs : List Check) (m j : ℕ) → map (λ (c : Check). c .number) cs ≡ from m (length cs) → j < length cs
     → getD cs j noCheck .number ≡ m + j
 number-at [] m j e h = absurd (omega arith)
@@ -74,56 +66,59 @@ number-at (c ∷ cs) m (suc j) e h =
     let z : map (λ (x : Check). x .number) cs ≡ from (suc m) (length cs) = cc in
     omega (arith, number-at cs (suc m) j z (omega arith))
 
+fails-at : (F : ℕ → ℕ → Bool) (cs : List Check) (j : ℕ) → map (λ (c : Check). c .fails) cs ≡ map (λ (c : Check). F (c .number)) cs
+    → j < length cs → getD cs j noCheck .fails ≡ F (getD cs j noCheck .number)
+fails-at F [] j e h = absurd (omega arith)
+fails-at F (c ∷ cs) zero e h = cc
+fails-at F (c ∷ cs) (suc j) e h =
+    let z : map (λ (x : Check). x .fails) cs ≡ map (λ (x : Check). F (x .number)) cs = cc in
+    fails-at F cs j z (omega arith)
+
+-- What a check says that finds a record, or none, before the later ones.
+later-refused : (k : ℕ) (x : Option ℕ) (v : Verdict) (r : Refusal) → orLater k x Accepted ≡ Refused r → orLater k x v ≡ Refused r
+later-refused k (some p) v r e = e
+later-refused k none v r e = let z : _≡_ {A = ℕ} 0 1 = cc in absurd (omega arith)
+
+later-accepted : (k : ℕ) (x : Option ℕ) (v : Verdict) → orLater k x Accepted ≡ Accepted → orLater k x v ≡ v
+later-accepted k (some p) v e = let z : _≡_ {A = ℕ} 0 1 = cc in absurd (omega arith)
+later-accepted k none v e = refl
+
 -- The loop over the checks, of which those from place k - 3 on are still to be made.
 module _ (s : List ℕ) (n k : ℕ) where
   judged-step : 3 ≤ k → k < 16
       → judged n (drop (k - 3) (checks (recordAt s) n))
-      ≡ orLater k (first (failsBy (recordAt s) n k) (from 0 n)) (judged n (drop (k + 1 - 3) (checks (recordAt s) n)))
-  unfolding failsBy
+      ≡ orLater k (first (failsAt (recordAt s) n k) (from 0 n)) (judged n (drop (k + 1 - 3) (checks (recordAt s) n)))
+  unfolding failsAt failsBy
   judged-step h l =
-      let j = k - 3 in
       let y : suc (k - 3) ≡ k + 1 - 3 = omega arith in
       let z : getD (checks (recordAt s) n) (k - 3) noCheck .number ≡ k =
       let e = number-at (checks (recordAt s) n) 3 (k - 3) refl (omega arith) in omega arith in
+      let f : getD (checks (recordAt s) n) (k - 3) noCheck .fails ≡ failsAt (recordAt s) n k =
+      fails-at (failsAt (recordAt s) n) (checks (recordAt s) n) (k - 3) refl (omega arith) ∙ ap (failsAt (recordAt s) n) z in
       ap (judged n) (drop-cons (checks (recordAt s) n) (k - 3) noCheck (omega arith))
-      ∙ ap (λ (m : ℕ). orLater m (first (failsBy (recordAt s) n k) (from 0 n)) (judged n (drop (suc (k - 3)) (checks (recordAt s) n)))) z
-      ∙ ap (λ (m : ℕ). orLater k (first (failsBy (recordAt s) n k) (from 0 n)) (judged n (drop m (checks (recordAt s) n)))) y
+      ∙ ap (λ (g : ℕ → Bool). orLater (getD (checks (recordAt s) n) (k - 3) noCheck .number) (first g (from 0 n))
+      (judged n (drop (suc (k - 3)) (checks (recordAt s) n)))) f
+      ∙ ap (λ (m : ℕ). orLater m (first (failsAt (recordAt s) n k) (from 0 n)) (judged n (drop (suc (k - 3)) (checks (recordAt s) n)))) z
+      ∙ ap (λ (m : ℕ). orLater k (first (failsAt (recordAt s) n k) (from 0 n)) (judged n (drop m (checks (recordAt s) n)))) y
 
   -- a record fails check k; none does; all checks are made
-  module _ (g : Found) (v : Verdict) (inv : judged n (drop (k - 3) (checks (recordAt s) n)) ≡ v) where
-    pub judged-here : (p : ℕ) → 3 ≤ k → k < 16 → g ≡ asFound (first (failsBy (recordAt s) n k) (from 0 n)) → g ≡ At p → refused k p ≡ v
-    judged-here p h l e d =
-        ap (λ (x : Option ℕ). orLater k x (judged n (drop (k + 1 - 3) (checks (recordAt s) n))))
-        (sym (found-at (first (failsBy (recordAt s) n k) (from 0 n)) g p e d))
+  module _ (g v : Verdict) (inv : judged n (drop (k - 3) (checks (recordAt s) n)) ≡ v) where
+    pub judged-here : (r : Refusal) → 3 ≤ k → k < 16 → g ≡ orLater k (first (failsAt (recordAt s) n k) (from 0 n)) Accepted
+        → g ≡ Refused r → Refused r ≡ v
+    judged-here r h l e d =
+        sym (later-refused k (first (failsAt (recordAt s) n k) (from 0 n)) (judged n (drop (k + 1 - 3) (checks (recordAt s) n))) r (sym e ∙ d))
         ∙ sym (judged-step h l) ∙ inv
 
-    pub judged-next : 3 ≤ k → k < 16 → g ≡ asFound (first (failsBy (recordAt s) n k) (from 0 n)) → g ≡ Nowhere
-        → judged n (drop (k + 1 - 3) (checks (recordAt s) n)) ≡ v
+    pub judged-next : 3 ≤ k → k < 16 → g ≡ orLater k (first (failsAt (recordAt s) n k) (from 0 n)) Accepted
+        → g ≡ Accepted → judged n (drop (k + 1 - 3) (checks (recordAt s) n)) ≡ v
     judged-next h l e d =
-        ap (λ (x : Option ℕ). orLater k x (judged n (drop (k + 1 - 3) (checks (recordAt s) n))))
-        (sym (found-nowhere (first (failsBy (recordAt s) n k) (from 0 n)) g e d))
+        sym (later-accepted k (first (failsAt (recordAt s) n k) (from 0 n)) (judged n (drop (k + 1 - 3) (checks (recordAt s) n))) (sym e ∙ d))
         ∙ sym (judged-step h l) ∙ inv
 
   pub judged-all : (v : Verdict) → judged n (drop (k - 3) (checks (recordAt s) n)) ≡ v → k ≤ 16 → 16 ≤ k → Accepted ≡ v
   judged-all v inv h l =
       let z : 13 ≡ k - 3 = omega arith in
       ap (λ (m : ℕ). judged n (drop m (checks (recordAt s) n))) z ∙ inv
-
--- A number from 3 to 15 that is none of 3 to 14.
-past : (m k : ℕ) → m ≤ k → (k ≡ m → ⊥) → m + 1 ≤ k
-past m k h e = omega arith
-
-last : (k : ℕ) → 15 ≤ k → k < 16 → k ≡ 15
-last k h l = omega arith
-
-pub number-last : (k : ℕ) → 3 ≤ k → k < 16
-    → (k ≡ 3 → ⊥) → (k ≡ 4 → ⊥) → (k ≡ 5 → ⊥) → (k ≡ 6 → ⊥) → (k ≡ 7 → ⊥) → (k ≡ 8 → ⊥) → (k ≡ 9 → ⊥)
-    → (k ≡ 10 → ⊥) → (k ≡ 11 → ⊥) → (k ≡ 12 → ⊥) → (k ≡ 13 → ⊥) → (k ≡ 14 → ⊥) → k ≡ 15
-number-last k h l e3 e4 e5 e6 e7 e8 e9 e10 e11 e12 e13 e14 =
-    let k6 : 6 ≤ k = past 5 k (past 4 k (past 3 k h e3) e4) e5 in
-    let k9 : 9 ≤ k = past 8 k (past 7 k (past 6 k k6 e6) e7) e8 in
-    let k12 : 12 ≤ k = past 11 k (past 10 k (past 9 k k9 e9) e10) e11 in
-    last k (past 14 k (past 13 k (past 12 k k12 e12) e13) e14) l
 
 -- Check 1.
 module _ (s : List ℕ) (b : Bool) (e : b ≡ sized s) where

@@ -1,2 +1,11 @@
 pub mod DescentLaws
 pub mod JudgementLaws
+pub mod Accepted
+pub mod Components
+pub mod DescentLeads
+pub mod Wires
+pub mod Primitives
+pub mod EnteredOnce
+pub mod Ends
+pub mod Bound
+pub mod WireTheorems

@@ -6,6 +6,7 @@ ghost use Rattle.primitive.specs.Kinds.{inputWidth, outputWidth};
 ghost use Rattle.component.specs.Record.{recordAt, fieldsOf};
 ghost use Rattle.component.specs.Drawing.{child, outMap};
 ghost use Rattle.component.specs.Index.{IsTable, IsRange};
+ghost use Rattle.component.specs.Checks.{given};
 ghost use Rattle.flatten.specs.Descent.{outputBelow, inputsBelow, fails15};
 ghost use Rattle.flatten.specs.Searches.{entered, unlike, IsStretch};
 use crate::Pin;
@@ -15,6 +16,7 @@ use component::Stands;
 use component::child_of;
 use component::component_at;
 use component::deepest;
+use component::given;
 use component::is_primitive_at;
 use component::out_map_of;
 use component::record_at;
@@ -162,14 +164,14 @@ pub(crate) fn check15(
     lo: &[u16],
     hi: &[u16],
     p: usize,
-) -> bool
+) -> u32
     requires { ⌜ IsTable 256 (child (recordAt (now file)) n) (now children) ⌝ }
     requires { ⌜ IsTable 64 (outMap (recordAt (now file)) n) (now outs) ⌝ }
     requires { ⌜ IsRange (now file) n (now lo) (now hi) ⌝ }
-    ensures { λ r. ⌜ r ≡ fails15 (recordAt (now (file .entry))) n p ⌝ }
+    ensures { λ r. ⌜ r ≡ given 15 (fails15 (recordAt (now (file .entry))) n p) ⌝ }
 {
     let Reading::Taken { owner, says } = record_at(file, p) else {
-        return false;
+        return 0;
     };
     let Says::Connection {
         from,
@@ -178,11 +180,14 @@ pub(crate) fn check15(
         input,
     } = says
     else {
-        return false;
+        return 0;
     };
     let start = child_of(file, n, children, owner as usize, from);
     let source = source_of(file, n, children, outs, deepest(), start, output);
     let width = output_width_at(file, source.comp);
     let goal = child_of(file, n, children, owner as usize, to);
-    differs(file, n, children, lo, hi, deepest(), goal, input, width)
+    given(
+        15,
+        differs(file, n, children, lo, hi, deepest(), goal, input, width),
+    )
 }

@@ -1,39 +1,24 @@
 // The judgement of a file's bytes. Rule: docs/SPECIFICATION.md, "Numbers given back". Check 2 is not made: no table is lent.
 ghost use mathlib.Core.Path.{_≡_};
-ghost use Prim.Native.Nat.{_≤_, _<_};
+ghost use Prim.Native.Nat.{_≤_};
 ghost use Rattle.lists.specs.Lists.{from, first};
 ghost use Rattle.component.specs.Record.{recordAt};
 ghost use Rattle.component.specs.Drawing.{child, outMap};
 ghost use Rattle.component.specs.Index.{IsTable, IsRange};
-ghost use Rattle.flatten.specs.Verdict.{checks, judged, sized, Judges};
-ghost use Rattle.flatten.specs.Searches.{failsBy, asFound};
+ghost use Rattle.component.specs.Checks.{given};
+ghost use Rattle.component.specs.declared.Verdict.the-variants.{Accepted};
+ghost use Rattle.flatten.specs.Verdict.{checks, orLater, judged, sized, Judges};
+ghost use Rattle.flatten.specs.Searches.{failsAt};
 use crate::descent::check15;
 use component::Verdict;
-use component::check3;
-use component::check4;
-use component::check5;
-use component::check6;
-use component::check7;
-use component::check8;
-use component::check9;
-use component::check10;
-use component::check11;
-use component::check12;
-use component::check13;
-use component::check14;
+use component::check;
 use component::index_children;
 use component::index_outs;
 use component::index_ranges;
 use primitive::Refusal;
 
-// A search's answer.
-pub enum Found {
-    At(usize),
-    Nowhere,
-}
-
-// Whether the record at p fails check k.
-fn fails(
+// What check k, of 3 to 15, gives of the record at p.
+fn check_record(
     file: &[u8],
     n: usize,
     children: &[u16],
@@ -42,32 +27,20 @@ fn fails(
     hi: &[u16],
     k: u32,
     p: usize,
-) -> bool
+) -> u32
     requires { ⌜ IsTable 256 (child (recordAt (now file)) n) (now children) ⌝ }
     requires { ⌜ IsTable 64 (outMap (recordAt (now file)) n) (now outs) ⌝ }
     requires { ⌜ IsRange (now file) n (now lo) (now hi) ⌝ }
-    requires { ⌜ (3 ≤ k) × (k < 16) × (p < 1024) ⌝ }
-    ensures { λ r. ⌜ r ≡ failsBy (recordAt (now (file .entry))) n k p ⌝ }
+    ensures { λ r. ⌜ r ≡ given k (failsAt (recordAt (now (file .entry))) n k p) ⌝ }
 {
-    match k {
-        3 => check3(file, p) != 0,
-        4 => check4(file, p),
-        5 => check5(file, p),
-        6 => check6(file, p),
-        7 => check7(file, p),
-        8 => check8(file, p),
-        9 => check9(file, p),
-        10 => check10(file, p),
-        11 => check11(file, p),
-        12 => check12(file, n, children, p),
-        13 => check13(file, p),
-        14 => check14(file, n, p),
-        _ => check15(file, n, children, outs, lo, hi, p),
+    if k == 15 {
+        return check15(file, n, children, outs, lo, hi, p);
     }
+    check(file, n, children, k, p)
 }
 
-// The first record, in file order, that fails check k.
-fn first_fail(
+// Check k over all records: refused at the first, in file order, that fails it.
+fn check_records(
     file: &[u8],
     n: usize,
     children: &[u16],
@@ -75,21 +48,25 @@ fn first_fail(
     lo: &[u16],
     hi: &[u16],
     k: u32,
-) -> Found
+) -> Verdict
     requires { ⌜ IsTable 256 (child (recordAt (now file)) n) (now children) ⌝ }
     requires { ⌜ IsTable 64 (outMap (recordAt (now file)) n) (now outs) ⌝ }
     requires { ⌜ IsRange (now file) n (now lo) (now hi) ⌝ }
-    requires { ⌜ (3 ≤ k) × (k < 16) × (n ≤ 1024) ⌝ }
-    ensures { λ r. ⌜ r ≡ asFound (first (failsBy (recordAt (now (file .entry))) n k) (from 0 n)) ⌝ }
+    requires { ⌜ (3 ≤ k) × (n ≤ 1024) ⌝ }
+    ensures { λ r. ⌜ r ≡ orLater k (first (failsAt (recordAt (now (file .entry))) n k) (from 0 n)) Accepted ⌝ }
 {
-    let mut q: usize = 0;
-    while q < n {
-        if fails(file, n, children, outs, lo, hi, k, q) {
-            return Found::At(q);
+    let mut p: usize = 0;
+    while p < n {
+        let number = check_record(file, n, children, outs, lo, hi, k, p);
+        if number != 0 {
+            return Verdict::Refused(Refusal {
+                number,
+                position: p as u32,
+            });
         }
-        q += 1;
+        p += 1;
     }
-    Found::Nowhere
+    Verdict::Accepted
 }
 
 // The checks 3 to 15 in number order, each over all records before the next begins.
@@ -109,11 +86,8 @@ fn judge_records(
 {
     let mut k: u32 = 3;
     while k < 16 {
-        if let Found::At(p) = first_fail(file, n, children, outs, lo, hi, k) {
-            return Verdict::Refused(Refusal {
-                number: k,
-                position: p as u32,
-            });
+        if let Verdict::Refused(refusal) = check_records(file, n, children, outs, lo, hi, k) {
+            return Verdict::Refused(refusal);
         }
         k += 1;
     }

@@ -18,11 +18,11 @@ use Rattle.flatten.specs.Leads.{Leads}
 use Rattle.tables.specs.declared.End.{End}
 use Rattle.tables.specs.declared.Wire.{Wire}
 use Rattle.load.specs.Load.{flatPin, flatWires}
-use Rattle.leads.proofs.Accepted.{Passed}
-use Rattle.leads.proofs.Wires.{lead, wires-lead, leads-wires}
-use Rattle.leads.proofs.Ends.{wires-leave, wires-enter}
-use Rattle.leads.proofs.Primitives.{flat-inj}
-use Rattle.leads.proofs.Bound.{entered, wires-distinct, wires-bound}
+use Rattle.flatten.proofs.Accepted.{Passed}
+use Rattle.flatten.proofs.Wires.{lead, wires-lead, leads-wires}
+use Rattle.flatten.proofs.Ends.{wires-leave, wires-enter}
+use Rattle.flatten.proofs.Primitives.{flat-inj}
+use Rattle.flatten.proofs.Bound.{entered, wires-distinct, wires-bound}
 
 -- A wire of the net from one end to the other.
 abbrev pub wire : End → End → Wire

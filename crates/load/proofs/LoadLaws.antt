@@ -15,8 +15,8 @@ use Rattle.component.specs.declared.Verdict.{Verdict}
 use Rattle.component.specs.declared.Verdict.the-variants.{Accepted, Refused}
 use Rattle.component.specs.Record.{recordAt, recordCount}
 use Rattle.flatten.specs.Verdict.{sized, refused, verdict}
-use Rattle.leads.proofs.Accepted.{refused-not, accepted-passed}
-use Rattle.leads.proofs.WireTheorems.{accepted-primitives-bound, accepted-inputs-bound}
+use Rattle.flatten.proofs.Accepted.{refused-not, accepted-passed}
+use Rattle.flatten.proofs.WireTheorems.{accepted-primitives-bound, accepted-inputs-bound}
 use Rattle.tables.specs.declared.Answer.the-variants.{Done, Refused as Declined}
 use Rattle.tables.specs.declared.Counts.{Counts}
 use Rattle.tables.specs.Tables.{Tables, tablesOf, fullSize}

@@ -26,10 +26,10 @@ use Rattle.component.specs.Record.{recordAt, recordCount, inputsOf, outputsOf, 
 use Rattle.component.specs.Drawing.{primitivesBefore}
 use Rattle.component.proofs.RecordLaws.{unseen-primitive, seen-is}
 use Rattle.flatten.specs.Verdict.{verdict}
-use Rattle.leads.proofs.Components.{primitive-component}
-use Rattle.leads.proofs.Primitives.{primitivesBefore-append, primitivesBefore-step, primitivesBefore-skip}
-use Rattle.leads.proofs.Primitives.{portsBefore-step}
-use Rattle.leads.proofs.WireTheorems.{accepted-primitives-bound, accepted-inputs-bound, accepted-outputs-bound}
+use Rattle.flatten.proofs.Components.{primitive-component}
+use Rattle.flatten.proofs.Primitives.{primitivesBefore-append, primitivesBefore-step, primitivesBefore-skip}
+use Rattle.flatten.proofs.Primitives.{portsBefore-step}
+use Rattle.flatten.proofs.WireTheorems.{accepted-primitives-bound, accepted-inputs-bound, accepted-outputs-bound}
 use Rattle.load.specs.declared.rows.Drawn.{Drawn}
 use Rattle.load.specs.declared.rows.Drawn.the-variants.{Primitive, Other}
 use Rattle.load.specs.declared.rows.Before.{Before}

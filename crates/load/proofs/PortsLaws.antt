@@ -22,9 +22,9 @@ use Rattle.component.specs.declared.Verdict.the-variants.{Accepted}
 use Rattle.component.specs.Record.{recordAt, recordCount, fieldsOf, outputsOf, isPrimitive}
 use Rattle.component.specs.Drawing.{primitivesBefore, outputsBefore}
 use Rattle.flatten.specs.Verdict.{verdict}
-use Rattle.leads.proofs.Accepted.{Passed, accepted-passed}
-use Rattle.leads.proofs.Primitives.{primitivesBefore-sound, primitive-obeyed}
-use Rattle.leads.proofs.WireTheorems.{accepted-outputs-bound}
+use Rattle.flatten.proofs.Accepted.{Passed, accepted-passed}
+use Rattle.flatten.proofs.Primitives.{primitivesBefore-sound, primitive-obeyed}
+use Rattle.flatten.proofs.WireTheorems.{accepted-outputs-bound}
 use Rattle.load.specs.declared.rows.Drawn.{Drawn}
 use Rattle.load.specs.declared.rows.Drawn.the-variants.{Primitive, Other}
 use Rattle.load.specs.Load.{primitives}

@@ -22,9 +22,9 @@ use Rattle.component.specs.Record.{recordAt, recordCount, fieldsOf, isPrimitive
 use Rattle.component.specs.Drawing.{primitivesBefore}
 use Rattle.flatten.specs.Descent.{flat}
 use Rattle.flatten.specs.Verdict.{verdict}
-use Rattle.leads.proofs.Accepted.{Passed, accepted-passed}
-use Rattle.leads.proofs.Primitives.{primitivesBefore-step, primitivesBefore-skip, primitives-bound}
-use Rattle.leads.proofs.WireTheorems.{accepted-primitives-bound}
+use Rattle.flatten.proofs.Accepted.{Passed, accepted-passed}
+use Rattle.flatten.proofs.Primitives.{primitivesBefore-step, primitivesBefore-skip, primitives-bound}
+use Rattle.flatten.proofs.WireTheorems.{accepted-primitives-bound}
 use Rattle.load.specs.declared.names.Stood.{Stood}
 use Rattle.load.specs.declared.rows.Drawn.{Drawn}
 use Rattle.load.specs.declared.rows.Drawn.the-variants.{Primitive, Other}

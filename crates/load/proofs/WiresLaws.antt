@@ -41,11 +41,11 @@ use Rattle.flatten.specs.Searches.{entered, IsStretch}
 use Rattle.flatten.specs.Verdict.{verdict}
 use Rattle.flatten.proofs.DescentLaws.{given, targets-bottom, targets-ends, targets-stretch, given-to, given-nothing}
 use Rattle.flatten.proofs.DescentLaws.{joined-end, source-is, targets-are, form-is}
-use Rattle.leads.proofs.Accepted.{Passed, accepted-sized, accepted-passed}
-use Rattle.leads.proofs.Components.{primitive-component, component-number}
-use Rattle.leads.proofs.DescentLeads.{source-sound}
-use Rattle.leads.proofs.Wires.{connection-ends}
-use Rattle.leads.proofs.Ends.{from-there}
+use Rattle.flatten.proofs.Accepted.{Passed, accepted-sized, accepted-passed}
+use Rattle.flatten.proofs.Components.{primitive-component, component-number}
+use Rattle.flatten.proofs.DescentLeads.{source-sound}
+use Rattle.flatten.proofs.Wires.{connection-ends}
+use Rattle.flatten.proofs.Ends.{from-there}
 use Rattle.tables.specs.declared.End.{End}
 use Rattle.load.specs.Load.{wireWords, flatPin, flatWires}
 use Rattle.load.specs.Laying.{Written, Ready, leadWords, wiresGiven}

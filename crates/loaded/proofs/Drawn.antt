@@ -20,10 +20,10 @@ use Rattle.component.specs.Drawing.{primitivesBefore, inputsBefore, outputsBefo
 use Rattle.flatten.specs.declared.Pin.{Pin}
 use Rattle.flatten.specs.Descent.{pin, flat}
 use Rattle.flatten.specs.Leads.{Leads}
-use Rattle.leads.proofs.Accepted.{Passed}
-use Rattle.leads.proofs.Wires.{wires-lead}
-use Rattle.leads.proofs.Ends.{IsOutput, IsInput}
-use Rattle.leads.proofs.Primitives.{flat-below, flat-inj, flat-onto, portsBefore-within}
+use Rattle.flatten.proofs.Accepted.{Passed}
+use Rattle.flatten.proofs.Wires.{wires-lead}
+use Rattle.flatten.proofs.Ends.{IsOutput, IsInput}
+use Rattle.flatten.proofs.Primitives.{flat-below, flat-inj, flat-onto, portsBefore-within}
 use Rattle.tables.specs.declared.Wire.{Wire}
 use Rattle.tables.specs.Tables.{Tables, fieldsAt, idAt, firstInput, firstOutput, inputPlace}
 use Rattle.tables.specs.Tables.{indexes, wiresIn}

@@ -21,10 +21,10 @@ use Rattle.component.specs.Reading.{idOf}
 use Rattle.component.specs.Drawing.{primitivesBefore, inputsBefore, outputsBefore}
 use Rattle.flatten.specs.declared.Pin.{Pin}
 use Rattle.flatten.specs.Descent.{flat}
-use Rattle.leads.proofs.Accepted.{Passed}
-use Rattle.leads.proofs.Components.{primitive-component}
-use Rattle.leads.proofs.Ends.{IsInput, wires-leave, wires-enter, wires-width}
-use Rattle.leads.proofs.Primitives.{primitive-obeyed, flat-onto, id-inj}
+use Rattle.flatten.proofs.Accepted.{Passed}
+use Rattle.flatten.proofs.Components.{primitive-component}
+use Rattle.flatten.proofs.Ends.{IsInput, wires-leave, wires-enter, wires-width}
+use Rattle.flatten.proofs.Primitives.{primitive-obeyed, flat-onto, id-inj}
 use Rattle.tables.specs.declared.End.{End}
 use Rattle.tables.specs.declared.Wire.{Wire}
 use Rattle.tables.specs.Tables.{Tables, fieldsAt, idAt, firstInput, firstOutput, inputPlace, indexes}

@@ -13,8 +13,8 @@ use Rattle.component.specs.Record.{fieldsOf, isPrimitive}
 use Rattle.component.specs.Reading.{idOf}
 use Rattle.component.specs.Drawing.{inputsBefore, outputsBefore}
 use Rattle.flatten.specs.Descent.{flat}
-use Rattle.leads.proofs.Accepted.{Passed}
-use Rattle.leads.proofs.Primitives.{primitive-below, flat-below, flat-place}
+use Rattle.flatten.proofs.Accepted.{Passed}
+use Rattle.flatten.proofs.Primitives.{primitive-below, flat-below, flat-place}
 use Rattle.tables.specs.declared.Wire.{Wire}
 use Rattle.tables.specs.Tables.{Tables, wordIn, endAt, fieldsAt, idAt, firstInput, firstOutput, wireAt, wiresIn}
 use Rattle.load.specs.Load.{wireWords, primitives, componentWords, flatWires, drawingTables}

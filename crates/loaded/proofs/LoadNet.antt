@@ -9,7 +9,7 @@ use Rattle.component.specs.declared.Record.{Record}
 use Rattle.component.specs.declared.Verdict.the-variants.{Accepted}
 use Rattle.component.specs.Record.{IsBytes, recordAt, recordCount, isPrimitive}
 use Rattle.component.specs.Reading.{idOf}
-use Rattle.leads.proofs.Accepted.{Passed, accepted-passed}
+use Rattle.flatten.proofs.Accepted.{Passed, accepted-passed}
 use Rattle.tables.specs.Tables.{Tables, fullSize}
 use Rattle.load.specs.Load.{drawingTables, loadVerdict, loadTables}
 use Rattle.load.proofs.LoadLaws.{load-passed}

@@ -17,7 +17,7 @@ use Rattle.component.specs.Record.{IsBytes, recordAt, recordCount, fieldsOf, is
 use Rattle.flatten.specs.declared.Pin.{Pin}
 use Rattle.flatten.specs.Descent.{flat}
 use Rattle.flatten.specs.Leads.{Leads}
-use Rattle.leads.proofs.Accepted.{Passed}
+use Rattle.flatten.proofs.Accepted.{Passed}
 use Rattle.tables.specs.declared.Wire.{Wire}
 use Rattle.tables.specs.Tables.{Tables, fullSize, outputsAt, wiresIn, currentList, followingList, standingList}
 use Rattle.load.specs.Load.{flatPin, standingAtLoad, drawingTables, loadVerdict, loadTables}

@@ -20,9 +20,9 @@ use Rattle.primitive.proofs.FitLaws.{allBelow}
 use Rattle.component.specs.declared.Record.{Record}
 use Rattle.component.specs.Record.{fieldsOf, inputsOf, isPrimitive}
 use Rattle.flatten.specs.Descent.{flat}
-use Rattle.leads.proofs.Accepted.{Passed}
-use Rattle.leads.proofs.Primitives.{primitive-obeyed, flat-below, flat-inj, primitivesBefore-sound}
-use Rattle.leads.proofs.Primitives.{primitivesBefore-distinct, primitives-bound, inputs-bound, outputs-bound}
+use Rattle.flatten.proofs.Accepted.{Passed}
+use Rattle.flatten.proofs.Primitives.{primitive-obeyed, flat-below, flat-inj, primitivesBefore-sound}
+use Rattle.flatten.proofs.Primitives.{primitivesBefore-distinct, primitives-bound, inputs-bound, outputs-bound}
 use Rattle.tables.specs.Tables.{Tables, fieldsAt, firstOutput, inputsAt, outputsAt, currentList, followingList}
 use Rattle.tables.specs.Tables.{standingList}
 use Rattle.load.specs.Load.{primitives, standingAtLoad, drawingTables}

@@ -14,8 +14,8 @@ use Rattle.component.specs.declared.Record.{Record}
 use Rattle.component.specs.Record.{fieldsOf, inputsOf, isPrimitive}
 use Rattle.component.specs.Drawing.{primitivesBefore, inputsBefore}
 use Rattle.flatten.specs.Descent.{flat}
-use Rattle.leads.proofs.Accepted.{Passed}
-use Rattle.leads.proofs.Primitives.{primitive-below, primitive-obeyed, primitivesBefore-split, portsBefore-within}
+use Rattle.flatten.proofs.Accepted.{Passed}
+use Rattle.flatten.proofs.Primitives.{primitive-below, primitive-obeyed, primitivesBefore-split, portsBefore-within}
 use Rattle.tables.specs.Tables.{Tables, numbers, inputsAt, outputsAt}
 use Rattle.load.specs.Load.{primitives, drawingTables}
 use Rattle.load.specs.Laying.{startingOf}

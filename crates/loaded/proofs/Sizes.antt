@@ -11,8 +11,8 @@ use Rattle.lists.proofs.MembersLaws.{from-length}
 use Rattle.lists.proofs.OverlayLaws.{overlay-length, overlay-front, joined-width}
 use Rattle.component.specs.declared.Record.{Record}
 use Rattle.component.specs.Drawing.{inputsBefore}
-use Rattle.leads.proofs.Accepted.{Passed}
-use Rattle.leads.proofs.Primitives.{primitives-bound, inputs-bound, outputs-bound}
+use Rattle.flatten.proofs.Accepted.{Passed}
+use Rattle.flatten.proofs.Primitives.{primitives-bound, inputs-bound, outputs-bound}
 use Rattle.tables.proofs.SizesLaws.{fullSize-sound}
 use Rattle.tables.proofs.SameLaws.{SameLengths}
 use Rattle.tables.specs.Tables.{Tables, fullSize, currentList, followingList, standingList}

@@ -1,6 +1,9 @@
 -- `check11`: a record is tested only where it is a component.
 -- Assumes nothing.
-use Rattle.component.proofs.ChecksLaws.{fails11-other, fails11-component}
+use Rattle.component.proofs.ChecksLaws.{component-within, given-by, given-passes, fails11-other, fails11-component}
+use Prim.Native.Nat.{_<_, _/_}
+use native.Mathlib.Omega.{arith}
+use lib.ListN.{length}
 use borrow.Author.Needs.{needs}
 use Rattle.component.proofs.checks.check11.Statement.{statement}
 use Rattle.component.proofs.checks.check11.Tie as tie
@@ -15,16 +18,22 @@ enum-told-2 : tie.Need-enum-told-2
 enum-told-2 c = search needs
 
 returns : tie.Need-returns
-returns c = search (fails11-other)
+returns c = search (given-passes, fails11-other)
 
-add-ports-before : tie.Need-add-ports-before
-add-ports-before c = search needs
+add-is-overfull : tie.Need-add-is-overfull
+add-is-overfull c =
+    let a = c .before .before .before .before .args in
+    let l : a .p < length (a .file .now) / 24 = search (component-within) in
+    omega arith
 
-ports-before-requires : tie.Need-ports-before-requires
-ports-before-requires c κs = search needs
+is-overfull-requires : tie.Need-is-overfull-requires
+is-overfull-requires c κs = search needs
+
+given-requires : tie.Need-given-requires
+given-requires c κs = search needs
 
 returns-2 : tie.Need-returns-2
-returns-2 c = search (fails11-component)
+returns-2 c = search (given-by, fails11-component)
 
 pub check11-spec : {M : Type 1} → statement M
 check11-spec =
@@ -34,6 +43,7 @@ check11-spec =
     enum-told
     enum-told-2
     returns
-    add-ports-before
-    ports-before-requires
+    add-is-overfull
+    is-overfull-requires
+    given-requires
     returns-2)

@@ -5,7 +5,7 @@ use Prim.Native.Nat.{_-_}
 use Rattle.lists.specs.Lists.{from, any}
 use Rattle.component.specs.Record.{recordAt, enters}
 use Rattle.component.specs.Drawing.{fails13}
-use Rattle.component.proofs.ChecksLaws.{fails13-other, fails13-start}
+use Rattle.component.proofs.ChecksLaws.{given-fails, given-passes, fails13-other, fails13-start}
 use Rattle.component.proofs.ScanLaws.{tested, scan-any-here, scan-any-next, scan-any-none}
 use borrow.Author.Needs.{needs}
 use Rattle.component.proofs.checks.check13.Statement.{statement}
@@ -28,7 +28,7 @@ enum-told : tie.Need-enum-told Inv-loop μ-loop
 enum-told c = search needs
 
 returns : tie.Need-returns Inv-loop μ-loop
-returns c = search (fails13-other)
+returns c = search (given-passes, fails13-other)
 
 loop-holds : tie.Need-loop-holds Inv-loop μ-loop
 loop-holds c = search (fails13-start)
@@ -40,7 +40,7 @@ returns-2 : tie.Need-returns-2 Inv-loop μ-loop
 returns-2 c =
     let b = c .before .before .before .before .before in
     let k = b .owner .given .0 in
-    search (scan-any-here (b .before .before .before .before .args .file .now) (enters (k .0) (k .1 .0 .0) (k .1 .1 .0)))
+    search (given-fails, scan-any-here (b .before .before .before .before .args .file .now) (enters (k .0) (k .1 .0 .0) (k .1 .1 .0)))
 
 add-q : tie.Need-add-q Inv-loop μ-loop
 add-q c = search needs
@@ -58,7 +58,7 @@ returns-3 : tie.Need-returns-3 Inv-loop μ-loop
 returns-3 c =
     let b = c .before .before .before in
     let k = b .owner .given .0 in
-    search (scan-any-none (b .before .before .before .before .args .file .now) (enters (k .0) (k .1 .0 .0) (k .1 .1 .0)))
+    search (given-passes, scan-any-none (b .before .before .before .before .args .file .now) (enters (k .0) (k .1 .0 .0) (k .1 .1 .0)))
 
 pub check13-spec : {M : Type 1} → statement M
 check13-spec =

@@ -1,6 +1,6 @@
 -- `check14`: a record is tested only where it is a composite.
 -- Assumes nothing.
-use Rattle.component.proofs.ChecksLaws.{fails14-other, fails14-primitive, fails14-composite}
+use Rattle.component.proofs.ChecksLaws.{given-by, given-passes, fails14-other, fails14-primitive, fails14-composite}
 use borrow.Author.Needs.{needs}
 use Rattle.component.proofs.checks.check14.Statement.{statement}
 use Rattle.component.proofs.checks.check14.Tie as tie
@@ -15,19 +15,22 @@ enum-told : tie.Need-enum-told
 enum-told c = search needs
 
 returns : tie.Need-returns
-returns c = search (fails14-other)
+returns c = search (given-passes, fails14-other)
 
 returns-2 : tie.Need-returns-2
-returns-2 c = search (fails14-primitive)
+returns-2 c = search (given-passes, fails14-primitive)
 
-cast-result : tie.Need-cast-result
-cast-result c = search needs
+cast-given : tie.Need-cast-given
+cast-given c = search needs
 
 out-map-count-requires : tie.Need-out-map-count-requires
 out-map-count-requires c κs = search needs
 
+given-requires : tie.Need-given-requires
+given-requires c κs = search needs
+
 returns-3 : tie.Need-returns-3
-returns-3 c = search (fails14-composite)
+returns-3 c = search (given-by, fails14-composite)
 
 pub check14-spec : {M : Type 1} → statement M
 check14-spec =
@@ -38,6 +41,7 @@ check14-spec =
     enum-told
     returns
     returns-2
-    cast-result
+    cast-given
     out-map-count-requires
+    given-requires
     returns-3)

@@ -1,6 +1,6 @@
 -- `check4`: the tests are those of the definition, at the record and the one before it.
 -- Assumes nothing.
-use Rattle.component.proofs.ChecksLaws.{fails4-first-none, fails4-first, fails4-refused, fails4-after, fails4-later}
+use Rattle.component.proofs.ChecksLaws.{given-by, given-fails, given-passes, fails4-first-none, fails4-first, fails4-refused, fails4-after, fails4-later}
 use borrow.Author.Needs.{needs}
 use Rattle.component.proofs.checks.check4.Statement.{statement}
 use Rattle.component.proofs.checks.check4.Tie as tie
@@ -15,10 +15,10 @@ enum-told-2 : tie.Need-enum-told-2
 enum-told-2 c = search needs
 
 returns : tie.Need-returns
-returns c = search (fails4-first-none)
+returns c = search (given-fails, fails4-first-none)
 
 returns-2 : tie.Need-returns-2
-returns-2 c = search (fails4-first)
+returns-2 c = search (given-passes, fails4-first)
 
 record-at-requires : tie.Need-record-at-requires
 record-at-requires c κs = search needs
@@ -30,7 +30,7 @@ enum-told-3 : tie.Need-enum-told-3
 enum-told-3 c = search needs
 
 returns-3 : tie.Need-returns-3
-returns-3 c = search (fails4-refused)
+returns-3 c = search (given-passes, fails4-refused)
 
 sub-record-at : tie.Need-sub-record-at
 sub-record-at c = search needs
@@ -45,13 +45,16 @@ enum-told-4 : tie.Need-enum-told-4
 enum-told-4 c = search needs
 
 returns-4 : tie.Need-returns-4
-returns-4 c = search (fails4-after)
+returns-4 c = search (given-passes, fails4-after)
 
 falls-requires : tie.Need-falls-requires
 falls-requires c κs = search needs
 
+given-requires : tie.Need-given-requires
+given-requires c κs = search needs
+
 returns-5 : tie.Need-returns-5
-returns-5 c = search (fails4-later)
+returns-5 c = search (given-by, fails4-later)
 
 pub check4-spec : {M : Type 1} → statement M
 check4-spec =
@@ -72,4 +75,5 @@ check4-spec =
     enum-told-4
     returns-4
     falls-requires
+    given-requires
     returns-5)

@@ -1,6 +1,6 @@
 -- `check5`: the tests stand in the order of the definition, and each decides it at its way out.
 -- Assumes nothing.
-use Rattle.component.proofs.ChecksLaws.{fails5-refused, fails5-root, fails5-owner, fails5-line, fails5-before, fails5-held}
+use Rattle.component.proofs.ChecksLaws.{given-by, given-fails, given-passes, fails5-refused, fails5-root, fails5-owner, fails5-line, fails5-before, fails5-held}
 use borrow.Author.Needs.{needs}
 use Rattle.component.proofs.checks.check5.Statement.{statement}
 use Rattle.component.proofs.checks.check5.Tie as tie
@@ -15,31 +15,34 @@ enum-told : tie.Need-enum-told
 enum-told c = search needs
 
 returns : tie.Need-returns
-returns c = search (fails5-refused)
+returns c = search (given-passes, fails5-refused)
 
 cast-o : tie.Need-cast-o
 cast-o c = search needs
 
+given-requires : tie.Need-given-requires
+given-requires c κs = search needs
+
 returns-2 : tie.Need-returns-2
-returns-2 c = search (fails5-root)
+returns-2 c = search (given-by, fails5-root)
 
 is-composite-at-requires : tie.Need-is-composite-at-requires
 is-composite-at-requires c κs = search needs
 
 returns-3 : tie.Need-returns-3
-returns-3 c = search (fails5-owner)
+returns-3 c = search (given-fails, fails5-owner)
 
 enum-told-2 : tie.Need-enum-told-2
 enum-told-2 c = search needs
 
 returns-4 : tie.Need-returns-4
-returns-4 c = search (fails5-line)
+returns-4 c = search (given-passes, fails5-line)
 
 sub-if3 : tie.Need-sub-if3
 sub-if3 c = search needs
 
 returns-5 : tie.Need-returns-5
-returns-5 c = search (fails5-before)
+returns-5 c = search (given-passes, fails5-before)
 
 sub-holds : tie.Need-sub-holds
 sub-holds c = search needs
@@ -50,8 +53,11 @@ sub-holds-2 c = search needs
 holds-requires : tie.Need-holds-requires
 holds-requires c κs = search needs
 
+given-requires-2 : tie.Need-given-requires-2
+given-requires-2 c κs = search needs
+
 returns-6 : tie.Need-returns-6
-returns-6 c = search (fails5-held)
+returns-6 c = search (given-by, fails5-held)
 
 pub check5-spec : {M : Type 1} → statement M
 check5-spec =
@@ -62,6 +68,7 @@ check5-spec =
     enum-told
     returns
     cast-o
+    given-requires
     returns-2
     is-composite-at-requires
     returns-3
@@ -72,4 +79,5 @@ check5-spec =
     sub-holds
     sub-holds-2
     holds-requires
+    given-requires-2
     returns-6)

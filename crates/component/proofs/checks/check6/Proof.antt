@@ -1,6 +1,6 @@
 -- `check6`: the tests stand in the order of the definition, and each decides it at its way out.
 -- Assumes nothing.
-use Rattle.component.proofs.ChecksLaws.{fails6-other, fails6-number, fails6-depth}
+use Rattle.component.proofs.ChecksLaws.{given-by, given-fails, given-passes, fails6-other, fails6-number, fails6-depth}
 use borrow.Author.Needs.{needs}
 use Rattle.component.proofs.checks.check6.Statement.{statement}
 use Rattle.component.proofs.checks.check6.Tie as tie
@@ -15,10 +15,10 @@ enum-told-2 : tie.Need-enum-told-2
 enum-told-2 c = search needs
 
 returns : tie.Need-returns
-returns c = search (fails6-other)
+returns c = search (given-passes, fails6-other)
 
 returns-2 : tie.Need-returns-2
-returns-2 c = search (fails6-number)
+returns-2 c = search (given-fails, fails6-number)
 
 deepest-requires : tie.Need-deepest-requires
 deepest-requires c κs = search needs
@@ -26,8 +26,11 @@ deepest-requires c κs = search needs
 deeper-requires : tie.Need-deeper-requires
 deeper-requires c κs = search needs
 
+given-requires : tie.Need-given-requires
+given-requires c κs = search needs
+
 returns-3 : tie.Need-returns-3
-returns-3 c = search (fails6-depth)
+returns-3 c = search (given-by, fails6-depth)
 
 pub check6-spec : {M : Type 1} → statement M
 check6-spec =
@@ -40,4 +43,5 @@ check6-spec =
     returns-2
     deepest-requires
     deeper-requires
+    given-requires
     returns-3)

@@ -1,6 +1,6 @@
 -- `check7`: a record is tested only where it is a component.
 -- Assumes nothing.
-use Rattle.component.proofs.ChecksLaws.{fails7-other, fails7-component}
+use Rattle.component.proofs.ChecksLaws.{given-by, given-passes, fails7-other, fails7-component}
 use borrow.Author.Needs.{needs}
 use Rattle.component.proofs.checks.check7.Statement.{statement}
 use Rattle.component.proofs.checks.check7.Tie as tie
@@ -15,11 +15,15 @@ enum-told : tie.Need-enum-told
 enum-told c = search needs
 
 returns : tie.Need-returns
-returns c = search (fails7-other)
+returns c = search (given-passes, fails7-other)
+
+given-requires : tie.Need-given-requires
+given-requires c κs = search needs
 
 returns-2 : tie.Need-returns-2
-returns-2 c = search (fails7-component)
+returns-2 c = search (given-by, fails7-component)
 
 pub check7-spec : {M : Type 1} → statement M
 check7-spec =
-    tie.close (tie.spec component-at-requires enum-known-fields enum-told returns returns-2)
+    tie.close
+    (tie.spec component-at-requires enum-known-fields enum-told returns given-requires returns-2)

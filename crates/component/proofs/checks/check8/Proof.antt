@@ -1,6 +1,6 @@
 -- `check8`: a record is tested only where it is a component.
 -- Assumes nothing.
-use Rattle.component.proofs.ChecksLaws.{fails8-other, fails8-component}
+use Rattle.component.proofs.ChecksLaws.{given-by, given-passes, fails8-other, fails8-component}
 use borrow.Author.Needs.{needs}
 use Rattle.component.proofs.checks.check8.Statement.{statement}
 use Rattle.component.proofs.checks.check8.Tie as tie
@@ -15,11 +15,15 @@ enum-told : tie.Need-enum-told
 enum-told c = search needs
 
 returns : tie.Need-returns
-returns c = search (fails8-other)
+returns c = search (given-passes, fails8-other)
+
+given-requires : tie.Need-given-requires
+given-requires c κs = search needs
 
 returns-2 : tie.Need-returns-2
-returns-2 c = search (fails8-component)
+returns-2 c = search (given-by, fails8-component)
 
 pub check8-spec : {M : Type 1} → statement M
 check8-spec =
-    tie.close (tie.spec component-at-requires enum-known-fields enum-told returns returns-2)
+    tie.close
+    (tie.spec component-at-requires enum-known-fields enum-told returns given-requires returns-2)

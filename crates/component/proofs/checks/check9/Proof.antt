@@ -1,6 +1,6 @@
 -- `check9`: a record is tested only where it is a component.
 -- Assumes nothing.
-use Rattle.component.proofs.ChecksLaws.{fails9-other, fails9-component}
+use Rattle.component.proofs.ChecksLaws.{given-by, given-passes, fails9-other, fails9-component}
 use borrow.Author.Needs.{needs}
 use Rattle.component.proofs.checks.check9.Statement.{statement}
 use Rattle.component.proofs.checks.check9.Tie as tie
@@ -15,15 +15,25 @@ enum-told : tie.Need-enum-told
 enum-told c = search needs
 
 returns : tie.Need-returns
-returns c = search (fails9-other)
+returns c = search (given-passes, fails9-other)
 
 obeys-requires : tie.Need-obeys-requires
 obeys-requires c κs = search needs
 
+given-requires : tie.Need-given-requires
+given-requires c κs = search needs
+
 returns-2 : tie.Need-returns-2
-returns-2 c = search (fails9-component)
+returns-2 c = search (given-by, fails9-component)
 
 pub check9-spec : {M : Type 1} → statement M
 check9-spec =
     tie.close
-    (tie.spec component-at-requires enum-known-fields enum-told returns obeys-requires returns-2)
+    (tie.spec
+    component-at-requires
+    enum-known-fields
+    enum-told
+    returns
+    obeys-requires
+    given-requires
+    returns-2)

@@ -1,5 +1,6 @@
 -- `check15`: a connection's source has the width that no target may differ from.
 -- Assumes nothing.
+use Rattle.component.proofs.ChecksLaws.{given-passes, given-by}
 use Rattle.flatten.proofs.DescentLaws.{fails15-refused, fails15-other, fails15-connection}
 use borrow.Author.Needs.{needs}
 use Rattle.flatten.proofs.descent.check15.Statement.{statement}
@@ -16,14 +17,14 @@ enum-told c = search needs
 
 -- refused
 returns : tie.Need-returns
-returns c = search (fails15-refused)
+returns c = search (given-passes, fails15-refused)
 
 enum-known-says : tie.Need-enum-known-says
 enum-known-says c = search needs
 
 -- no connection
 returns-2 : tie.Need-returns-2
-returns-2 c = search (fails15-other)
+returns-2 c = search (given-passes, fails15-other)
 
 cast-child-of : tie.Need-cast-child-of
 cast-child-of c = search needs
@@ -54,14 +55,17 @@ differs-requires c κs =
     let s = c .before .before .before .before .before .before .before .before .before .before .before .before .before .before .before .before .before .before in
     (s .pre .0, s .pre .1 .1)
 
+given-requires : tie.Need-given-requires
+given-requires c κs = search needs
+
 -- a connection
 returns-3 : tie.Need-returns-3
 returns-3 c =
-    let b = c .before .before .before .before .before .before .before .before .before .before .before .before .before in
+    let b = c .before .before .before .before .before .before .before .before .before .before .before .before .before .before in
     let a = b .before .before .before .before .before .before .args in
-    let d = c .before .before .before .before .before .before .before .before .before .before .before .owner .given .1 in
-    let e = c .before .before .before .before .before .before .before .before .says .given .1 in
-    search (fails15-connection (a .file .now) (a .n) (a .p) (b .record-at .result) (b .record-at .ensures .0) _ _ _ _ _ _ d e)
+    let d = c .before .before .before .before .before .before .before .before .before .before .before .before .owner .given .1 in
+    let e = c .before .before .before .before .before .before .before .before .before .says .given .1 in
+    search (given-by, fails15-connection (a .file .now) (a .n) (a .p) (b .record-at .result) (b .record-at .ensures .0) _ _ _ _ _ _ d e)
 
 pub check15-spec : {M : Type 1} → statement M
 check15-spec =
@@ -82,4 +86,5 @@ check15-spec =
     child-of-requires-2
     deepest-requires-2
     differs-requires
+    given-requires
     returns-3)

@@ -1,12 +1,12 @@
 -- `judge_records`: the invariant: what the checks still to be made say is the answer.
 -- Assumes nothing.
 use mathlib.Core.Path.{_≡_, refl}
-use Prim.Native.Nat.{_-_, _≤_, _<_}
+use Prim.Native.Nat.{_-_, _≤_}
 use native.Mathlib.Omega.{arith}
 use lib.ListN.{drop}
 use Rattle.component.specs.Record.{recordAt}
 use Rattle.flatten.specs.Verdict.{checks, judged}
-use Rattle.flatten.proofs.JudgementLaws.{found-below, judged-here, judged-next, judged-all}
+use Rattle.flatten.proofs.JudgementLaws.{judged-here, judged-next, judged-all}
 use borrow.Author.Needs.{needs}
 use Rattle.flatten.proofs.judgement.judge_records.Statement.{statement}
 use Rattle.flatten.proofs.judgement.judge_records.Tie as tie
@@ -21,19 +21,13 @@ abbrev μ-loop : tie.MeasureT-loop
 loop-holds : tie.Need-loop-holds Inv-loop μ-loop
 loop-holds c = (omega arith, omega arith, refl)
 
-first-fail-requires : tie.Need-first-fail-requires Inv-loop μ-loop
-first-fail-requires c κs =
+check-records-requires : tie.Need-check-records-requires Inv-loop μ-loop
+check-records-requires c κs =
     let s = c .before .before .before .before .before .before .before in
-    (s .pre .0, (s .pre .1 .0, (s .pre .1 .1 .0, (c .before .loop .inv .0, c .loop-test .taken, s .pre .1 .1 .1))))
+    (s .pre .0, (s .pre .1 .0, (s .pre .1 .1 .0, (c .before .loop .inv .0, s .pre .1 .1 .1))))
 
-enum-known-p : tie.Need-enum-known-p Inv-loop μ-loop
-enum-known-p c = search needs
-
-cast-t11 : tie.Need-cast-t11 Inv-loop μ-loop
-cast-t11 c =
-    let s = c .before .before .before .before .before .before .before .before .before .before .before in
-    let l : c .before .p .given .0 .0 < s .args .n = search (found-below) in
-    omega (arith, s .pre .1 .1 .1)
+enum-known-refusal : tie.Need-enum-known-refusal Inv-loop μ-loop
+enum-known-refusal c = search needs
 
 returns : tie.Need-returns Inv-loop μ-loop
 returns c = search (judged-here)
@@ -60,9 +54,8 @@ judge-records-spec =
     Inv-loop
     μ-loop
     loop-holds
-    first-fail-requires
-    enum-known-p
-    cast-t11
+    check-records-requires
+    enum-known-refusal
     returns
     enum-told
     add-k

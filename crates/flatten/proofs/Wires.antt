@@ -15,12 +15,12 @@ use Rattle.component.specs.declared.Record.{Record}
 use Rattle.component.specs.Record.{fromOf, outputOf, toOf, inputOf, inputsOf, outputsOf}
 use Rattle.component.specs.Reading.{ownerOf, formOf}
 use Rattle.component.specs.Drawing.{deepest, child, fromThere, toThere}
 use Rattle.flatten.specs.declared.Pin.{Pin}
 use Rattle.flatten.specs.declared.Lead.{Lead}
 use Rattle.flatten.specs.Descent.{comesFrom, goesTo, wiresAt, wires}
 use Rattle.flatten.specs.Leads.{Leads}
-use Rattle.leads.proofs.Accepted.{Passed}
-use Rattle.leads.proofs.DescentLeads.{targets-sound, targets-complete, source-sound, source-complete}
+use Rattle.flatten.proofs.Accepted.{Passed}
+use Rattle.flatten.proofs.DescentLeads.{targets-sound, targets-complete, source-sound, source-complete}
 
 -- From one pin to the other.
 abbrev pub lead : Pin → Pin → Lead

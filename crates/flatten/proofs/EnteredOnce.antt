@@ -23,12 +23,12 @@ use Rattle.component.specs.declared.Record.{Record}
 use Rattle.component.specs.Record.{toOf, inputOf, portOf, inputsOf, isPrimitive, entering, enteringAs}
 use Rattle.component.specs.Reading.{ownerOf, formOf}
 use Rattle.component.specs.Drawing.{deepest, child, mapsIn, fromThere, portThere, toThere}
 use Rattle.flatten.specs.declared.Pin.{Pin}
 use Rattle.flatten.specs.Descent.{pin, inputsBelow, goesTo}
 use Rattle.flatten.specs.Leads.{Into, ends, maps}
-use Rattle.leads.proofs.Accepted.{Passed}
-use Rattle.leads.proofs.Components.{input-component, owner-before, child-owner, child-inj}
-use Rattle.leads.proofs.DescentLeads.{mapsIn-sound, targets-sound}
+use Rattle.flatten.proofs.Accepted.{Passed}
+use Rattle.flatten.proofs.Components.{input-component, owner-before, child-owner, child-inj}
+use Rattle.flatten.proofs.DescentLeads.{mapsIn-sound, targets-sound}
 
 -- The input that record q enters.
 abbrev pub entry : (ℕ → Record) → ℕ → ℕ → Pin

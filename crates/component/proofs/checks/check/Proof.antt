@@ -1,12 +1,10 @@
--- `fails`: the check of each number stands at its place in the list.
+-- `check`: each number names its check.
 -- Assumes nothing.
-use mathlib.Core.Path.{_≡_}
-use Rattle.component.proofs.RecordLaws.{number3-fails}
-use Rattle.flatten.specs.Searches.{failsBy}
-use Rattle.flatten.proofs.JudgementLaws.{number-last}
+use borrow.Author.Tests.{ne-eqb}
+use Rattle.component.specs.Checks.{failsBy}
 use borrow.Author.Needs.{needs}
-use Rattle.flatten.proofs.judgement.fails.Statement.{statement}
-use Rattle.flatten.proofs.judgement.fails.Tie as tie
+use Rattle.component.proofs.checks.check.Statement.{statement}
+use Rattle.component.proofs.checks.check.Tie as tie
 
 check3-requires : tie.Need-check3-requires
 check3-requires c κs = search needs
@@ -44,12 +42,9 @@ check13-requires c κs = search needs
 check14-requires : tie.Need-check14-requires
 check14-requires c κs = search needs
 
-check15-requires : tie.Need-check15-requires
-check15-requires c κs = search needs
-
 returns : tie.Need-returns
 unfolding failsBy
-returns c = rw (c .before .match .keys1) (search (number3-fails))
+returns c = rw (c .before .match .keys1) (c .check3 .ensures)
 
 returns-2 : tie.Need-returns-2
 unfolding failsBy
@@ -95,20 +90,29 @@ returns-12 : tie.Need-returns-12
 unfolding failsBy
 returns-12 c = rw (c .before .match .keys12) (c .check14 .ensures)
 
+-- no check
 returns-13 : tie.Need-returns-13
 unfolding failsBy
 returns-13 c =
-    let r = c .before .match .rest in
-    let s = c .before .before .before .before .before .before .before in
-    let r8 = r .0 .0 .0 .0 .0 .0 in
-    let e : s .args .k ≡ 15 =
-    number-last (s .args .k) (s .pre .1 .1 .1 .0) (s .pre .1 .1 .1 .1)
-    (r8 .0 .0 .0 .0 .0 .1) (r8 .0 .0 .0 .0 .1) (r8 .0 .0 .0 .1) (r8 .0 .0 .1) (r8 .0 .1) (r8 .1)
-    (r .0 .0 .0 .0 .0 .1) (r .0 .0 .0 .0 .1) (r .0 .0 .0 .1) (r .0 .0 .1) (r .0 .1) (r .1) in
-    rw e (c .check15 .ensures)
+    let k = c .before .before .before .args .k in
+    let r = c .match .rest in
+    rw (
+      ne-eqb k 3 (r .0 .0 .0 .0 .0 .0 .0 .0 .0 .0 .0 .1),
+      ne-eqb k 4 (r .0 .0 .0 .0 .0 .0 .0 .0 .0 .0 .1),
+      ne-eqb k 5 (r .0 .0 .0 .0 .0 .0 .0 .0 .0 .1),
+      ne-eqb k 6 (r .0 .0 .0 .0 .0 .0 .0 .0 .1),
+      ne-eqb k 7 (r .0 .0 .0 .0 .0 .0 .0 .1),
+      ne-eqb k 8 (r .0 .0 .0 .0 .0 .0 .1),
+      ne-eqb k 9 (r .0 .0 .0 .0 .0 .1),
+      ne-eqb k 10 (r .0 .0 .0 .0 .1),
+      ne-eqb k 11 (r .0 .0 .0 .1),
+      ne-eqb k 12 (r .0 .0 .1),
+      ne-eqb k 13 (r .0 .1),
+      ne-eqb k 14 (r .1),
+    )
 
-pub fails-spec : {M : Type 1} → statement M
-fails-spec =
+pub check-spec : {M : Type 1} → statement M
+check-spec =
     tie.close
     (tie.spec
     check3-requires
@@ -123,7 +127,6 @@ fails-spec =
     check12-requires
     check13-requires
     check14-requires
-    check15-requires
     returns
     returns-2
     returns-3

@@ -21,9 +21,9 @@ use Rattle.component.specs.declared.Record.{Record}
 use Rattle.component.specs.Record.{fieldsOf, hasId, inputsOf, outputsOf, isPrimitive}
 use Rattle.component.specs.Reading.{idOf, formOf}
 use Rattle.component.specs.Drawing.{primitivesBefore, inputsBefore, outputsBefore}
 use Rattle.flatten.specs.Descent.{flat}
-use Rattle.leads.proofs.Accepted.{Passed}
-use Rattle.leads.proofs.Components.{primitive-component, component-below, component-number}
+use Rattle.flatten.proofs.Accepted.{Passed}
+use Rattle.flatten.proofs.Components.{primitive-component, component-below, component-number}
 
 module _ (at : ℕ → Record) (n : ℕ) where
   -- The primitives before a position, one position on.

@@ -12,15 +12,15 @@ use Rattle.primitive.specs.Kinds.{inputWidth, outputWidth}
 use Rattle.component.specs.declared.Record.{Record}
 use Rattle.component.specs.Record.{fieldsOf, toOf, inputOf, inputsOf, outputsOf, isPrimitive}
 use Rattle.component.specs.Drawing.{child}
 use Rattle.flatten.specs.declared.Pin.{Pin}
 use Rattle.flatten.specs.declared.Lead.{Lead}
 use Rattle.flatten.specs.Descent.{comesFrom, goesTo, wiresAt, wires}
 use Rattle.flatten.specs.Leads.{From, starts, through, Into, ends, maps}
-use Rattle.leads.proofs.Accepted.{Passed}
-use Rattle.leads.proofs.Components.{output-component, component-composite}
-use Rattle.leads.proofs.DescentLeads.{mapsIn-sound, outMap-there}
-use Rattle.leads.proofs.EnteredOnce.{entry-there}
-use Rattle.leads.proofs.Wires.{lead, Yielded, wires-sound, connection-ends, wires-lead}
+use Rattle.flatten.proofs.Accepted.{Passed}
+use Rattle.flatten.proofs.Components.{output-component, component-composite}
+use Rattle.flatten.proofs.DescentLeads.{mapsIn-sound, outMap-there}
+use Rattle.flatten.proofs.EnteredOnce.{entry-there}
+use Rattle.flatten.proofs.Wires.{lead, Yielded, wires-sound, connection-ends, wires-lead}
 
 -- An output of a primitive that there is, and an input of one.
 pub record IsOutput (at : ℕ → Record) (s : Pin) : Type 0 where

@@ -21,12 +21,12 @@ use Rattle.component.specs.Record.{fromOf, outputOf, toOf, inputOf, portOf, out
 use Rattle.component.specs.Reading.{ownerOf, formOf}
 use Rattle.component.specs.Record.{isPrimitive}
 use Rattle.component.specs.Drawing.{deepest, child, deeper, mapsIn, outMaps, outMap, fromThere}
 use Rattle.flatten.specs.declared.Pin.{Pin}
 use Rattle.flatten.specs.Descent.{pin, outputBelow, inputsBelow}
 use Rattle.flatten.specs.Leads.{From, starts, through, Into, ends, maps}
-use Rattle.leads.proofs.Accepted.{Passed}
-use Rattle.leads.proofs.Components.{primitive-component, composite-component, output-component, component-deep}
-use Rattle.leads.proofs.Components.{component-below, component-composite, owner-composite, child-owner}
+use Rattle.flatten.proofs.Accepted.{Passed}
+use Rattle.flatten.proofs.Components.{primitive-component, composite-component, output-component, component-deep}
+use Rattle.flatten.proofs.Components.{component-below, component-composite, owner-composite, child-owner}
 
 module _ (at : ℕ → Record) (n : ℕ) where
   -- What a record that maps input i of composite c is.

@@ -14,17 +14,17 @@ use Rattle.component.specs.declared.Verdict.the-variants.{Accepted}
 use Rattle.component.specs.Record.{recordAt, recordCount, fieldsOf, isPrimitive}
 use Rattle.component.specs.Reading.{idOf}
 use Rattle.component.specs.Drawing.{primitivesBefore, inputsBefore, outputsBefore}
 use Rattle.flatten.specs.declared.Pin.{Pin}
 use Rattle.flatten.specs.declared.Lead.{Lead}
 use Rattle.flatten.specs.Descent.{wires, flat}
 use Rattle.flatten.specs.Leads.{Leads}
 use Rattle.flatten.specs.Verdict.{verdict}
-use Rattle.leads.proofs.Accepted.{Passed, checkNumbered, accepted-passed}
-use Rattle.leads.proofs.Wires.{lead, wires-lead, leads-wires}
-use Rattle.leads.proofs.Ends.{IsOutput, IsInput, wires-leave, wires-enter, wires-width}
-use Rattle.leads.proofs.Bound.{entered, wires-distinct, wires-bound}
-use Rattle.leads.proofs.Primitives.{flat-below, flat-inj, primitives-bound, inputs-bound, outputs-bound}
-use Rattle.leads.proofs.Primitives.{primitive-obeys, ids-distinct}
+use Rattle.flatten.proofs.Accepted.{Passed, checkNumbered, accepted-passed}
+use Rattle.flatten.proofs.Wires.{lead, wires-lead, leads-wires}
+use Rattle.flatten.proofs.Ends.{IsOutput, IsInput, wires-leave, wires-enter, wires-width}
+use Rattle.flatten.proofs.Bound.{entered, wires-distinct, wires-bound}
+use Rattle.flatten.proofs.Primitives.{flat-below, flat-inj, primitives-bound, inputs-bound, outputs-bound}
+use Rattle.flatten.proofs.Primitives.{primitive-obeys, ids-distinct}
 
 module _ (file : List ℕ) where
   abbrev at : ℕ → Record

@@ -15,14 +15,14 @@ use Rattle.component.specs.declared.Record.{Record}
 use Rattle.component.specs.Record.{inputsOf}
 use Rattle.component.specs.Reading.{formOf}
 use Rattle.component.specs.Drawing.{primitivesBefore, inputsBefore}
 use Rattle.flatten.specs.declared.Pin.{Pin}
 use Rattle.flatten.specs.declared.Lead.{Lead}
 use Rattle.flatten.specs.Descent.{pin, goesTo, wiresAt, wires}
-use Rattle.leads.proofs.Accepted.{Passed}
-use Rattle.leads.proofs.Wires.{lead}
-use Rattle.leads.proofs.EnteredOnce.{targetsAt, targetsAt-distinct}
-use Rattle.leads.proofs.Ends.{IsInput, wires-enter}
-use Rattle.leads.proofs.Primitives.{primitive-below, primitivesBefore-complete, inputs-bound}
+use Rattle.flatten.proofs.Accepted.{Passed}
+use Rattle.flatten.proofs.Wires.{lead}
+use Rattle.flatten.proofs.EnteredOnce.{targetsAt, targetsAt-distinct}
+use Rattle.flatten.proofs.Ends.{IsInput, wires-enter}
+use Rattle.flatten.proofs.Primitives.{primitive-below, primitivesBefore-complete, inputs-bound}
 
 -- The inputs that wires enter.
 abbrev pub entered : List Lead → List Pin

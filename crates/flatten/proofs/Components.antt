@@ -23,7 +23,7 @@ use Rattle.component.specs.Record.{fieldsOf, inputsOf, outputsOf, composite, is
 use Rattle.component.specs.Reading.{ownerOf, formOf}
 use Rattle.component.specs.Drawing.{deepest, isComponent, child, holds, deeper}
 use Rattle.component.proofs.RecordLaws.{fields-cases}
-use Rattle.leads.proofs.Accepted.{Passed}
+use Rattle.flatten.proofs.Accepted.{Passed}
 
 pub primitive-component : (r : Record) → isPrimitive r ≡ true → formOf r ≡ 1
 primitive-component r e = ⊎-elim (λ u. u) (λ u. absurd (false≢true (rw u at e))) (fields-cases r)

@@ -1,9 +1,0 @@
-pub mod Accepted
-pub mod Components
-pub mod DescentLeads
-pub mod Wires
-pub mod Primitives
-pub mod EnteredOnce
-pub mod Ends
-pub mod Bound
-pub mod WireTheorems

@@ -1,1 +1,0 @@
-// What an accepted drawing leads to: theorems only, no code.
