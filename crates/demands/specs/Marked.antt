@@ -13,8 +13,9 @@ use Rattle.primitive.specs.Evaluate.{evaluateNumber, evaluateOutputs}
 use Rattle.component.specs.Record.{recordAt, recordCount}
 use Rattle.primitive.specs.Given.{spoken}
 use Rattle.flatten.specs.Verdict.{verdict, verdictGives}
-use Rattle.load.specs.Load.{wireWords, flatWires}
+use Rattle.load.specs.Load.{flatWires}
 use Rattle.demands.specs.Lamp.{lamp, lampTwice}
+use Rattle.tables.specs.Tables.{wireWords}
 
 -- What the definitions find, and what the document wants.
 pub record Case : Type 0 where

@@ -5,18 +5,18 @@
 --   Puts t at bs u m   u is the buffer t with the bytes bs from a place on, and m is the place after them
 -- Assumes nothing.
 use mathlib.Core.Path.{_≡_}
-use Prim.Native.Nat.{ℕ, _+_, _*_}
+use Prim.Native.Nat.{ℕ}
 use Prim.Native.Char.{code}
 use Prim.Native.String.{String, [] as none, _∷_ as _and_}
-use mathlib.Core.Bool.{Bool, cond}
 use mathlib.Core.List.{List, [], _∷_, _++_}
-use lib.ListN.{length, getD}
+use lib.ListN.{length}
 use Rattle.lists.specs.Lists.{from, joined}
 use Rattle.primitive.specs.declared.kinds.Kind.{Kind}
 use Rattle.primitive.specs.declared.kinds.Kind.the-variants.{Composite, And, Or, Not, Nand, Nor, Xor, Switch, Input, Output, Splitter, Joiner, Clock, Const}
 use Rattle.primitive.specs.declared.answers.Refusal.{Refusal}
 use Rattle.primitive.specs.Kinds.{kindOf}
-use Rattle.tables.specs.Tables.{wordIn}
+use Rattle.tables.specs.declared.Wire.{Wire}
+use Rattle.tables.specs.Tables.{Tables, fieldsAt, idAt, wireAt, indexes}
 use Rattle.text.specs.Text.{written, placeAfter, numeral, spaced}
 
 -- A text's bytes.
@@ -41,23 +41,26 @@ nameOf Joiner = ascii "Joiner"
 nameOf Clock = ascii "Clock"
 nameOf Const = ascii "Const"
 
--- Component i of a table of components: its index, its kind and its id.
-unfoldable pub componentLine : List ℕ → ℕ → List ℕ
-componentLine cs i = numeral i ++ ascii " " ++ nameOf (kindOf (wordIn cs i 0)) ++ ascii " " ++ numeral (wordIn cs i 1) ++ ascii "\n"
+-- A component: its index, the name of its kind's number and its id.
+unfoldable pub componentLine : ℕ → ℕ → ℕ → List ℕ
+componentLine i kind id = numeral i ++ ascii " " ++ nameOf (kindOf kind) ++ ascii " " ++ numeral id ++ ascii "\n"
 
--- Wire k of a table of wires: the component and the port that it leaves, and those that it enters.
-unfoldable pub wireLine : List ℕ → ℕ → List ℕ
-wireLine ws k =
-    numeral (getD ws (4 * k) 0) ++ ascii "." ++ numeral (getD ws (4 * k + 1) 0) ++ ascii " "
-    ++ numeral (getD ws (4 * k + 2) 0) ++ ascii "." ++ numeral (getD ws (4 * k + 3) 0) ++ ascii "\n"
+-- A wire: the component and the port that it leaves, and those that it enters.
+unfoldable pub wireLine : Wire → List ℕ
+wireLine w =
+    numeral (w .src .comp .0) ++ ascii "." ++ numeral (w .src .port) ++ ascii " "
+    ++ numeral (w .dst .comp .0) ++ ascii "." ++ numeral (w .dst .port) ++ ascii "\n"
 
--- The components of a table, n of them: how many, and a line for each.
-abbrev pub componentsText : List ℕ → ℕ → List ℕ
-componentsText cs n = ascii "components " ++ numeral n ++ ascii "\n" ++ joined (componentLine cs) (from 0 n)
+-- The components: how many, and a line for each.
+abbrev pub componentsText : Tables → List ℕ
+componentsText T =
+    ascii "components " ++ numeral (T .counts .components) ++ ascii "\n"
+    ++ joined (λ i. componentLine i (fieldsAt T i .kind) (idAt T i)) (indexes T)
 
--- The wires of a table, n of them, likewise.
-abbrev pub wiresText : List ℕ → ℕ → List ℕ
-wiresText ws n = ascii "wires " ++ numeral n ++ ascii "\n" ++ joined (wireLine ws) (from 0 n)
+-- The wires, likewise.
+abbrev pub wiresText : Tables → List ℕ
+wiresText T =
+    ascii "wires " ++ numeral (T .counts .wires) ++ ascii "\n" ++ joined (λ k. wireLine (wireAt T k)) (from 0 (T .counts .wires))
 
 -- Round r, and the current list that it leaves.
 abbrev pub roundLine : ℕ → List ℕ → List ℕ

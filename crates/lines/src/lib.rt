@@ -2,12 +2,15 @@
 ghost use mathlib.Core.Path.{_≡_};
 ghost use mathlib.Core.List.{[], _∷_, _++_};
 ghost use Prim.Native.Nat.{_≤_, _<_};
-ghost use lib.ListN.{length, getD, take};
+ghost use lib.ListN.{length, take};
 ghost use Rattle.primitive.specs.Kinds.{kindOf};
+ghost use Rattle.tables.specs.Tables.{tablesOf, countsOf};
+ghost use Rattle.tables.specs.Words.{fieldsIn, idIn};
 ghost use Rattle.text.specs.Text.{numeral};
 ghost use Rattle.lines.specs.Lines.{nameOf, componentLine, componentsText, wireLine, wiresText, roundLine, refusedLine, Puts};
 use primitive::Refusal;
 use tables::Counts;
+use tables::Wire;
 
 // A number and a byte.
 fn put_ended(out: &mut [u8], at: usize, number: u64, byte: u8) -> usize
@@ -62,33 +65,24 @@ fn put_kind(out: &mut [u8], at: usize, kind: u64) -> usize
 
 // A component: its index, its kind and its id.
 fn put_component(out: &mut [u8], at: usize, components: &[u64], i: usize) -> usize
-    requires { ⌜ i < 65536 ⌝ }
-    ensures { λ r. ⌜ Puts (now (out .entry)) at (componentLine (now (components .entry)) i) (now (out .exit)) r ⌝ }
+    ensures { λ r. ⌜ Puts (now (out .entry)) at (componentLine i (fieldsIn (now (components .entry)) i .kind) (idIn (now (components .entry)) i)) (now (out .exit)) r ⌝ }
 {
-    let kind = tables::word_of(components, i, 0);
-    let id = tables::word_of(components, i, 1);
+    let kind = tables::kind_word(components, i);
+    let id = tables::id_word(components, i);
     let index = put_ended(out, at, i as u64, b' ');
     let named = put_kind(out, index, kind);
     let blank = text::put(out, named, b' ');
     put_ended(out, blank, id, b'\n')
 }
 
-// A word of a table of wires.
-fn wire_word(wires: &[u16], place: usize) -> u64
-    ensures { λ r. ⌜ r ≡ getD (now (wires .entry)) place 0 ⌝ }
-{
-    tables::entry(wires, place) as u64
-}
-
 // A wire: the port it leaves and the port it enters.
-fn put_wire(out: &mut [u8], at: usize, wires: &[u16], k: usize) -> usize
-    requires { ⌜ k < 65536 ⌝ }
-    ensures { λ r. ⌜ Puts (now (out .entry)) at (wireLine (now (wires .entry)) k) (now (out .exit)) r ⌝ }
+fn put_wire(out: &mut [u8], at: usize, wire: Wire) -> usize
+    ensures { λ r. ⌜ Puts (now (out .entry)) at (wireLine wire) (now (out .exit)) r ⌝ }
 {
-    let left = put_ended(out, at, wire_word(wires, 4 * k), b'.');
-    let port = put_ended(out, left, wire_word(wires, 4 * k + 1), b' ');
-    let entered = put_ended(out, port, wire_word(wires, 4 * k + 2), b'.');
-    put_ended(out, entered, wire_word(wires, 4 * k + 3), b'\n')
+    let left = put_ended(out, at, wire.src.comp.0 as u64, b'.');
+    let port = put_ended(out, left, wire.src.port as u64, b' ');
+    let entered = put_ended(out, port, wire.dst.comp.0 as u64, b'.');
+    put_ended(out, entered, wire.dst.port as u64, b'\n')
 }
 
 // A word and how many.
@@ -101,8 +95,7 @@ fn put_counted(out: &mut [u8], at: usize, word: &[u8], count: usize) -> usize
 
 // The components: how many, and a line for each.
 fn put_components(out: &mut [u8], at: usize, components: &[u64], count: usize) -> usize
-    requires { ⌜ count ≤ 256 ⌝ }
-    ensures { λ r. ⌜ Puts (now (out .entry)) at (componentsText (now (components .entry)) count) (now (out .exit)) r ⌝ }
+    ensures { λ r. ⌜ Puts (now (out .entry)) at (componentsText (tablesOf (now (components .entry)) [] [] [] [] [] [] (countsOf count 0 0 0 0 0 0))) (now (out .exit)) r ⌝ }
 {
     let mut next = put_counted(out, at, b"components ", count);
     let mut i: usize = 0;
@@ -115,19 +108,18 @@ fn put_components(out: &mut [u8], at: usize, components: &[u64], count: usize) -
 
 // The wires: how many, and a line for each.
 fn put_wires(out: &mut [u8], at: usize, wires: &[u16], count: usize) -> usize
-    requires { ⌜ count ≤ 1024 ⌝ }
-    ensures { λ r. ⌜ Puts (now (out .entry)) at (wiresText (now (wires .entry)) count) (now (out .exit)) r ⌝ }
+    ensures { λ r. ⌜ Puts (now (out .entry)) at (wiresText (tablesOf [] [] [] (now (wires .entry)) [] [] [] (countsOf 0 0 0 count 0 0 0))) (now (out .exit)) r ⌝ }
 {
     let mut next = put_counted(out, at, b"wires ", count);
     let mut k: usize = 0;
     while k < count {
-        next = put_wire(out, next, wires, k);
+        next = put_wire(out, next, tables::wire_at(wires, k));
         k += 1;
     }
     next
 }
 
-// The components and the wires of a net, whose counts are within the limits.
+// The components and the wires of tables.
 pub fn put_net(
     out: &mut [u8],
     at: usize,
@@ -135,9 +127,9 @@ pub fn put_net(
     wires: &[u16],
     counts: Counts,
 ) -> usize
-    requires { ⌜ (counts .components ≤ 256) × (counts .wires ≤ 1024) ⌝ }
-    ensures { λ r. ⌜ Puts (now (out .entry)) at (componentsText (now (components .entry)) (counts .components) ++ wiresText (now (wires .entry)) (counts .wires))
-        (now (out .exit)) r ⌝ }
+    ensures { λ r.
+        let net = tablesOf (now (components .entry)) [] [] (now (wires .entry)) [] [] [] counts in
+        ⌜ Puts (now (out .entry)) at (componentsText net ++ wiresText net) (now (out .exit)) r ⌝ }
 {
     let next = put_components(out, at, components, counts.components);
     put_wires(out, next, wires, counts.wires)

@@ -21,8 +21,9 @@ use Rattle.primitive.specs.Kinds.{kindOf}
 use Rattle.component.specs.Record.{IsBytes}
 use Rattle.component.specs.declared.Verdict.{Verdict}
 use Rattle.component.specs.declared.Verdict.the-variants.{Accepted, Refused}
+use Rattle.tables.specs.declared.Wire.{Wire}
 use Rattle.tables.specs.Tables.{Tables, wordIn, idAt, fieldsAt, wireAt, indexes, currentList}
-use Rattle.net.specs.Parts.{idIn}
+use Rattle.tables.specs.Words.{idIn}
 use Rattle.load.specs.Load.{loadTables, loadVerdict}
 use Rattle.net.specs.Net.{idsDistinct, netNumber}
 use Rattle.net.proofs.ClausesLaws.{portsFollow-inputs, portsFollow-outputs}
@@ -90,22 +91,22 @@ name-few Clock = omega arith
 name-few Const = omega arith
 
 -- The lines.
-component-few : (cs : List ℕ) (i : ℕ) → i < 1000 → idIn cs i < 2 ^ 32 → length (componentLine cs i) ≤ 24
+component-few : (i k d : ℕ) → i < 1000 → d < 2 ^ 32 → length (componentLine i k d) ≤ 24
 unfolding componentLine
-component-few cs i h l =
+component-few i k d h l =
     let a = numeral-few 2 i h in
-    let b = name-few (kindOf (wordIn cs i 0)) in
-    let d = numeral-few 9 (idIn cs i) (omega arith) in
+    let b = name-few (kindOf k) in
+    let e = numeral-few 9 d (omega arith) in
     simp length-append (omega arith)
 
-wire-few : (ws : List ℕ) (k : ℕ) → getD ws (4 * k) 0 < 10000 → getD ws (4 * k + 1) 0 < 10000
-    → getD ws (4 * k + 2) 0 < 10000 → getD ws (4 * k + 3) 0 < 10000 → length (wireLine ws k) ≤ 20
+wire-few : (w : Wire) → w .src .comp .0 < 10000 → w .src .port < 10000 → w .dst .comp .0 < 10000 → w .dst .port < 10000
+    → length (wireLine w) ≤ 20
 unfolding wireLine
-wire-few ws k p q r s =
-    let a = numeral-few 3 (getD ws (4 * k) 0) p in
-    let b = numeral-few 3 (getD ws (4 * k + 1) 0) q in
-    let d = numeral-few 3 (getD ws (4 * k + 2) 0) r in
-    let e = numeral-few 3 (getD ws (4 * k + 3) 0) s in
+wire-few w p q r s =
+    let a = numeral-few 3 (w .src .comp .0) p in
+    let b = numeral-few 3 (w .src .port) q in
+    let d = numeral-few 3 (w .dst .comp .0) r in
+    let e = numeral-few 3 (w .dst .port) s in
     simp length-append (omega arith)
 
 spaced-few : (xs : List ℕ) → ((x : ℕ) → In x xs → x < 1000) → length (spaced xs) ≤ 4 * length xs
@@ -124,23 +125,23 @@ joined-few f w (suc k) q h =
 
 -- The parts of the listing of a net.
 module _ (T : Tables) (z : netNumber T ≡ 0) where
-  id-few : (i : ℕ) → i < T .counts .components → idIn (T .components) i < 2 ^ 32
+  id-few : (i : ℕ) → i < T .counts .components → idAt T i < 2 ^ 32
   unfolding idsDistinct
   id-few i h =
       below-lt (idAt T i) 32
       (every-from (λ j. below (idAt T j) 32) (T .counts .components)
       (and-left _ _ (netNumber-net T z .ids)) i h)
 
-  components-few : length (componentsText (T .components) (T .counts .components)) ≤ 6200
+  components-few : length (componentsText T) ≤ 6200
   components-few =
       let n = net-within T z .components in
       let a = numeral-few 2 (T .counts .components) (omega arith) in
       let b =
-      joined-few (componentLine (T .components)) 24 (T .counts .components) 0
-      (λ i h. component-few (T .components) i (omega arith) (id-few i (omega arith))) in
+      joined-few (λ i. componentLine i (fieldsAt T i .kind) (idAt T i)) 24 (T .counts .components) 0
+      (λ i h. component-few i (fieldsAt T i .kind) (idAt T i) (omega arith) (id-few i (omega arith))) in
       simp length-append (omega arith)
 
-  wire-at-few : (k : ℕ) → k < T .counts .wires → length (wireLine (T .wires) k) ≤ 20
+  wire-at-few : (k : ℕ) → k < T .counts .wires → length (wireLine (wireAt T k)) ≤ 20
   wire-at-few k h =
       let s = net-sound T z in
       let w = net-within T z in
@@ -153,14 +154,14 @@ module _ (T : Tables) (z : netNumber T ≡ 0) where
       let port-there = s .target-port x i in
       let outs = portsFollow-outputs T p (x .src .comp .0) from-here in
       let ins = portsFollow-inputs T p (x .dst .comp .0) to-there in
-      wire-few (T .wires) k (omega (arith, w .components)) (omega (arith, w .outputs)) (omega (arith, w .components))
+      wire-few x (omega (arith, w .components)) (omega (arith, w .outputs)) (omega (arith, w .components))
       (omega (arith, w .inputs))
 
-  wires-few : length (wiresText (T .wires) (T .counts .wires)) ≤ 20500
+  wires-few : length (wiresText T) ≤ 20500
   wires-few =
       let n = net-within T z .wires in
       let a = numeral-few 3 (T .counts .wires) (omega arith) in
-      let b = joined-few (wireLine (T .wires)) 20 (T .counts .wires) 0 (λ k h. wire-at-few k (omega arith)) in
+      let b = joined-few (λ k. wireLine (wireAt T k)) 20 (T .counts .wires) 0 (λ k h. wire-at-few k (omega arith)) in
       simp length-append (omega arith)
 
   round-few : (r : ℕ) → r < 100 → length (roundLine r (currentList T)) ≤ 1038
@@ -201,7 +202,7 @@ listing-few file bytes = by-verdict (loadVerdict file fresh) refl
     by-verdict Accepted e =
         let z = loaded-number file bytes e in
         let T = loadTables file fresh in
-        all (componentsText (T .components) (T .counts .components)) (wiresText (T .wires) (T .counts .wires)) (roundLines 16 1 T)
+        all (componentsText T) (wiresText T) (roundLines 16 1 T)
         (components-few T z) (wires-few T z) (rounds-few 16 1 T z (omega arith))
     by-verdict (Refused x) e =
         let a = numeral-most (x .number) in

@@ -66,6 +66,6 @@ module _ (file : List ℕ) (a : Answer) (U : Tables) (loads : Loads file fresh a
     listed-net bytes = ap netNumber made ∙ loaded-number file bytes accepted
 
     pub listed-done :
-        componentsText (U .components) (m .components) ++ wiresText (U .wires) (m .wires) ++ roundLines 16 1 (counted U m) ≡ listing file
+        componentsText (counted U m) ++ wiresText (counted U m) ++ roundLines 16 1 (counted U m) ≡ listing file
     unfolding listing
     listed-done = ap (listedText Accepted) made ∙ ap (λ (v : Verdict). listedText v (loadTables file fresh)) (sym accepted)

@@ -31,7 +31,7 @@ roundLines (suc k) r T =
 -- The components and wires of a loaded drawing, and its rounds, at most 16; or the line of a refused file.
 abbrev pub listedText : Verdict → Tables → List ℕ
 listedText Accepted T =
-    componentsText (T .components) (T .counts .components) ++ wiresText (T .wires) (T .counts .wires) ++ roundLines 16 1 T
+    componentsText T ++ wiresText T ++ roundLines 16 1 T
 listedText (Refused x) T = refusedLine x
 
 -- The listing of a file.

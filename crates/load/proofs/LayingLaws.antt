@@ -1,6 +1,5 @@
 -- Laws of tables that are written word by word, one record after the other.
 --   sets: words written behind words, and from the front of a table
---   stores: the words of one entry, by their offsets
 --   joined: what the records give, one after the other, one record more
 --   Laid g p t u k    u is the table t with what the records before p give at its front, g q being what record q
 --                     gives; k is the place behind it
@@ -52,20 +51,6 @@ unfolding overlay
 sets-overlay xs t h =
     let room : 0 + length xs ≤ length t = omega arith in
     sets-eq xs t 0 room ∙ ap (λ (k : ℕ). xs ++ drop k t) (zero-add (length xs))
-
--- The words of an entry at k, stored by their offsets from k, the first of which is j.
-abbrev pub stores : List ℕ → ℕ → ℕ → List ℕ → List ℕ
-stores t k j [] = t
-stores t k j (x ∷ xs) = stores (set t (k + j) x) k (suc j) xs
-
-stores-sets : (t : List ℕ) (k j : ℕ) (xs : List ℕ) → stores t k j xs ≡ sets t (k + j) xs
-stores-sets t k j [] = refl
-stores-sets t k j (x ∷ xs) =
-    let e : k + suc j ≡ suc (k + j) = omega arith in
-    stores-sets (set t (k + j) x) k (suc j) xs ∙ ap (λ (i : ℕ). sets (set t (k + j) x) i xs) e
-
-pub stores-entry : (t : List ℕ) (k x : ℕ) (xs : List ℕ) → stores (set t k x) k 1 xs ≡ sets t k (x ∷ xs)
-stores-entry t k x xs = stores-sets (set t k x) k 1 xs ∙ ap (λ (i : ℕ). sets (set t k x) i xs) (add-one k)
 
 -- What the records give, one after the other: one record more; those before a record are the first of all.
 module _ (g : ℕ → List ℕ) where

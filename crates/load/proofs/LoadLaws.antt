@@ -19,11 +19,11 @@ use Rattle.flatten.proofs.Accepted.{refused-not, accepted-passed}
 use Rattle.flatten.proofs.WireTheorems.{accepted-primitives-bound, accepted-inputs-bound}
 use Rattle.tables.specs.declared.Answer.the-variants.{Done, Refused as Declined}
 use Rattle.tables.specs.declared.Counts.{Counts}
-use Rattle.tables.specs.Tables.{Tables, tablesOf, fullSize}
+use Rattle.tables.specs.Tables.{Tables, tablesOf, fullSize, wireWords}
 use Rattle.tables.proofs.SizesLaws.{fullSize-sound}
 use Rattle.tables.proofs.NamedLaws.{overlay-list, overlay-count}
 use Rattle.load.specs.declared.rows.Before.{Before}
-use Rattle.load.specs.Load.{wireWords, primitives, componentWords, standingAtLoad, drawingTables, loadVerdict}
+use Rattle.load.specs.Load.{primitives, primitiveWords, standingAtLoad, drawingTables, loadVerdict}
 use Rattle.load.specs.Load.{flatWires, loadTables, Loads}
 use Rattle.load.specs.Laying.{beforeAt, startingOf}
 use Rattle.load.proofs.LayingLaws.{sets-overlay}
@@ -71,7 +71,7 @@ module _ (s : List ℕ) (accepted : verdict s ≡ Accepted) (T : Tables) (is : 1
       ∙ ap (λ (x : Before). overlay (from 0 (x .components)) (T .current)) eb
 
   pub filled : (cs ins os ws cs' fs ss : List ℕ) (w k : ℕ)
-      → cs ≡ overlay (joined (componentWords (recordAt s) (recordCount s)) (primitives (recordAt s) (recordCount s)))
+      → cs ≡ overlay (joined (primitiveWords (recordAt s) (recordCount s)) (primitives (recordAt s) (recordCount s)))
       (T .components)
       → ins ≡ sets (T .inputs) 0 (replicate (b .inputs) 0)
       → os ≡ overlay (joined (startingOf (recordAt s)) (primitives (recordAt s) (recordCount s))) (T .outputs)

@@ -33,9 +33,10 @@ use Rattle.flatten.proofs.WireTheorems.{accepted-primitives-bound, accepted-inp
 use Rattle.load.specs.declared.rows.Drawn.{Drawn}
 use Rattle.load.specs.declared.rows.Drawn.the-variants.{Primitive, Other}
 use Rattle.load.specs.declared.rows.Before.{Before}
-use Rattle.load.specs.Load.{primitives, componentWords}
+use Rattle.load.specs.Load.{primitives, primitiveWords}
 use Rattle.load.specs.Laying.{seenIf, seen, componentBy, rowBy, beforeBy, beforeAt, rowAt}
 use Rattle.load.proofs.LayingLaws.{joined-keep, Laid, laid-room, laid-step, laid-end}
+use Rattle.tables.specs.Words.{rowPlace}
 
 -- What a record is drawn as: no component; a primitive; a component that is none.
 module _ (s : List ℕ) (p : ℕ) (g : Stands) (e : StandsAs g (recordAt s p)) where
@@ -74,12 +75,12 @@ module _ (at : ℕ → Record) (n : ℕ) where
           }
 
   -- The words of the primitives, record by record.
-  pub rows-joined : (p : ℕ) → joined (componentWords at n) (primitivesBefore at p) ≡ joined (rowAt at n) (from 0 p)
+  pub rows-joined : (p : ℕ) → joined (primitiveWords at n) (primitivesBefore at p) ≡ joined (rowAt at n) (from 0 p)
   rows-joined p =
-      joined-keep (λ q. isPrimitive (at q)) (componentWords at n) (rowAt at n) (λ q. by-kind q (isPrimitive (at q)))
+      joined-keep (λ q. isPrimitive (at q)) (primitiveWords at n) (rowAt at n) (λ q. by-kind q (isPrimitive (at q)))
       (from 0 p)
     where
-      by-kind : (q : ℕ) (b : Bool) → cond b (componentWords at n q) []
+      by-kind : (q : ℕ) (b : Bool) → cond b (primitiveWords at n q) []
           ≡ rowBy (seenIf b (at q)) (beforeAt at n q)
       by-kind q true = refl
       by-kind q false = refl
@@ -87,7 +88,7 @@ module _ (at : ℕ → Record) (n : ℕ) where
   pub rows-length : (p : ℕ) → length (joined (rowAt at n) (from 0 p)) ≡ 8 * length (primitivesBefore at p)
   rows-length p =
       ap (λ (l : List ℕ). length l) (sym (rows-joined p))
-      ∙ joined-width (componentWords at n) 8 (λ q. refl) (primitivesBefore at p)
+      ∙ joined-width (primitiveWords at n) 8 (λ q. refl) (primitivesBefore at p)
 
   -- All primitives are those before p, and others.
   primitives-split : (p : ℕ) → p ≤ n
@@ -105,12 +106,12 @@ module _ (at : ℕ → Record) (n : ℕ) where
 
 -- Laying the entry of one record.
 module _ (id : Id) (f : Fields) (b : Before) (drawn : Drawn) (e : drawn ≡ Primitive id f) (t : List ℕ) where
-  pub row-room : 8 * b .components + length (rowBy drawn b) ≤ length t → 8 * b .components + 8 ≤ length t
+  pub row-room : rowPlace (b .components) + length (rowBy drawn b) ≤ length t → rowPlace (b .components) + 8 ≤ length t
   row-room h = rw e at h
 
-  pub row-laid : (u : List ℕ) (x y : ℕ) → u ≡ sets t (8 * b .components) (componentBy id f b) → x ≡ f .inputs
+  pub row-laid : (u : List ℕ) (x y : ℕ) → u ≡ sets t (rowPlace (b .components)) (componentBy id f b) → x ≡ f .inputs
       → y ≡ f .outputs
-      → (u ≡ sets t (8 * b .components) (rowBy drawn b))
+      → (u ≡ sets t (rowPlace (b .components)) (rowBy drawn b))
       × (record { components = b .components + 1; inputs = b .inputs + x; outputs = b .outputs + y } ≡ beforeBy drawn b)
   row-laid u x y h i o = rw (e, i, o) (h, refl)
 
@@ -125,10 +126,10 @@ module _ (s : List ℕ) (accepted : verdict s ≡ Accepted) (t : List ℕ) (full
       )
 
   module _ (p : ℕ) (u : List ℕ) (b : Before) (eb : b ≡ beforeAt (recordAt s) (recordCount s) p)
-      (laid : Laid (rowAt (recordAt s) (recordCount s)) p t u (8 * b .components)) where
+      (laid : Laid (rowAt (recordAt s) (recordCount s)) p t u (rowPlace (b .components))) where
     pub rows-end : p ≡ recordCount s
         → (u ≡ overlay
-        (joined (componentWords (recordAt s) (recordCount s)) (primitives (recordAt s) (recordCount s))) t)
+        (joined (primitiveWords (recordAt s) (recordCount s)) (primitives (recordAt s) (recordCount s))) t)
         × (b ≡ beforeAt (recordAt s) (recordCount s) (recordCount s))
     rows-end e = (
       laid-end _ t p u _ laid (recordCount s) e rows-all
@@ -140,7 +141,7 @@ module _ (s : List ℕ) (accepted : verdict s ≡ Accepted) (t : List ℕ) (full
       row-is : rowBy drawn b ≡ rowAt (recordAt s) (recordCount s) p
       row-is = rw (ed, eb)
 
-      pub rows-requires : (8 * b .components + length (rowBy drawn b) ≤ length u) × (b .components ≤ 256)
+      pub rows-requires : (rowPlace (b .components) + length (rowBy drawn b) ≤ length u) × (b .components ≤ 256)
           × (b .inputs ≤ 1024) × (b .outputs ≤ 1024)
       rows-requires =
           let h : p ≤ recordCount s = omega arith in (
@@ -165,16 +166,16 @@ module _ (s : List ℕ) (accepted : verdict s ≡ Accepted) (t : List ℕ) (full
             ),
           )
 
-      module _ (v : List ℕ) (c : Before) (ev : v ≡ sets u (8 * b .components) (rowBy drawn b))
+      module _ (v : List ℕ) (c : Before) (ev : v ≡ sets u (rowPlace (b .components)) (rowBy drawn b))
           (ec : c ≡ beforeBy drawn b) where
         pub rows-before : c ≡ beforeAt (recordAt s) (recordCount s) (p + 1)
         rows-before = ec ∙ (λ j. beforeBy (ed j) (eb j)) ∙ beforeAt-step (recordAt s) (recordCount s) p
 
-        pub rows-step : Laid (rowAt (recordAt s) (recordCount s)) (p + 1) t v (8 * c .components)
+        pub rows-step : Laid (rowAt (recordAt s) (recordCount s)) (p + 1) t v (rowPlace (c .components))
         rows-step =
-            laid-step _ t p u _ laid (rowBy drawn b) v (8 * c .components) row-is ev
+            laid-step _ t p u _ laid (rowBy drawn b) v (rowPlace (c .components)) row-is ev
             (omega (arith, by-drawn drawn, ap (λ (x : Before). x .components) ec))
           where
-            by-drawn : (x : Drawn) → 8 * beforeBy x b .components ≡ 8 * b .components + length (rowBy x b)
+            by-drawn : (x : Drawn) → rowPlace (beforeBy x b .components) ≡ rowPlace (b .components) + length (rowBy x b)
             by-drawn (Primitive i f) = omega arith
             by-drawn Other = omega arith

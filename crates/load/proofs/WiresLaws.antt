@@ -47,7 +47,9 @@ use Rattle.flatten.proofs.DescentLeads.{source-sound}
 use Rattle.flatten.proofs.Wires.{connection-ends}
 use Rattle.flatten.proofs.Ends.{from-there}
 use Rattle.tables.specs.declared.End.{End}
-use Rattle.load.specs.Load.{wireWords, flatPin, flatWires}
+use Rattle.tables.specs.Tables.{wireWords}
+use Rattle.tables.specs.Words.{wirePlace}
+use Rattle.load.specs.Load.{flatPin, flatWires}
 use Rattle.load.specs.Laying.{Written, Ready, leadWords, wiresGiven}
 use Rattle.load.proofs.FlatWires.{flatWire, flatWires-bound}
 use Rattle.load.proofs.LayingLaws.{sets-append, Laid, laid-room, laid-step, laid-end, laid-count}
@@ -80,8 +82,8 @@ module _ (s : List ℕ) (n d c i : ℕ) (f : End) (t : List ℕ) (k : ℕ) where
 
       pub lead-here : (u : List ℕ) (x : End) → x ≡ flatPin (recordAt s) n (record { comp = c; port = i })
           → u ≡ sets t k (wireWords (record { src = f; dst = x }))
-          → Written t k (led s n f (inputsBelow (recordAt s) n d c i)) u (k + 4)
-      lead-here u x ex eu =
+          → (m : ℕ) → m ≡ k + 4 → Written t k (led s n f (inputsBelow (recordAt s) n d c i)) u m
+      lead-here u x ex eu m em =
           record {
             table =
                 eu ∙ ap (λ (y : End). sets t k (wireWords (record { src = f; dst = y }))) ex
@@ -255,7 +257,7 @@ module _ (at : ℕ → Record) (n : ℕ) where
           (goesTo at n p)
       by-form p false = refl
 
-  pub wires-length : length (joined (wiresGiven at n) (from 0 n)) ≡ 4 * length (flatWires at n)
+  pub wires-length : length (joined (wiresGiven at n) (from 0 n)) ≡ wirePlace (length (flatWires at n))
   wires-length =
       ap (λ (l : List ℕ). length l) (sym wires-joined) ∙ joined-width wireWords 4 (λ w. refl) (flatWires at n)
 
@@ -271,17 +273,17 @@ module _ (s : List ℕ) (n : ℕ) (cs lo hi fs : List ℕ) (h : Ready s n cs lo 
             (subst (Passed (recordAt s)) (sym (h .count)) (accepted-passed s (h .accepted))),
       )
 
-  module _ (p : ℕ) (u : List ℕ) (k : ℕ) (laid : Laid (wiresGiven (recordAt s) n) p t u k) where
-    pub wires-requires : p < n → (p < n) × (k + length (wiresGiven (recordAt s) n p) ≤ length u)
-    wires-requires l = (l, laid-room _ t p u k laid n l wires-all)
+  module _ (p : ℕ) (u : List ℕ) (k : ℕ) (laid : Laid (wiresGiven (recordAt s) n) p t u (wirePlace k)) where
+    pub wires-requires : p < n → (p < n) × (wirePlace k + length (wiresGiven (recordAt s) n p) ≤ length u)
+    wires-requires l = (l, laid-room _ t p u _ laid n l wires-all)
 
-    pub wires-step : (v : List ℕ) (m : ℕ) → Written u k (wiresGiven (recordAt s) n p) v m
-        → Laid (wiresGiven (recordAt s) n) (p + 1) t v m
-    wires-step v m w = laid-step _ t p u k laid (wiresGiven (recordAt s) n p) v m refl (w .table) (w .place)
+    pub wires-step : (v : List ℕ) (m : ℕ) → Written u (wirePlace k) (wiresGiven (recordAt s) n p) v (wirePlace m)
+        → Laid (wiresGiven (recordAt s) n) (p + 1) t v (wirePlace m)
+    wires-step v m w = laid-step _ t p u _ laid (wiresGiven (recordAt s) n p) v _ refl (w .table) (w .place)
 
     pub wires-end : p ≡ n
-        → (u ≡ overlay (joined wireWords (flatWires (recordAt s) n)) t) × (k ≡ 4 * length (flatWires (recordAt s) n))
+        → (u ≡ overlay (joined wireWords (flatWires (recordAt s) n)) t) × (k ≡ length (flatWires (recordAt s) n))
     wires-end e = (
-      laid-end _ t p u k laid n e wires-all ∙ ap (λ (l : List ℕ). overlay l t) (sym (wires-joined (recordAt s) n)),
-      laid-count _ t p u k laid n e ∙ wires-length (recordAt s) n,
+      laid-end _ t p u _ laid n e wires-all ∙ ap (λ (l : List ℕ). overlay l t) (sym (wires-joined (recordAt s) n)),
+      omega (arith, laid-count _ t p u _ laid n e, wires-length (recordAt s) n),
     )

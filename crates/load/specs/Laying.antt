@@ -25,12 +25,13 @@ use Rattle.flatten.specs.declared.Pin.{Pin}
 use Rattle.flatten.specs.Descent.{inputsBelow, comesFrom, goesTo, flat}
 use Rattle.flatten.specs.Verdict.{verdict}
 use Rattle.tables.specs.declared.End.{End}
+use Rattle.tables.specs.Tables.{componentWords, wireWords}
 use Rattle.load.specs.declared.names.Stood.{Stood}
 use Rattle.load.specs.declared.rows.Drawn.{Drawn}
 use Rattle.load.specs.declared.rows.Drawn.the-variants.{Primitive, Other}
 use Rattle.load.specs.declared.rows.Before.{Before}
 use Rattle.load.specs.declared.wires.Goal.{Goal}
-use Rattle.load.specs.Load.{wireWords, flatPin}
+use Rattle.load.specs.Load.{flatPin}
 
 pub record Written (t : List ℕ) (k : ℕ) (xs : List ℕ) (u : List ℕ) (m : ℕ) : Type 0 where
   pub table : u ≡ sets t k xs
@@ -43,8 +44,7 @@ abbrev pub seen : Record → Drawn
 seen r = seenIf (isPrimitive r) r
 
 abbrev pub componentBy : Id → Fields → Before → List ℕ
-componentBy d f b =
-    f .kind ∷ d .0 ∷ f .width ∷ f .parameter ∷ f .inputs ∷ f .outputs ∷ b .inputs ∷ b .outputs ∷ []
+componentBy d f b = componentWords (d .0) f (b .inputs) (b .outputs)
 
 abbrev pub rowBy : Drawn → Before → List ℕ
 rowBy (Primitive d f) b = componentBy d f b

@@ -11,7 +11,7 @@ use Rattle.primitive.specs.Evaluate.{starting}
 use Rattle.component.specs.declared.Record.{Record}
 use Rattle.component.specs.declared.Verdict.{Verdict}
 use Rattle.component.specs.declared.Verdict.the-variants.{Accepted, Refused}
-use Rattle.component.specs.Record.{recordAt, recordCount, fieldsOf, inputsOf, outputsOf}
+use Rattle.component.specs.Record.{recordAt, recordCount, fieldsOf}
 use Rattle.component.specs.Drawing.{primitivesBefore, inputsBefore, outputsBefore}
 use Rattle.flatten.specs.declared.Pin.{Pin}
 use Rattle.flatten.specs.declared.Lead.{Lead}
@@ -20,11 +20,7 @@ use Rattle.flatten.specs.Verdict.{sized, refused, verdict, verdictGives}
 use Rattle.tables.specs.declared.End.{End}
 use Rattle.tables.specs.declared.Wire.{Wire}
 use Rattle.tables.specs.declared.Answer.{Answer}
-use Rattle.tables.specs.Tables.{Tables, endAt, countsOf, tablesOf, fullSize, answerGives, Changes}
-
--- The words of a wire's entry.
-abbrev pub wireWords : Wire → List ℕ
-wireWords w = w .src .comp .0 ∷ w .src .port ∷ w .dst .comp .0 ∷ w .dst .port ∷ []
+use Rattle.tables.specs.Tables.{Tables, componentWords, endAt, wireWords, countsOf, tablesOf, fullSize, answerGives, Changes}
 
 module _ (at : ℕ → Record) (n : ℕ) where
   -- The primitives, in file order.
@@ -32,10 +28,8 @@ module _ (at : ℕ → Record) (n : ℕ) where
   primitives = primitivesBefore at n
 
   -- The words of a primitive's entry; its ports follow those of the primitives before.
-  abbrev pub componentWords : ℕ → List ℕ
-  componentWords x =
-      fieldsOf (at x) .kind ∷ (at x .id) ∷ fieldsOf (at x) .width ∷ fieldsOf (at x) .parameter ∷ inputsOf (at x) ∷ outputsOf (at x)
-      ∷ inputsBefore at x ∷ outputsBefore at x ∷ []
+  abbrev pub primitiveWords : ℕ → List ℕ
+  primitiveWords x = componentWords (at x .id) (fieldsOf (at x)) (inputsBefore at x) (outputsBefore at x)
 
   -- A port of the drawing as the net has it, its component by flat index.
   abbrev pub flatPin : Pin → End
@@ -52,7 +46,7 @@ module _ (at : ℕ → Record) (n : ℕ) where
   -- The tables after the load of an accepted drawing: all ports 0, a Const's output its value; following a copy of standing; current all components.
   unfoldable pub drawingTables : Tables → Tables
   drawingTables T =
-      tablesOf (overlay (joined componentWords primitives) (T .components)) (overlay (replicate (inputsBefore at n) 0) (T .inputs))
+      tablesOf (overlay (joined primitiveWords primitives) (T .components)) (overlay (replicate (inputsBefore at n) 0) (T .inputs))
       (overlay (joined (λ x. starting (fieldsOf (at x))) primitives) (T .outputs))
       (overlay (joined wireWords flatWires) (T .wires)) (overlay (from 0 (length primitives)) (T .current))
       (overlay standingAtLoad (T .following)) (overlay standingAtLoad (T .standing))

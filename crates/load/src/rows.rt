@@ -7,8 +7,9 @@ ghost use Rattle.lists.specs.Lists.{joined, overlay};
 ghost use Rattle.component.specs.Record.{recordAt, recordCount};
 ghost use Rattle.component.specs.declared.Verdict.the-variants.{Accepted};
 ghost use Rattle.flatten.specs.Verdict.{verdict};
-ghost use Rattle.load.specs.Load.{primitives, componentWords};
-ghost use Rattle.load.specs.Laying.{seen, componentBy, rowBy, beforeBy, beforeAt, outputsBy, startingOf};
+ghost use Rattle.load.specs.Load.{primitives, primitiveWords};
+ghost use Rattle.load.specs.Laying.{seen, rowBy, beforeBy, beforeAt, outputsBy, startingOf};
+ghost use Rattle.tables.specs.Words.{rowPlace};
 use component::Stands;
 use component::component_at;
 use primitive::Fields;
@@ -47,31 +48,23 @@ fn wide(x: u16) -> usize
     x as usize
 }
 
-// Writes the words of a primitive's entry.
-fn write_row(components: &mut [u64], at: usize, id: Id, fields: Fields, before: Before)
-    requires { ⌜ at + 8 ≤ length (now components) ⌝ }
-    ensures { λ _. ⌜ now (components .exit) ≡ sets (now (components .entry)) at (componentBy id fields before) ⌝ }
-{
-    components[at] = fields.kind as u64;
-    components[at + 1] = id.0 as u64;
-    components[at + 2] = fields.width as u64;
-    components[at + 3] = fields.parameter;
-    components[at + 4] = fields.inputs as u64;
-    components[at + 5] = fields.outputs as u64;
-    components[at + 6] = before.inputs as u64;
-    components[at + 7] = before.outputs as u64;
-}
-
 // Lays the entry of a primitive behind those before. The answer is what stands before the next.
 fn lay_component(components: &mut [u64], drawn: Drawn, before: Before) -> Before
-    requires { ⌜ (8 * before .components + length (rowBy drawn before) ≤ length (now components)) × (before .components ≤ 256)
+    requires { ⌜ (rowPlace (before .components) + length (rowBy drawn before) ≤ length (now components)) × (before .components ≤ 256)
         × (before .inputs ≤ 1024) × (before .outputs ≤ 1024) ⌝ }
-    ensures { λ r. ⌜ (now (components .exit) ≡ sets (now (components .entry)) (8 * before .components) (rowBy drawn before)) × (r ≡ beforeBy drawn before) ⌝ }
+    ensures { λ r. ⌜ (now (components .exit) ≡ sets (now (components .entry)) (rowPlace (before .components)) (rowBy drawn before)) × (r ≡ beforeBy drawn before) ⌝ }
 {
     let Drawn::Primitive { id, fields } = drawn else {
         return before;
     };
-    write_row(components, 8 * before.components, id, fields, before);
+    tables::lay_row(
+        components,
+        before.components,
+        id,
+        fields,
+        before.inputs,
+        before.outputs,
+    );
     Before {
         components: before.components + 1,
         inputs: before.inputs + wide(fields.inputs),
@@ -82,7 +75,7 @@ fn lay_component(components: &mut [u64], drawn: Drawn, before: Before) -> Before
 // Lays the entries of all primitives, in file order. The answer is how many there are, and their inputs and outputs.
 pub(crate) fn lay_components(file: &[u8], components: &mut [u64]) -> Before
     requires { ⌜ (verdict (now file) ≡ Accepted) × (2048 ≤ length (now components)) ⌝ }
-    ensures { λ r. ⌜ now (components .exit) ≡ overlay (joined (componentWords (recordAt (now (file .entry))) (recordCount (now (file .entry))))
+    ensures { λ r. ⌜ now (components .exit) ≡ overlay (joined (primitiveWords (recordAt (now (file .entry))) (recordCount (now (file .entry))))
         (primitives (recordAt (now (file .entry))) (recordCount (now (file .entry))))) (now (components .entry)) ⌝ }
     ensures { λ r. ⌜ r ≡ beforeAt (recordAt (now (file .entry))) (recordCount (now (file .entry))) (recordCount (now (file .entry))) ⌝ }
 {

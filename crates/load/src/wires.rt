@@ -10,8 +10,10 @@ ghost use Rattle.component.specs.Drawing.{outMap};
 ghost use Rattle.component.specs.Index.{IsTable};
 ghost use Rattle.component.specs.declared.Verdict.the-variants.{Accepted};
 ghost use Rattle.flatten.specs.Verdict.{verdict};
-ghost use Rattle.load.specs.Load.{wireWords, flatPin, flatWires};
+ghost use Rattle.load.specs.Load.{flatPin, flatWires};
 ghost use Rattle.load.specs.Laying.{Written, IsFlat, Ready, leadWords, reached, wiresGiven};
+ghost use Rattle.tables.specs.Tables.{wireWords};
+ghost use Rattle.tables.specs.Words.{wirePlace};
 use crate::names::index_flat;
 use component::Reading;
 use component::Says;
@@ -28,6 +30,7 @@ use flatten::source_of;
 use flatten::stretch_of;
 use tables::End;
 use tables::FlatIdx;
+use tables::Wire;
 
 // An input of a component, to be led to with the depth left.
 struct Goal {
@@ -47,19 +50,8 @@ fn flat_pin(file: &[u8], n: usize, indexes: &[u16], comp: usize, port: u16) -> E
     }
 }
 
-// Writes the words of a wire.
-fn write_wire(wires: &mut [u16], at: usize, from: End, to: End)
-    requires { ⌜ (at + 4 ≤ length (now wires)) × (from .comp .0 < 65536) × (to .comp .0 < 65536) ⌝ }
-    ensures { λ _. ⌜ now (wires .exit) ≡ sets (now (wires .entry)) at (wireWords (record { src = from; dst = to })) ⌝ }
-{
-    wires[at] = from.comp.0 as u16;
-    wires[at + 1] = from.port;
-    wires[at + 2] = to.comp.0 as u16;
-    wires[at + 3] = to.port;
-}
-
 // Writes a wire from an output to every primitive input that a goal leads to through input maps: in map order, all that one map
-// reaches before the next. The answer is the place behind them.
+// reaches before the next. `at` is the number of the first of them, and the answer the number of the next.
 fn lead(
     file: &[u8],
     n: usize,
@@ -73,35 +65,36 @@ fn lead(
     at: usize,
 ) -> usize
     requires { ⌜ Ready (now file) n (now children) (now lo) (now hi) (now indexes) ⌝ }
-    requires { ⌜ (from .comp .0 < 65536) × (at + length (joined (leadWords (recordAt (now file)) n from) (reached (recordAt (now file)) n goal)) ≤ length
+    requires { ⌜ (from .comp .0 < 65536) × (wirePlace at + length (joined (leadWords (recordAt (now file)) n from) (reached (recordAt (now file)) n goal)) ≤ length
         (now wires)) ⌝ }
-    ensures { λ r. ⌜ Written (now (wires .entry)) at (joined (leadWords (recordAt (now (file .entry))) n from)
-        (reached (recordAt (now (file .entry))) n goal)) (now (wires .exit)) r ⌝ }
+    ensures { λ r. ⌜ Written (now (wires .entry)) (wirePlace at) (joined (leadWords (recordAt (now (file .entry))) n from)
+        (reached (recordAt (now (file .entry))) n goal)) (now (wires .exit)) (wirePlace r) ⌝ }
 {
     if goal.depth == 0 {
         return at;
     }
     if is_primitive_at(file, goal.comp) {
         let to = flat_pin(file, n, indexes, goal.comp, goal.port);
-        write_wire(wires, at, from, to);
-        return at + 4;
+        let wire = Wire { src: from, dst: to };
+        tables::lay_wire(wires, at, wire);
+        return at + 1;
     }
     let maps = stretch_of(file, n, lo, hi, goal.comp);
     let end = maps.end;
     let depth = goal.depth - 1;
-    let mut place = at;
+    let mut next = at;
     let mut q = maps.first;
     while q < end {
         if let Entered::To(comp, port) = enter(file, n, children, goal.comp, goal.port, q) {
-            let next = Goal { comp, port, depth };
-            place = lead(file, n, children, lo, hi, indexes, from, next, wires, place);
+            let inner = Goal { comp, port, depth };
+            next = lead(file, n, children, lo, hi, indexes, from, inner, wires, next);
         }
         q += 1;
     }
-    place
+    next
 }
 
-// Writes the wires of the record at p, if it is a connection. The answer is the place behind them.
+// Writes the wires of the record at p, if it is a connection. The answer is the number of the next.
 fn connect(
     file: &[u8],
     n: usize,
@@ -116,8 +109,8 @@ fn connect(
 ) -> usize
     requires { ⌜ Ready (now file) n (now children) (now lo) (now hi) (now indexes) ⌝ }
     requires { ⌜ IsTable 64 (outMap (recordAt (now file)) n) (now outs) ⌝ }
-    requires { ⌜ (p < n) × (at + length (wiresGiven (recordAt (now file)) n p) ≤ length (now wires)) ⌝ }
-    ensures { λ r. ⌜ Written (now (wires .entry)) at (wiresGiven (recordAt (now (file .entry))) n p) (now (wires .exit)) r ⌝ }
+    requires { ⌜ (p < n) × (wirePlace at + length (wiresGiven (recordAt (now file)) n p) ≤ length (now wires)) ⌝ }
+    ensures { λ r. ⌜ Written (now (wires .entry)) (wirePlace at) (wiresGiven (recordAt (now (file .entry))) n p) (now (wires .exit)) (wirePlace r) ⌝ }
 {
     let Reading::Taken { owner, says } = record_at(file, p) else {
         return at;
@@ -142,7 +135,7 @@ fn connect(
     lead(file, n, children, lo, hi, indexes, flat, goal, wires, at)
 }
 
-// Writes the wires of all connections, in their order. The answer is the place behind them.
+// Writes the wires of all connections, in their order. The answer is how many there are.
 fn connect_all(
     file: &[u8],
     n: usize,
@@ -157,7 +150,7 @@ fn connect_all(
     requires { ⌜ IsTable 64 (outMap (recordAt (now file)) n) (now outs) ⌝ }
     requires { ⌜ 4096 ≤ length (now wires) ⌝ }
     ensures { λ r. ⌜ (now (wires .exit) ≡ overlay (joined wireWords (flatWires (recordAt (now (file .entry))) n)) (now (wires .entry)))
-        × (r ≡ 4 * length (flatWires (recordAt (now (file .entry))) n)) ⌝ }
+        × (r ≡ length (flatWires (recordAt (now (file .entry))) n)) ⌝ }
 {
     let mut at: usize = 0;
     let mut p: usize = 0;
@@ -185,5 +178,5 @@ pub(crate) fn lay_wires(file: &[u8], wires: &mut [u16]) -> usize
     index_outs(file, n, &mut outs);
     index_ranges(file, n, &mut lo, &mut hi);
     index_flat(file, &mut indexes);
-    connect_all(file, n, &children, &outs, &lo, &hi, &indexes, wires) / 4
+    connect_all(file, n, &children, &outs, &lo, &hi, &indexes, wires)
 }

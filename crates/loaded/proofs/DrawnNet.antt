@@ -30,8 +30,8 @@ use Rattle.tables.specs.declared.Wire.{Wire}
 use Rattle.tables.specs.Tables.{Tables, fieldsAt, idAt, firstInput, firstOutput, inputPlace, indexes}
 use Rattle.load.specs.Load.{flatPin, flatWires}
 use Rattle.load.proofs.FlatWires.{enteredEnds, flatWires-sound, flatWires-distinct}
-use Rattle.net.specs.Net.{kindsObeyed, idsDistinct, inputSum, outputSum, portsFollow, isOutput, isInput, wiresFit}
-use Rattle.net.specs.Net.{inputsOnce}
+use Rattle.net.specs.Net.{kindsObeyed, idsDistinct, inputSum, outputSum, portsFollow, wiresFit}
+use Rattle.net.specs.Net.{inputsOnce, wireFits}
 use Rattle.loaded.proofs.Drawn.{IsDrawn, drawn-primitive, drawn-every, drawn-isOutput, drawn-isInput}
 use Rattle.loaded.proofs.Drawn.{drawn-inputPlace-inj}
 
@@ -76,33 +76,28 @@ module _ (at : ℕ → Record) (n : ℕ) (p : Passed at n) (U : Tables) (d : IsD
   pub drawn-portsFollow : portsFollow U ≡ true
   unfolding portsFollow
   drawn-portsFollow =
-      let inputs : (m : ℕ) → inputSum (U .components) (flat at n m) ≡ inputsBefore at m = portsBelow (λ f. f .inputs) in
-      let outputs : (m : ℕ) → outputSum (U .components) (flat at n m) ≡ outputsBefore at m = portsBelow (λ f. f .outputs) in
+      let inputs : (m : ℕ) → inputSum U (flat at n m) ≡ inputsBefore at m = portsBelow (λ f. f .inputs) in
+      let outputs : (m : ℕ) → outputSum U (flat at n m) ≡ outputsBefore at m = portsBelow (λ f. f .outputs) in
       let follows : ℕ → Bool =
-      λ i. eqb (firstInput U i) (inputSum (U .components) i) && eqb (firstOutput U i) (outputSum (U .components) i) in
+      λ i. eqb (firstInput U i) (inputSum U i) && eqb (firstOutput U i) (outputSum U i) in
       let each : every follows (indexes U) ≡ true =
       drawn-every at n U d follows
       (λ c e. rw (
         eq-eqb _ _ (d .first-input c e ∙ sym (inputs c)),
         eq-eqb _ _ (d .first-output c e ∙ sym (outputs c)),
       )) in
-      let all-inputs : U .counts .inputs ≡ inputSum (U .components) (U .counts .components) =
-      d .input-count ∙ sym (inputs n) ∙ ap (inputSum (U .components)) (sym (d .component-count)) in
-      let all-outputs : U .counts .outputs ≡ outputSum (U .components) (U .counts .components) =
-      d .output-count ∙ sym (outputs n) ∙ ap (outputSum (U .components)) (sym (d .component-count)) in
+      let all-inputs : U .counts .inputs ≡ inputSum U (U .counts .components) =
+      d .input-count ∙ sym (inputs n) ∙ ap (inputSum U) (sym (d .component-count)) in
+      let all-outputs : U .counts .outputs ≡ outputSum U (U .counts .components) =
+      d .output-count ∙ sym (outputs n) ∙ ap (outputSum U) (sym (d .component-count)) in
       rw (each, eq-eqb _ _ all-inputs, eq-eqb _ _ all-outputs)
 
   -- Wires have ends that exist and equal widths.
   pub drawn-wiresFit : wiresFit U ≡ true
   unfolding wiresFit
-  drawn-wiresFit = ap (every fit) (d .wires) ∙ every-complete fit (flatWires at n) each
+  drawn-wiresFit = ap (every (wireFits U)) (d .wires) ∙ every-complete (wireFits U) (flatWires at n) each
     where
-      fit : Wire → Bool
-      fit w =
-          isOutput U (w .src) && isInput U (w .dst)
-          && eqb (outputWidth (fieldsAt U (w .src .comp .0))) (inputWidth (fieldsAt U (w .dst .comp .0)))
-
-      each : (v : Wire) → In v (flatWires at n) → fit v ≡ true
+      each : (v : Wire) → In v (flatWires at n) → wireFits U v ≡ true
       each v h =
           let r = flatWires-sound at n v h in
           let w = r .0 in
@@ -112,7 +107,7 @@ module _ (at : ℕ → Record) (n : ℕ) (p : Passed at n) (U : Tables) (d : IsD
           let into = drawn-isInput at n p U d (w .dst) enters in
           let outputBelow = d .fields (w .src .comp) (leaves .of-primitive) in
           let target = d .fields (w .dst .comp) (enters .of-primitive) in
-          ap fit (r .2)
+          ap (wireFits U) (r .2)
           ∙ (λ j. out j && into j && eqb (outputWidth (outputBelow j)) (inputWidth (target j)))
           ∙ eq-eqb _ _ (wires-width at n p w (r .1))
 

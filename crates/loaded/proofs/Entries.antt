@@ -16,8 +16,8 @@ use Rattle.flatten.specs.Descent.{flat}
 use Rattle.flatten.proofs.Accepted.{Passed}
 use Rattle.flatten.proofs.Primitives.{primitive-below, flat-below, flat-place}
 use Rattle.tables.specs.declared.Wire.{Wire}
-use Rattle.tables.specs.Tables.{Tables, wordIn, endAt, fieldsAt, idAt, firstInput, firstOutput, wireAt, wiresIn}
-use Rattle.load.specs.Load.{wireWords, primitives, componentWords, flatWires, drawingTables}
+use Rattle.tables.specs.Tables.{Tables, wordIn, endAt, fieldsAt, idAt, firstInput, firstOutput, wireAt, wiresIn, wireWords}
+use Rattle.load.specs.Load.{primitives, primitiveWords, flatWires, drawingTables}
 use Rattle.load.proofs.FlatWires.{wire}
 
 -- What stands past the last wire; no law depends on it.
@@ -36,8 +36,7 @@ module _ (at : ℕ → Record) (n : ℕ) (T : Tables) where
   loaded-wire : (i : ℕ) → i < length (flatWires at n)
       → wireAt (drawingTables at n T) i ≡ getD (flatWires at n) i noWire
   loaded-wire i h =
-      let z : 4 * i ≡ 4 * i + 0 = omega arith in
-      let a = ap (λ (p : ℕ). getD (drawingTables at n T .wires) p 0) z ∙ wire-word i 0 h (omega arith) in
+      let a = wire-word i 0 h (omega arith) in
       let b = wire-word i 1 h (omega arith) in
       let c = wire-word i 2 h (omega arith) in
       let e = wire-word i 3 h (omega arith) in
@@ -52,12 +51,12 @@ module _ (at : ℕ → Record) (n : ℕ) (T : Tables) where
 module _ (at : ℕ → Record) (n : ℕ) (d : Passed at n) (T : Tables) where
   -- The eight words of a primitive's entry are those that its record says.
   pub loaded-word : (c k : ℕ) → isPrimitive (at c) ≡ true → k < 8
-      → wordIn ((drawingTables at n T) .components) (flat at n c) k ≡ getD (componentWords at n c) k 0
+      → wordIn ((drawingTables at n T) .components) (flat at n c) k ≡ getD (primitiveWords at n c) k 0
   unfolding drawingTables
   loaded-word c k e h =
-      overlay-entry (componentWords at n) 8 (λ x. refl) (primitives at n) (T .components) (flat at n c) k n
+      overlay-entry (primitiveWords at n) 8 (λ x. refl) (primitives at n) (T .components) (flat at n c) k n
       (flat-below at n d c e) h
-      ∙ ap (λ (x : ℕ). getD (componentWords at n x) k 0) (flat-place at n c n n e (primitive-below at n d c e))
+      ∙ ap (λ (x : ℕ). getD (primitiveWords at n x) k 0) (flat-place at n c n n e (primitive-below at n d c e))
 
   -- At the flat index of a primitive stand its record's fields,
   pub loaded-fields : (c : ℕ) → isPrimitive (at c) ≡ true → fieldsAt (drawingTables at n T) (flat at n c) ≡ fieldsOf (at c)

@@ -15,8 +15,8 @@ use Rattle.flatten.proofs.Accepted.{Passed}
 use Rattle.flatten.proofs.Primitives.{primitives-bound, inputs-bound, outputs-bound}
 use Rattle.tables.proofs.SizesLaws.{fullSize-sound}
 use Rattle.tables.proofs.SameLaws.{SameLengths}
-use Rattle.tables.specs.Tables.{Tables, fullSize, currentList, followingList, standingList}
-use Rattle.load.specs.Load.{wireWords, primitives, componentWords, flatWires, standingAtLoad, drawingTables}
+use Rattle.tables.specs.Tables.{Tables, fullSize, currentList, followingList, standingList, wireWords}
+use Rattle.load.specs.Load.{primitives, primitiveWords, flatWires, standingAtLoad, drawingTables}
 use Rattle.load.proofs.FlatWires.{flatWires-bound}
 use Rattle.load.specs.Laying.{startingOf}
 use Rattle.load.proofs.StandingLaws.{standing-bound}
@@ -52,8 +52,8 @@ module _ (at : ℕ → Record) (n : ℕ) (d : Passed at n) where
       let stand = standing-bound at n d in
       record {
         components =
-            overlay-length (joined (componentWords at n) (primitives at n)) (T .components)
-            (omega (arith, joined-width (componentWords at n) 8 (λ c. refl) (primitives at n), s .components));
+            overlay-length (joined (primitiveWords at n) (primitives at n)) (T .components)
+            (omega (arith, joined-width (primitiveWords at n) 8 (λ c. refl) (primitives at n), s .components));
         inputs =
             overlay-length (replicate (inputsBefore at n) 0) (T .inputs)
             (omega (arith, length-replicate {A = ℕ} (inputsBefore at n) 0, inputs-bound at n d, s .inputs));

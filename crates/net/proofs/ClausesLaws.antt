@@ -13,14 +13,14 @@ use Rattle.lists.proofs.ListsLaws.{and-left, and-right, every-from, every-end}
 use Rattle.primitive.specs.Kinds.{primitive, obeys, inputWidth, outputWidth}
 use Rattle.tables.specs.declared.Wire.{Wire}
 use Rattle.tables.specs.declared.Counts.{Counts}
-use Rattle.tables.specs.Tables.{Tables, wordIn, fieldsIn, fieldsAt, firstInput, firstOutput, inputPlace, wireAt}
-use Rattle.tables.specs.Words.{fieldsFit}
+use Rattle.tables.specs.Tables.{Tables, fieldsAt, firstInput, firstOutput, inputPlace, wireAt}
+use Rattle.tables.specs.Words.{fieldsFit, wireIn, uncounted}
 use Rattle.tables.proofs.RowsLaws.{obeyed-fit, fieldsFit-inputs, fieldsFit-outputs}
 use Rattle.tables.proofs.PartsLaws.{AllTrue, parts-sound}
-use Rattle.net.specs.Net.{countsWithin, kindsObeyed, portsFollow, isOutput, isInput, wiresFit, inputsOnce}
-use Rattle.net.specs.Parts.{lent, targetIn, placeIn, wireRight, PortsInside}
+use Rattle.net.specs.Net.{countsWithin, kindsObeyed, portsFollow, wiresFit, inputsOnce}
+use Rattle.net.specs.Parts.{lent, placeIn, PortsInside, obeyedAt, followAt}
 use Rattle.net.proofs.LoopsLaws.{every-map, map-map, total-room}
-use Rattle.net.specs.Net.{obeyedAt, inputSum, outputSum, followAt}
+use Rattle.net.specs.Net.{inputSum, outputSum, wireFits}
 
 -- "counts are within these limits"
 pub record Within (m : Counts) : Type 0 where
@@ -84,8 +84,8 @@ pub portsFollow-fails : (cs : List ℕ) (m : Counts) → false ≡ every (follow
 unfolding portsFollow
 portsFollow-fails cs m e = let z : every (followAt cs) (from 0 (m .components)) ≡ false = sym e in rw z
 
-pub portsFollow-end : (cs : List ℕ) (m : Counts) (i ins outs : ℕ) → i ≡ m .components → ins ≡ inputSum cs i
-    → outs ≡ outputSum cs i → every (followAt cs) (from i (m .components - i))
+pub portsFollow-end : (cs : List ℕ) (m : Counts) (i ins outs : ℕ) → i ≡ m .components → ins ≡ inputSum (uncounted cs []) i
+    → outs ≡ outputSum (uncounted cs []) i → every (followAt cs) (from i (m .components - i))
     ≡ every (followAt cs) (from 0 (m .components))
     → (eqb (m .inputs) ins && eqb (m .outputs) outs) ≡ portsFollow (lent cs [] [] [] m)
 unfolding portsFollow
@@ -103,30 +103,30 @@ module _ (T : Tables) (e : portsFollow T ≡ true) where
   abbrev n : ℕ
   n = T .counts .components
 
-  follow-parts : AllTrue (every (followAt cs) (from 0 n) ∷ eqb (T .counts .inputs) (inputSum (T .components) n)
-      ∷ eqb (T .counts .outputs) (outputSum (T .components) n) ∷ [])
+  follow-parts : AllTrue (every (followAt cs) (from 0 n) ∷ eqb (T .counts .inputs) (inputSum T n)
+      ∷ eqb (T .counts .outputs) (outputSum T n) ∷ [])
   unfolding portsFollow
   follow-parts =
       parts-sound (every (followAt cs) (from 0 n))
-      (eqb (T .counts .inputs) (inputSum (T .components) n) ∷ eqb (T .counts .outputs) (outputSum (T .components) n) ∷ []) e
+      (eqb (T .counts .inputs) (inputSum T n) ∷ eqb (T .counts .outputs) (outputSum T n) ∷ []) e
 
-  pub portsFollow-inputCount : T .counts .inputs ≡ inputSum (T .components) n
-  portsFollow-inputCount = eqb-true (T .counts .inputs) (inputSum (T .components) n) (follow-parts .1 .0)
+  pub portsFollow-inputCount : T .counts .inputs ≡ inputSum T n
+  portsFollow-inputCount = eqb-true (T .counts .inputs) (inputSum T n) (follow-parts .1 .0)
 
-  pub portsFollow-outputCount : T .counts .outputs ≡ outputSum (T .components) n
-  portsFollow-outputCount = eqb-true (T .counts .outputs) (outputSum (T .components) n) (follow-parts .1 .1 .0)
+  pub portsFollow-outputCount : T .counts .outputs ≡ outputSum T n
+  portsFollow-outputCount = eqb-true (T .counts .outputs) (outputSum T n) (follow-parts .1 .1 .0)
 
   module _ (i : ℕ) (h : i < n) where
-    pub portsFollow-firstInput : firstInput T i ≡ inputSum (T .components) i
+    pub portsFollow-firstInput : firstInput T i ≡ inputSum T i
     portsFollow-firstInput =
-        eqb-true (firstInput T i) (inputSum (T .components) i)
-        (and-left (eqb (firstInput T i) (inputSum (T .components) i)) (eqb (firstOutput T i) (outputSum (T .components) i))
+        eqb-true (firstInput T i) (inputSum T i)
+        (and-left (eqb (firstInput T i) (inputSum T i)) (eqb (firstOutput T i) (outputSum T i))
         (every-from (followAt cs) n (follow-parts .0) i h))
 
-    pub portsFollow-firstOutput : firstOutput T i ≡ outputSum (T .components) i
+    pub portsFollow-firstOutput : firstOutput T i ≡ outputSum T i
     portsFollow-firstOutput =
-        eqb-true (firstOutput T i) (outputSum (T .components) i)
-        (and-right (eqb (firstInput T i) (inputSum (T .components) i)) (eqb (firstOutput T i) (outputSum (T .components) i))
+        eqb-true (firstOutput T i) (outputSum T i)
+        (and-right (eqb (firstInput T i) (inputSum T i)) (eqb (firstOutput T i) (outputSum T i))
         (every-from (followAt cs) n (follow-parts .0) i h))
 
     pub portsFollow-inputs : firstInput T i + fieldsAt T i .inputs ≤ T .counts .inputs
@@ -157,17 +157,24 @@ module _ (T : Tables) (e : portsFollow T ≡ true) where
           total-room (λ k. fieldsAt T k .outputs) i j l,
         )
 
--- "wires have ends that exist and equal widths": where a component of wire k does not exist, and where both do.
-module _ (cs ws : List ℕ) (n k : ℕ) where
+-- "wires have ends that exist and equal widths": where a component of a wire does not exist, and where both do.
+module _ (T : Tables) (w : Wire) where
   abbrev ends : Bool
-  ends = ltb (getD ws (4 * k) 0) n && ltb (targetIn ws k) n
+  ends = ltb (w .src .comp .0) (T .counts .components) && ltb (w .dst .comp .0) (T .counts .components)
 
-  pub wireRight-none : ends ≡ false → false ≡ wireRight cs ws n k
-  wireRight-none e =
-      none (ltb (getD ws (4 * k) 0) n) (ltb (targetIn ws k) n)
-      (ltb (getD ws (4 * k + 1) 0) (wordIn cs (getD ws (4 * k) 0) 5))
-      (ltb (getD ws (4 * k + 3) 0) (wordIn cs (targetIn ws k) 4))
-      (eqb (outputWidth (fieldsIn cs (getD ws (4 * k) 0))) (inputWidth (fieldsIn cs (targetIn ws k)))) e
+  abbrev source-port : Bool
+  source-port = ltb (w .src .port) (fieldsAt T (w .src .comp .0) .outputs)
+
+  abbrev target-port : Bool
+  target-port = ltb (w .dst .port) (fieldsAt T (w .dst .comp .0) .inputs)
+
+  abbrev widths : Bool
+  widths = eqb (outputWidth (fieldsAt T (w .src .comp .0))) (inputWidth (fieldsAt T (w .dst .comp .0)))
+
+  pub wireFits-none : ends ≡ false → false ≡ wireFits T w
+  wireFits-none e =
+      none (ltb (w .src .comp .0) (T .counts .components)) (ltb (w .dst .comp .0) (T .counts .components))
+      source-port target-port widths e
     where
       none : (a b x y z : Bool) → (a && b) ≡ false → false ≡ ((a && x) && (b && y) && z)
       none true true x y z e = absurd (true≢false e)
@@ -175,29 +182,20 @@ module _ (cs ws : List ℕ) (n k : ℕ) where
       none true false false y z e = refl
       none false b x y z e = refl
 
-  pub wireRight-both : ends ≡ true
-      → (ltb (getD ws (4 * k + 1) 0) (wordIn cs (getD ws (4 * k) 0) 5)
-      && ltb (getD ws (4 * k + 3) 0) (wordIn cs (targetIn ws k) 4)
-      && eqb (outputWidth (fieldsIn cs (getD ws (4 * k) 0))) (inputWidth (fieldsIn cs (targetIn ws k))))
-      ≡ wireRight cs ws n k
-  wireRight-both e =
-      let a = and-left (ltb (getD ws (4 * k) 0) n) (ltb (targetIn ws k) n) e in
-      let b = and-right (ltb (getD ws (4 * k) 0) n) (ltb (targetIn ws k) n) e in
+  pub wireFits-both : ends ≡ true → (source-port && target-port && widths) ≡ wireFits T w
+  wireFits-both e =
+      let a = and-left (ltb (w .src .comp .0) (T .counts .components)) (ltb (w .dst .comp .0) (T .counts .components)) e in
+      let b = and-right (ltb (w .src .comp .0) (T .counts .components)) (ltb (w .dst .comp .0) (T .counts .components)) e in
       rw (a, b)
 
 module _ (cs ws : List ℕ) (m : Counts) where
   abbrev T : Tables
   T = lent cs [] [] ws m
 
-  abbrev right : Wire → Bool
-  right w =
-      isOutput T (w .src) && isInput T (w .dst)
-      && eqb (outputWidth (fieldsAt T (w .src .comp .0))) (inputWidth (fieldsAt T (w .dst .comp .0)))
-
   -- All wires, by their places in the table.
-  pub wiresFit-every : every (wireRight cs ws (m .components)) (from 0 (m .wires)) ≡ wiresFit T
+  pub wiresFit-every : every (λ k. wireFits (lent cs [] [] [] m) (wireIn ws k)) (from 0 (m .wires)) ≡ wiresFit T
   unfolding wiresFit
-  wiresFit-every = every-map right (wireAt T) (from 0 (m .wires))
+  wiresFit-every = every-map (wireFits T) (wireAt T) (from 0 (m .wires))
 
   -- "no input has two wires"
   pub inputsOnce-places : distinct (map (placeIn cs ws) (from 0 (m .wires))) ≡ inputsOnce T

@@ -20,12 +20,12 @@ use Rattle.primitive.specs.Kinds.{is, inputWidth, outputWidth}
 use Rattle.tables.specs.declared.End.{End}
 use Rattle.tables.specs.declared.Wire.{Wire}
 use Rattle.tables.specs.declared.Counts.{Counts}
-use Rattle.tables.specs.Tables.{Tables, fullSize, wordIn, fieldsAt, firstOutput, inputPlace, inputsAt, outputsAt, wireAt, wiresIn, currentList, followingList, standingList}
+use Rattle.tables.specs.Tables.{Tables, fullSize, fieldsAt, firstOutput, inputPlace, inputsAt, outputsAt, wireAt, wiresIn, currentList, followingList, standingList}
 use Rattle.tables.proofs.PartsLaws.{AllTrue, parts-sound, parts-complete}
 use Rattle.tables.proofs.SizesLaws.{Full, fullSize-sound}
 use Rattle.net.specs.Net.{countsWithin, kindsObeyed, idsDistinct, portsFollow, valuesFit, constsHeld, isOutput, isInput, wiresFit, inputsOnce, names, isCircuit, isNet, netNumber}
-use Rattle.net.specs.Parts.{lent, targetIn, PlacesInside}
-use Rattle.net.specs.Net.{fitAt, heldAt}
+use Rattle.net.specs.Parts.{lent, PlacesInside, fitAt, heldAt}
+use Rattle.net.specs.Net.{wireFits}
 use Rattle.net.proofs.ClausesLaws.{Within, countsWithin-sound, portsFollow-inputs}
 
 -- The clauses.
@@ -149,18 +149,13 @@ module _ (T : Tables) where
 
 -- "wires have ends that exist and equal widths"
 module _ (T : Tables) (e : wiresFit T ≡ true) (w : Wire) (h : In w (wiresIn T)) where
-  abbrev right : Wire → Bool
-  right w =
-      isOutput T (w .src) && isInput T (w .dst)
-      && eqb (outputWidth (fieldsAt T (w .src .comp .0))) (inputWidth (fieldsAt T (w .dst .comp .0)))
-
   wire-parts : AllTrue (isOutput T (w .src) ∷ isInput T (w .dst)
       ∷ eqb (outputWidth (fieldsAt T (w .src .comp .0))) (inputWidth (fieldsAt T (w .dst .comp .0))) ∷ [])
   unfolding wiresFit
   wire-parts =
       parts-sound (isOutput T (w .src)) (isInput T (w .dst)
       ∷ eqb (outputWidth (fieldsAt T (w .src .comp .0))) (inputWidth (fieldsAt T (w .dst .comp .0))) ∷ [])
-      (every-sound right w (wiresIn T) e h)
+      (every-sound (wireFits T) w (wiresIn T) e h)
 
   pub wiresFit-source : isOutput T (w .src) ≡ true
   wiresFit-source = wire-parts .0
@@ -179,9 +174,9 @@ placesInside cs m few follow ws e k h =
     let T : Tables = lent cs [] [] ws m in
     let stored = map-complete (wireAt T) k (from 0 (m .wires)) (from0-complete (m .wires) k h) in
     let there = wiresFit-target T e (wireAt T k) stored in
-    let t : targetIn ws k < m .components = isInput-comp T (wireAt T k .dst) there in
-    let p : getD ws (4 * k + 3) 0 < wordIn cs (targetIn ws k) 4 = isInput-port T (wireAt T k .dst) there in
-    (omega arith, omega (arith, portsFollow-inputs (lent cs [] [] [] m) follow (targetIn ws k) t))
+    let t = isInput-comp T (wireAt T k .dst) there in
+    let p = isInput-port T (wireAt T k .dst) there in
+    omega (arith, portsFollow-inputs (lent cs [] [] [] m) follow (wireAt T k .dst .comp .0) t)
 
 -- "no input has two wires"
 pub inputsOnce-sound : (T : Tables) → inputsOnce T ≡ true

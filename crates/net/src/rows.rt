@@ -4,13 +4,11 @@ ghost use mathlib.Core.Bool.{true};
 ghost use mathlib.Core.List.{[]};
 ghost use Prim.Native.Nat.{_<_, _≤_};
 ghost use Rattle.net.specs.Net.{kindsObeyed, portsFollow};
-ghost use Rattle.net.specs.Parts.{lent};
-ghost use Rattle.net.specs.Net.{obeyedAt};
+ghost use Rattle.net.specs.Parts.{lent, obeyedAt};
 use tables::Counts;
 
 // Whether component i is of kinds 1 to 13 and obeys the table of kinds. A word that no field can hold obeys nothing.
 fn row_obeyed(components: &[u64], i: usize) -> bool
-    requires { ⌜ i < 65536 ⌝ }
     ensures { λ r. ⌜ r ≡ obeyedAt (now (components .entry)) i ⌝ }
 {
     if !tables::fields_fit(components, i) {
@@ -22,7 +20,6 @@ fn row_obeyed(components: &[u64], i: usize) -> bool
 
 // Whether all components are and do.
 pub(crate) fn kinds_obeyed(components: &[u64], counts: Counts) -> bool
-    requires { ⌜ counts .components ≤ 256 ⌝ }
     ensures { λ r. ⌜ r ≡ kindsObeyed (lent (now (components .entry)) [] [] [] counts) ⌝ }
 {
     let n = counts.components;
@@ -42,18 +39,18 @@ pub(crate) fn ports_follow(components: &[u64], counts: Counts) -> bool
     ensures { λ r. ⌜ r ≡ portsFollow (lent (now (components .entry)) [] [] [] counts) ⌝ }
 {
     let n = counts.components;
-    let mut inputs: u64 = 0;
-    let mut outputs: u64 = 0;
+    let mut inputs: usize = 0;
+    let mut outputs: usize = 0;
     let mut i: usize = 0;
     while i < n {
-        let first_input = tables::word_of(components, i, 6);
-        let first_output = tables::word_of(components, i, 7);
+        let first_input = tables::first_input(components, i);
+        let first_output = tables::first_output(components, i);
         if !((first_input == inputs) & (first_output == outputs)) {
             return false;
         }
-        inputs += tables::word_of(components, i, 4);
-        outputs += tables::word_of(components, i, 5);
+        inputs += tables::input_count(components, i);
+        outputs += tables::output_count(components, i);
         i += 1;
     }
-    (counts.inputs as u64 == inputs) & (counts.outputs as u64 == outputs)
+    (counts.inputs == inputs) & (counts.outputs == outputs)
 }

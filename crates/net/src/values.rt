@@ -6,11 +6,11 @@ ghost use Prim.Native.Nat.{_+_, _<_, _≤_};
 ghost use lib.ListN.{length};
 ghost use Rattle.lists.specs.Lists.{every};
 ghost use Rattle.value.specs.Value.{below};
-ghost use Rattle.tables.specs.Tables.{fieldsIn, numbers};
-ghost use Rattle.tables.specs.Words.{fieldsFit};
+ghost use Rattle.tables.specs.Tables.{numbers};
+ghost use Rattle.tables.specs.Words.{fieldsFit, fieldsIn};
 ghost use Rattle.net.specs.Net.{kindsObeyed, valuesFit, constsHeld};
-ghost use Rattle.net.specs.Parts.{lent, InputsInside, OutputsInside, PortsInside};
-ghost use Rattle.net.specs.Net.{fitAt, heldAt};
+ghost use Rattle.net.specs.Parts.{lent, InputsInside, OutputsInside, PortsInside, fitAt, heldAt};
+use primitive::Kind;
 use tables::Counts;
 
 // Whether the numbers of `count` ports that start at `start` lie below 2^width.
@@ -31,13 +31,13 @@ fn all_below(ports: &[u64], start: usize, count: usize, width: u64) -> bool
 
 // Whether the values of component i fit its ports.
 fn row_fits(components: &[u64], inputs: &[u64], outputs: &[u64], i: usize) -> bool
-    requires { ⌜ (i < 65536) × (fieldsFit (fieldsIn (now components) i) ≡ true) × InputsInside (now components) (now inputs) i
+    requires { ⌜ (fieldsFit (fieldsIn (now components) i) ≡ true) × InputsInside (now components) (now inputs) i
         × OutputsInside (now components) (now outputs) i ⌝ }
     ensures { λ r. ⌜ r ≡ fitAt (now (components .entry)) (now (inputs .entry)) (now (outputs .entry)) i ⌝ }
 {
     let f = tables::fields_at(components, i);
-    let first_input = tables::word_of(components, i, 6) as usize;
-    let first_output = tables::word_of(components, i, 7) as usize;
+    let first_input = tables::first_input(components, i);
+    let first_output = tables::first_output(components, i);
     let entering = primitive::input_width(f);
     let leaving = primitive::output_width(f);
     all_below(inputs, first_input, f.inputs as usize, entering)
@@ -51,7 +51,7 @@ pub(crate) fn values_fit(
     outputs: &[u64],
     counts: Counts,
 ) -> bool
-    requires { ⌜ (counts .components ≤ 256) × (kindsObeyed (lent (now components) [] [] [] counts) ≡ true)
+    requires { ⌜ (kindsObeyed (lent (now components) [] [] [] counts) ≡ true)
         × PortsInside (now components) (now inputs) (now outputs) (counts .components) ⌝ }
     ensures { λ r. ⌜ r ≡ valuesFit (lent (now (components .entry)) (now (inputs .entry)) (now (outputs .entry)) [] counts) ⌝ }
 {
@@ -68,18 +68,14 @@ pub(crate) fn values_fit(
 
 // Whether component i, where it is a Const, holds its value.
 fn row_held(components: &[u64], outputs: &[u64], i: usize) -> bool
-    requires { ⌜ i < 65536 ⌝ }
     ensures { λ r. ⌜ r ≡ heldAt (now (components .entry)) (now (outputs .entry)) i ⌝ }
 {
-    let kind = tables::word_of(components, i, 0);
-    let parameter = tables::word_of(components, i, 3);
-    let first = tables::word_of(components, i, 7) as usize;
-    !(kind == 13) | (tables::word(outputs, first) == parameter)
+    let held = tables::word(outputs, tables::first_output(components, i));
+    !tables::is_kind(components, i, Kind::Const) | (held == tables::parameter_word(components, i))
 }
 
 // Whether each Const's output is its value.
 pub(crate) fn consts_held(components: &[u64], outputs: &[u64], counts: Counts) -> bool
-    requires { ⌜ counts .components ≤ 256 ⌝ }
     ensures { λ r. ⌜ r ≡ constsHeld (lent (now (components .entry)) [] (now (outputs .entry)) [] counts) ⌝ }
 {
     let n = counts.components;

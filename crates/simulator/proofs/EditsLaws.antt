@@ -18,11 +18,13 @@ use Rattle.primitive.specs.Kinds.{is, primitive, obeys, inputWidth, outputWidth
 use Rattle.primitive.specs.Given.{refusedBy}
 use Rattle.tables.specs.declared.Counts.{Counts}
 use Rattle.tables.specs.declared.Answer.the-variants.{Done, Refused}
-use Rattle.tables.specs.Tables.{Tables, tablesOf, fieldsAt, fieldsIn, wordIn, firstInput, firstOutput, standingList}
+use Rattle.tables.specs.Tables.{Tables, tablesOf, fieldsAt, firstInput, firstOutput, standingList}
+use Rattle.tables.specs.Words.{fieldsIn, firstInputIn, firstOutputIn}
 use Rattle.net.specs.Net.{netNumber}
 use Rattle.net.proofs.NetLaws.{netNumber-net, netNumber-sizes}
 use Rattle.simulator.specs.Round.{leave, editedState}
 use Rattle.simulator.specs.Calls.{driven, editNumber, editTables, Edits}
+use Rattle.simulator.specs.declared.questions.Tip.the-variants.{Target}
 use Rattle.simulator.specs.Asked.{ends, editRefusal}
 use Rattle.simulator.proofs.EndsLaws.{driven-ends}
 use Rattle.simulator.proofs.Evaluation.{switch-outputs, input-inputs}
@@ -39,7 +41,7 @@ module _ (cs ws : List ℕ) (m : Counts) (i v : ℕ) where
 
   module _ (h : i < m .components) (s q d : Bool) (es : s ≡ is Switch (fieldsIn cs i))
       (eq : q ≡ is Input (fieldsIn cs i))
-      (ed : d ≡ ends ws (m .wires) 2 i) where
+      (ed : d ≡ ends ws (m .wires) Target i) where
     pub edit-18 : not (s || (q && not d)) ≡ true → 18 ≡ editRefusal cs ws m i v
     unfolding editRefusal
     edit-18 e = rw (lt-leb (m .components) i h, ← es, ← eq, ← ed, e)
@@ -164,8 +166,8 @@ module _ (cs ins outs ws cur fol std : List ℕ) (m : Counts) (i v : ℕ) where
       }
 
   module _ (z : editNumber came i v ≡ 0) (ins' outs' std' : List ℕ) (n : ℕ)
-      (ei : ins' ≡ cond (is Switch (fieldsIn cs i)) ins (set ins (wordIn cs i 6) v))
-      (eo : outs' ≡ cond (is Switch (fieldsIn cs i)) (set outs (wordIn cs i 7) v) outs)
+      (ei : ins' ≡ cond (is Switch (fieldsIn cs i)) ins (set ins (firstInputIn cs i) v))
+      (eo : outs' ≡ cond (is Switch (fieldsIn cs i)) (set outs (firstOutputIn cs i) v) outs)
       (en : n ≡ length (appendNew i (take (m .standing) std)))
       (es : std' ≡ overlay (appendNew i (take (m .standing) std)) std) where
     made : tablesOf cs ins' outs' ws cur fol std' (counted n) ≡ editTables came i v

@@ -17,6 +17,8 @@ use Rattle.lists.proofs.MembersLaws.{any-append, any-map, from-last, keep-appen
 use Rattle.tables.specs.declared.Wire.{Wire}
 use Rattle.tables.specs.Tables.{Tables, wireAt, joins, sources, targets, indexes}
 use Rattle.simulator.specs.Calls.{driven}
+use Rattle.simulator.specs.declared.questions.Tip.{Tip}
+use Rattle.simulator.specs.declared.questions.Tip.the-variants.{Source, Target}
 use Rattle.simulator.specs.Asked.{endOf, meets, met, ends, markedBelow}
 
 -- One number more.
@@ -26,7 +28,7 @@ any-last f k =
     ∙ ap (λ (b : Bool). any f (from 0 k) || b) (or-false (f k))
 
 -- Marking the far end of wire k, where its near end is component i; or not.
-module _ (ws old marks : List ℕ) (near far i k : ℕ)
+module _ (ws old marks : List ℕ) (near far : Tip) (i k : ℕ)
     (so-far : (j : ℕ) → getD marks j 0 ≡ cond (meets ws k near far i j) 1 (getD old j 0)) where
   pub mark-here : (at : ℕ) → endOf ws k near ≡ i → at ≡ endOf ws k far → at < length marks → (j : ℕ)
       → getD (set marks at 1) j 0 ≡ cond (meets ws (k + 1) near far i j) 1 (getD old j 0)
@@ -108,7 +110,7 @@ any-cong f g [] e = refl
 any-cong f g (x ∷ xs) e = rw (e x, any-cong f g xs e)
 
 -- So what is marked in the end are the components that wires join.
-pub marked-met : (ws marks : List ℕ) (size m near far i n : ℕ)
+pub marked-met : (ws marks : List ℕ) (size m : ℕ) (near far : Tip) (i n : ℕ)
     → ((j : ℕ) → getD marks j 0 ≡ cond (meets ws m near far i j) 1 (getD (replicate size 0) j 0))
     → markedBelow marks n ≡ met ws m near far i n
 unfolding met
@@ -125,31 +127,26 @@ marked-met ws marks size m near far i n e =
         ∙ by-test (meets ws m near far i j)
 
 -- Sources, targets and whether a component is driven.
-at-zero : (ws : List ℕ) (k : ℕ) → getD ws (4 * k) 0 ≡ endOf ws k 0
-at-zero ws k = let z : 4 * k ≡ 4 * k + 0 = omega arith in ap (λ (p : ℕ). getD ws p 0) z
-
--- Wires join component i to component j: i stands at their end 0, and j at their end 2.
-joins-meets : (T : Tables) (i j : ℕ) → joins T i j ≡ meets (T .wires) (T .counts .wires) 0 2 i j
+-- Wires join component i to component j: i is their source, and j their target.
+joins-meets : (T : Tables) (i j : ℕ) → joins T i j ≡ meets (T .wires) (T .counts .wires) Source Target i j
 joins-meets T i j =
     any-map (λ (w : Wire). eqb (w .src .comp .0) i && eqb (w .dst .comp .0) j) (wireAt T) (from 0 (T .counts .wires))
-    ∙ any-cong _ _ (from 0 (T .counts .wires))
-    (λ k. ap (λ (x : ℕ). eqb x i && eqb (endOf (T .wires) k 2) j) (at-zero (T .wires) k))
 
 -- The same from the other end.
-meets-back : (ws : List ℕ) (m near far i j : ℕ) → meets ws m near far i j ≡ meets ws m far near j i
+meets-back : (ws : List ℕ) (m : ℕ) (near far : Tip) (i j : ℕ) → meets ws m near far i j ≡ meets ws m far near j i
 meets-back ws m near far i j =
     any-cong _ _ (from 0 m) (λ k. and-comm (eqb (endOf ws k near) i) (eqb (endOf ws k far) j))
 
-pub sources-met : (T : Tables) (i : ℕ) → sources T i ≡ met (T .wires) (T .counts .wires) 2 0 i (T .counts .components)
+pub sources-met : (T : Tables) (i : ℕ) → sources T i ≡ met (T .wires) (T .counts .wires) Target Source i (T .counts .components)
 unfolding sources met
 sources-met T i =
-    keep-cong (λ j. joins T j i) (meets (T .wires) (T .counts .wires) 2 0 i) (indexes T)
-    (λ j. joins-meets T j i ∙ meets-back (T .wires) (T .counts .wires) 0 2 j i)
+    keep-cong (λ j. joins T j i) (meets (T .wires) (T .counts .wires) Target Source i) (indexes T)
+    (λ j. joins-meets T j i ∙ meets-back (T .wires) (T .counts .wires) Source Target j i)
 
-pub targets-met : (T : Tables) (i : ℕ) → targets T i ≡ met (T .wires) (T .counts .wires) 0 2 i (T .counts .components)
+pub targets-met : (T : Tables) (i : ℕ) → targets T i ≡ met (T .wires) (T .counts .wires) Source Target i (T .counts .components)
 unfolding targets met
 targets-met T i =
-    keep-cong (λ j. joins T i j) (meets (T .wires) (T .counts .wires) 0 2 i) (indexes T) (joins-meets T i)
+    keep-cong (λ j. joins T i j) (meets (T .wires) (T .counts .wires) Source Target i) (indexes T) (joins-meets T i)
 
-pub driven-ends : (T : Tables) (i : ℕ) → driven T i ≡ ends (T .wires) (T .counts .wires) 2 i
+pub driven-ends : (T : Tables) (i : ℕ) → driven T i ≡ ends (T .wires) (T .counts .wires) Target i
 driven-ends T i = any-map (λ (w : Wire). eqb (w .dst .comp .0) i) (wireAt T) (from 0 (T .counts .wires))

@@ -34,7 +34,9 @@ use Rattle.simulator.specs.declared.Listed.{Listed}
 use Rattle.simulator.specs.declared.Listed.the-variants.{Count, Refused as NotListed}
 use Rattle.simulator.specs.Round.{calm}
 use Rattle.simulator.specs.Questions.{ofNet, AsksCalm, indexGives, indexFound, AsksIndex, portCount, valueGives, valueOnNet, AsksValue, listNumber, Listing, AsksSources, AsksTargets}
-use Rattle.simulator.specs.Asked.{isEnd, endOf, met, RowRight}
+use Rattle.simulator.specs.declared.questions.Tip.{Tip}
+use Rattle.simulator.specs.declared.questions.Tip.the-variants.{Source, Target}
+use Rattle.simulator.specs.Asked.{endOf, met, RowRight}
 use Rattle.simulator.proofs.Sound.{net-sound, wire-in}
 use Rattle.simulator.proofs.EndsLaws.{sources-met, targets-met}
 
@@ -54,10 +56,6 @@ module _ (T : Tables) (m : ℕ) where
       by-test false q u = u
 
 -- An end of a wire is one of its four words.
-pub end-place : (e : ℕ) → isEnd e ≡ true → e < 4
-end-place e a =
-    ⊎-elim (λ q. omega (arith, eqb-true e 0 q)) (λ q. omega (arith, eqb-true e 2 q)) (or-cases (eqb e 0) (eqb e 2) a)
-
 -- What a net gives: a component's row, and the ends of its wires.
 module _ (T : Tables) (z : netNumber T ≡ 0) where
   pub net-row : (i : ℕ) → i < T .counts .components → RowRight (T .components) (T .inputs) (T .outputs) i
@@ -68,17 +66,9 @@ module _ (T : Tables) (z : netNumber T ≡ 0) where
         outputs-in = net-sound T z .outputs-in i h;
       }
 
-  pub net-end : (e : ℕ) → isEnd e ≡ true → (k : ℕ) → k < T .counts .wires → endOf (T .wires) k e < 256
-  net-end e a k h =
-      ⊎-elim (λ q. rw (eqb-true e 0 q) source) (λ q. rw (eqb-true e 2 q) target) (or-cases (eqb e 0) (eqb e 2) a)
-    where
-      source : endOf (T .wires) k 0 < 256
-      source =
-          let p : 4 * k + 0 ≡ 4 * k = omega arith in
-          rw p (omega (arith, net-sound T z .source (wireAt T k) (wire-in T k h), net-sound T z .few))
-
-      target : endOf (T .wires) k 2 < 256
-      target = omega (arith, net-sound T z .target (wireAt T k) (wire-in T k h), net-sound T z .few)
+  pub net-end : (e : Tip) (k : ℕ) → k < T .counts .wires → endOf (T .wires) k e < 256
+  net-end Source k h = omega (arith, net-sound T z .source (wireAt T k) (wire-in T k h), net-sound T z .few)
+  net-end Target k h = omega (arith, net-sound T z .target (wireAt T k) (wire-in T k h), net-sound T z .few)
 
 -- A question that the number refuses, and one of a net.
 of-refused : (T : Tables) (g : Given) (k : ℕ) → k ≡ netNumber T → (k ≡ 0 → ⊥) → declined (refusedBy k) ≡ ofNet T g
@@ -187,10 +177,10 @@ module _ (m : ℕ) (xs list : List ℕ) where
 
 -- Sources and targets are what wires join.
 module _ (T : Tables) (i : ℕ) (list : List ℕ) (r : Listed) (u : List ℕ) where
-  pub sources-joined : Listing (listNumber T i list) (met (T .wires) (T .counts .wires) 2 0 i (T .counts .components)) list r u
+  pub sources-joined : Listing (listNumber T i list) (met (T .wires) (T .counts .wires) Target Source i (T .counts .components)) list r u
       → AsksSources T i list r u
   sources-joined e = rw (sources-met T i) e
 
-  pub targets-joined : Listing (listNumber T i list) (met (T .wires) (T .counts .wires) 0 2 i (T .counts .components)) list r u
+  pub targets-joined : Listing (listNumber T i list) (met (T .wires) (T .counts .wires) Source Target i (T .counts .components)) list r u
       → AsksTargets T i list r u
   targets-joined e = rw (targets-met T i) e

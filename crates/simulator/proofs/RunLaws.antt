@@ -18,7 +18,8 @@ use Rattle.primitive.specs.declared.kinds.Kind.the-variants.{Clock}
 use Rattle.primitive.specs.Kinds.{is}
 use Rattle.primitive.specs.Given.{refusedBy, done}
 use Rattle.tables.specs.declared.Counts.{Counts}
-use Rattle.tables.specs.Tables.{Tables, fieldsIn, currentList, countWords}
+use Rattle.tables.specs.Tables.{Tables, currentList, countWords}
+use Rattle.tables.specs.Words.{fieldsIn}
 use Rattle.net.specs.Net.{netNumber}
 use Rattle.simulator.specs.declared.Ran.the-variants.{Done as RanOut, Refused as NotRun}
 use Rattle.simulator.specs.Round.{calm, roundOf}

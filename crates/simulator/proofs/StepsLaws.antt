@@ -25,25 +25,15 @@ use Rattle.primitive.specs.Own.{Own}
 use Rattle.primitive.proofs.FitLaws.{outputsAfter-length}
 use Rattle.tables.specs.declared.Wire.{Wire}
 use Rattle.tables.specs.declared.Counts.{Counts}
-use Rattle.tables.specs.Tables.{Tables, wordIn, fieldsAt, firstInput, firstOutput, numbers, inputsAt, outputsAt, inputPlace, outputPlace, wireAt, wiresIn}
+use Rattle.tables.specs.Tables.{Tables, fieldsAt, firstInput, firstOutput, numbers, inputsAt, outputsAt, inputPlace, outputPlace, wireAt, wiresIn}
 use Rattle.tables.proofs.NamedLaws.{overlay-list, overlay-count}
+use Rattle.tables.specs.Words.{uncounted, wireIn}
 use Rattle.net.specs.Net.{names}
 use Rattle.net.proofs.NetLaws.{names-existing}
 use Rattle.simulator.specs.Round.{State, wiresFrom, evaluated, send, visit}
-use Rattle.simulator.specs.Steps.{uncounted, wiring, stateAt, CanEvaluate, CanSend, CanRun, ListFits, Step}
+use Rattle.simulator.specs.Steps.{wiring, stateAt, CanEvaluate, CanSend, CanRun, ListFits, Step}
 use Rattle.simulator.proofs.Ports.{numbers-length}
 use Rattle.simulator.proofs.Held.{foldl-keeps, carried, received, written, SendCase, agrees, writes, send-case}
-
--- Where the ends of wire k stand, as they are read.
-module _ (T : Tables) (k comp port first : ℕ) where
-  pub source-place : comp ≡ getD (T .wires) (4 * k) 0 → port ≡ getD (T .wires) (4 * k + 1) 0 → first ≡ wordIn (T .components) comp 7
-      → first + port ≡ outputPlace T (wireAt T k .src)
-  source-place c p f = rw (f, c, p)
-
-  pub target-place : comp ≡ getD (T .wires) (4 * k + 2) 0 → port ≡ getD (T .wires) (4 * k + 3) 0
-      → first ≡ wordIn (T .components) comp 6
-      → first + port ≡ inputPlace T (wireAt T k .dst)
-  target-place c p f = rw (f, c, p)
 
 -- One wire, whose output and input hold the numbers x and y.
 module _ (T : Tables) (ins outs fol : List ℕ) (n : ℕ) (w : Wire) (a b x y : ℕ) (pa : a ≡ outputPlace T (w .src))
@@ -139,24 +129,19 @@ module _ (T : Tables) (ins outs : List ℕ) (i : ℕ) (v : CanEvaluate T ins out
         r ∙ rw (eb, z, ef) (sym q)
 
     -- A Clock stays in the standing list,
-    pub evaluated-clock : (t n : ℕ) (zs std : List ℕ) → zs ≡ outputsAfter f xs ys t → f .kind ≡ 12 → n ≤ length std
+    pub evaluated-clock : (t n : ℕ) (zs std : List ℕ) → zs ≡ outputsAfter f xs ys t → is Clock (fieldsAt T i) ≡ true → n ≤ length std
         → Step n std (stateAt ins (putMid b (b + f .outputs - b) outs zs) [] (take n std))
         (evaluated T t i (stateAt ins outs [] (take n std)))
     unfolding evaluated
-    evaluated-clock t n zs std e k h =
-        let c : is Clock (fieldsAt T i) ≡ true =
-        eq-eqb (fieldsAt T i .kind) 12 (ap (λ (g : Fields). g .kind) (sym ef) ∙ k) in
-        record { count = h; state = rw (outputs-put t zs e, c) }
+    evaluated-clock t n zs std e c h = record { count = h; state = rw (outputs-put t zs e, c) }
 
     -- and any other component is struck.
-    pub evaluated-struck : (t n r : ℕ) (zs std std' : List ℕ) → zs ≡ outputsAfter f xs ys t → (f .kind ≡ 12 → ⊥)
+    pub evaluated-struck : (t n r : ℕ) (zs std std' : List ℕ) → zs ≡ outputsAfter f xs ys t → is Clock (fieldsAt T i) ≡ false
         → r ≡ length (strike i (take n std)) → take r std' ≡ strike i (take n std)
         → Step r std' (stateAt ins (putMid b (b + f .outputs - b) outs zs) [] (take r std'))
         (evaluated T t i (stateAt ins outs [] (take n std)))
     unfolding evaluated
-    evaluated-struck t n r zs std std' e k l s =
-        let c : is Clock (fieldsAt T i) ≡ false =
-        ne-eqb (fieldsAt T i .kind) 12 (λ q. k (ap (λ (g : Fields). g .kind) ef ∙ q)) in
+    evaluated-struck t n r zs std std' e c l s =
         let m : length (take r std') ≡ r = ap length s ∙ sym l in
         record { count = omega (arith, length-take r std'); state = rw (outputs-put t zs e, c, s) }
 
@@ -194,17 +179,17 @@ module _ (T : Tables) (i q n : ℕ) (s : State) (x : State) where
   abbrev pub to-come : State → ℕ → State
   to-come u k = foldl (send T) u (wiresFrom i (map (wireAt T) (from k (n - k))))
 
-  pub sends-taken : (u : State) (c : ℕ) → q < n → c ≡ getD (T .wires) (4 * q) 0 → c ≡ i → u ≡ send T s (wireAt T q)
+  pub sends-taken : (u : State) (c : ℕ) → q < n → c ≡ wireAt T q .src .comp .0 → c ≡ i → u ≡ send T s (wireAt T q)
       → to-come s q ≡ x → to-come u (q + 1) ≡ x
   sends-taken u c h e t eu so-far =
-      let z : eqb (getD (T .wires) (4 * q) 0) i ≡ true = eq-eqb (getD (T .wires) (4 * q) 0) i (sym e ∙ t) in
+      let z : eqb (wireAt T q .src .comp .0) i ≡ true = eq-eqb (wireAt T q .src .comp .0) i (sym e ∙ t) in
       let y : to-come s q ≡ to-come (send T s (wireAt T q)) (q + 1) = rw (from-step q n h, z) in
       rw eu (sym y ∙ so-far)
 
-  pub sends-passed : (c : ℕ) → q < n → c ≡ getD (T .wires) (4 * q) 0 → (c ≡ i → ⊥) → to-come s q ≡ x
+  pub sends-passed : (c : ℕ) → q < n → c ≡ wireAt T q .src .comp .0 → (c ≡ i → ⊥) → to-come s q ≡ x
       → to-come s (q + 1) ≡ x
   sends-passed c h e t so-far =
-      let z : eqb (getD (T .wires) (4 * q) 0) i ≡ false = ne-eqb (getD (T .wires) (4 * q) 0) i (λ p. t (e ∙ p)) in
+      let z : eqb (wireAt T q .src .comp .0) i ≡ false = ne-eqb (wireAt T q .src .comp .0) i (λ p. t (e ∙ p)) in
       let y : to-come s q ≡ to-come s (q + 1) = rw (from-step q n h, z) in
       sym y ∙ so-far
 
@@ -218,20 +203,21 @@ module _ (T : Tables) (i q n : ℕ) (s : State) (x : State) where
 
 -- A step of the bare components and wires is one of those with their counts.
 module _ (cs ws : List ℕ) (m : Counts) where
-  pub send-bare : (s : State) (w : Wire) → send (uncounted cs ws) s w ≡ send (wiring cs ws m) s w
+  pub send-bare : (s : State) (w : Wire) → send (uncounted cs []) s w ≡ send (wiring cs ws m) s w
   unfolding send
   send-bare s w = refl
 
   -- Wire k of a net can be sent along.
   pub runs-sends : (ins outs fol : List ℕ) (n k : ℕ) → CanRun (wiring cs ws m) ins outs → ListFits (wiring cs ws m) n fol
       → k < m .wires
-      → CanSend (uncounted cs ws) ins outs n fol (wireAt (uncounted cs ws) k)
+      → CanSend (uncounted cs []) ins outs n fol (wireIn ws k)
   runs-sends ins outs fol n k g l h =
       record {
         source = g .source k h;
         target = g .target k h;
+        few = omega (arith, g .named k h, g .few);
         count = l .count;
-        room = append-room (wiring cs ws m) (wireAt (uncounted cs ws) k .dst .comp .0) (take n fol) fol (l .named)
+        room = append-room (wiring cs ws m) (wireIn ws k .dst .comp .0) (take n fol) fol (l .named)
             (g .named k h) (g .few) (l .whole);
       }
 
@@ -239,7 +225,7 @@ module _ (cs ws : List ℕ) (m : Counts) where
   pub sent-listed : (ins outs fol ins' fol' : List ℕ) (n k r : ℕ) → CanRun (wiring cs ws m) ins outs
       → ListFits (wiring cs ws m) n fol → k < m .wires
       → Step r fol' (stateAt ins' outs (take r fol') [])
-      (send (uncounted cs ws) (stateAt ins outs (take n fol) []) (wireAt (uncounted cs ws) k))
+      (send (uncounted cs []) (stateAt ins outs (take n fol) []) (wireIn ws k))
       → length fol' ≡ length fol → ListFits (wiring cs ws m) r fol'
   unfolding send
   sent-listed ins outs fol ins' fol' n k r g l h d e =
@@ -248,7 +234,7 @@ module _ (cs ws : List ℕ) (m : Counts) where
         count = d .count;
         named =
             ap (λ (u : State). names (wiring cs ws m) (u .following)) (d .state)
-            ∙ send-names (wiring cs ws m) (stateAt ins outs (take n fol) []) (wireAt (uncounted cs ws) k) (g .named k h)
+            ∙ send-names (wiring cs ws m) (stateAt ins outs (take n fol) []) (wireIn ws k) (g .named k h)
             (l .named);
       }
 

@@ -1,8 +1,7 @@
 -- What questions and edits ask, on the lists of words that a function inside this crate is handed. `sources`,
 -- `targets`, `driven` and `editNumber` are these on a net (proofs/EndsLaws, QuestionsLaws, EditsLaws);
 -- only contracts of such functions cite them.
---   isEnd e                  e is an end of a wire: 0 is where it comes from, 2 where it goes to
---   endOf ws k e             the component at end e of wire k
+--   compAt w e, endOf ws k e the component at end e of a wire, and of wire k
 --   meets ws m near far i j  one of m wires has component i at its end `near` and component j at its end `far`
 --   met ws m near far i n    the components below n that wires join to component i so
 --   ends ws m e i            one of m wires has component i at its end e
@@ -10,7 +9,7 @@
 --   RowRight cs is os i      component i's words fit its fields, and its ports stand in their tables
 --   editRefusal cs ws m i v  the number of an edit, on a net
 -- Assumes nothing.
-use Prim.Native.Nat.{ℕ, _+_, _*_}
+use Prim.Native.Nat.{ℕ}
 use mathlib.Core.Path.{_≡_}
 use mathlib.Core.Bool.{Bool, true, cond, not, _&&_, _||_}
 use mathlib.Core.List.{List, [], _∷_}
@@ -21,28 +20,31 @@ use Rattle.value.specs.Value.{below}
 use Rattle.primitive.specs.declared.kinds.Kind.the-variants.{Switch, Input}
 use Rattle.primitive.specs.Kinds.{is, inputWidth, outputWidth}
 use Rattle.tables.specs.declared.Counts.{Counts}
-use Rattle.tables.specs.Tables.{fieldsIn}
-use Rattle.tables.specs.Words.{fieldsFit}
+use Rattle.tables.specs.declared.Wire.{Wire}
+use Rattle.tables.specs.Words.{fieldsIn, wireIn, fieldsFit}
 use Rattle.net.specs.Parts.{InputsInside, OutputsInside}
+use Rattle.simulator.specs.declared.questions.Tip.{Tip}
+use Rattle.simulator.specs.declared.questions.Tip.the-variants.{Source, Target}
 
--- The ends of a wire, by the place of their component among its words.
-abbrev pub isEnd : ℕ → Bool
-isEnd e = eqb e 0 || eqb e 2
+-- The component at an end of a wire.
+abbrev pub compAt : Wire → Tip → ℕ
+compAt w Source = w .src .comp .0
+compAt w Target = w .dst .comp .0
 
 -- The component at end e of wire k.
-abbrev pub endOf : List ℕ → ℕ → ℕ → ℕ
-endOf ws k e = getD ws (4 * k + e) 0
+abbrev pub endOf : List ℕ → ℕ → Tip → ℕ
+endOf ws k e = compAt (wireIn ws k) e
 
 -- One of m wires has component i at its end `near` and component j at its end `far`.
-abbrev pub meets : List ℕ → ℕ → ℕ → ℕ → ℕ → ℕ → Bool
+abbrev pub meets : List ℕ → ℕ → Tip → Tip → ℕ → ℕ → Bool
 meets ws m near far i j = any (λ k. eqb (endOf ws k near) i && eqb (endOf ws k far) j) (from 0 m)
 
 -- The components below n that wires join to component i so, ascending.
-unfoldable pub met : List ℕ → ℕ → ℕ → ℕ → ℕ → ℕ → List ℕ
+unfoldable pub met : List ℕ → ℕ → Tip → Tip → ℕ → ℕ → List ℕ
 met ws m near far i n = keep (meets ws m near far i) (from 0 n)
 
 -- One of m wires has component i at its end e.
-abbrev pub ends : List ℕ → ℕ → ℕ → ℕ → Bool
+abbrev pub ends : List ℕ → ℕ → Tip → ℕ → Bool
 ends ws m e i = any (λ k. eqb (endOf ws k e) i) (from 0 m)
 
 -- The numbers below n that are marked, ascending.
@@ -60,7 +62,7 @@ unfoldable pub editRefusal : List ℕ → List ℕ → Counts → ℕ → ℕ �
 editRefusal cs ws m i v =
     refusal
     ((17 if leb (m .components) i)
-    ∷ (18 if not (is Switch (fieldsIn cs i) || (is Input (fieldsIn cs i) && not (ends ws (m .wires) 2 i))))
+    ∷ (18 if not (is Switch (fieldsIn cs i) || (is Input (fieldsIn cs i) && not (ends ws (m .wires) Target i))))
     ∷ (19 if not (below v
     (cond (is Switch (fieldsIn cs i)) (outputWidth (fieldsIn cs i)) (inputWidth (fieldsIn cs i)))))
     ∷ [])

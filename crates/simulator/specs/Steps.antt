@@ -1,5 +1,5 @@
 -- What the steps of a round are handed, and what a net gives them. Only contracts of functions of this crate cite it.
---   uncounted, wiring       the components and the wires, which no round writes: without the counts, and with them
+--   wiring             the components and the wires, which no round writes
 --   stateAt            the ports and the two lists that a round changes as it goes; no step reads the current list
 --   CanEvaluate, CanSend   component i can be evaluated; wire w can be sent along, and its target appended
 --   CanRun               all components and all wires can
@@ -19,15 +19,7 @@ use Rattle.net.specs.Net.{names}
 use Rattle.simulator.specs.declared.rounds.Sizes.{Sizes}
 use Rattle.simulator.specs.Round.{State}
 
--- No entry of any table.
-abbrev pub noCounts : Counts
-noCounts = record { components = 0; inputs = 0; outputs = 0; wires = 0; current = 0; following = 0; standing = 0 }
-
--- The components and the wires.
-abbrev pub uncounted : List ℕ → List ℕ → Tables
-uncounted cs ws = tablesOf cs [] [] ws [] [] [] noCounts
-
--- How many there are besides.
+-- The components and the wires, and how many there are.
 abbrev pub wiring : List ℕ → List ℕ → Counts → Tables
 wiring cs ws m = tablesOf cs [] [] ws [] [] [] m
 
@@ -42,10 +34,11 @@ pub record CanEvaluate (T : Tables) (is os : List ℕ) (i : ℕ) : Type 0 where
   pub inputs-in : firstInput T i + fieldsAt T i .inputs ≤ length is
   pub outputs-in : firstOutput T i + fieldsAt T i .outputs ≤ length os
 
--- The ends of a wire stand in the tables, and the list of n entries in the table t has room for its target.
+-- The ends of a wire stand in the tables, and the list of n entries in the table t has room for its target, one of full size.
 pub record CanSend (T : Tables) (is os : List ℕ) (n : ℕ) (t : List ℕ) (w : Wire) : Type 0 where
   pub source : outputPlace T (w .src) < length os
   pub target : inputPlace T (w .dst) < length is
+  pub few : w .dst .comp .0 < 256
   pub count : n ≤ length t
   pub room : length (appendNew (w .dst .comp .0) (take n t)) ≤ length t
 

@@ -6,11 +6,11 @@ ghost use Prim.Native.Nat.{_<_, _≤_};
 ghost use lib.ListN.{length, set};
 ghost use Rattle.primitive.specs.declared.kinds.Kind.the-variants.{Switch};
 ghost use Rattle.primitive.specs.Kinds.{is};
-ghost use Rattle.tables.specs.Tables.{tablesOf, wordIn, fieldsIn, countsAfter};
-ghost use Rattle.tables.specs.Words.{fieldsFit};
+ghost use Rattle.tables.specs.Tables.{tablesOf, countsAfter};
+ghost use Rattle.tables.specs.Words.{fieldsFit, fieldsIn, firstInputIn, firstOutputIn};
+ghost use Rattle.simulator.specs.declared.questions.Tip.the-variants.{Target};
 ghost use Rattle.simulator.specs.Calls.{editNumber, Edits};
 ghost use Rattle.simulator.specs.Asked.{ends, editRefusal};
-use crate::questions::is_kind;
 use primitive::Kind;
 use primitive::Refusal;
 use tables::Answer;
@@ -19,12 +19,12 @@ use tables::FlatIdx;
 
 // Whether one of the first `count` wires enters component i.
 fn is_driven(wires: &[u16], count: usize, i: usize) -> bool
-    requires { ⌜ count ≤ 1024 ⌝ }
-    ensures { λ r. ⌜ r ≡ ends (now (wires .entry)) count 2 i ⌝ }
+    ensures { λ r. ⌜ r ≡ ends (now (wires .entry)) count Target i ⌝ }
 {
     let mut k: usize = 0;
     while k < count {
-        if tables::entry(wires, 4 * k + 2) == i {
+        let wire = tables::wire_at(wires, k);
+        if wire.dst.comp.0 == i {
             return true;
         }
         k += 1;
@@ -35,14 +35,14 @@ fn is_driven(wires: &[u16], count: usize, i: usize) -> bool
 // What an edit of a net checks: 17 where there is no component i; 18 where it is neither a Switch nor an Input without a wire;
 // 19 where the number does not fit the port that is set.
 fn edit_number(components: &[u64], wires: &[u16], counts: Counts, i: usize, number: u64) -> u32
-    requires { ⌜ (counts .components ≤ 256) × (counts .wires ≤ 1024) × (i < counts .components → fieldsFit (fieldsIn (now components) i) ≡ true) ⌝ }
+    requires { ⌜ (i < counts .components → fieldsFit (fieldsIn (now components) i) ≡ true) ⌝ }
     ensures { λ r. ⌜ r ≡ editRefusal (now (components .entry)) (now (wires .entry)) counts i number ⌝ }
 {
     if counts.components <= i {
         return 17;
     }
-    let switch = is_kind(components, i, Kind::Switch);
-    let input = is_kind(components, i, Kind::Input);
+    let switch = tables::is_kind(components, i, Kind::Switch);
+    let input = tables::is_kind(components, i, Kind::Input);
     if !(switch | (input & !is_driven(wires, counts.wires, i))) {
         return 18;
     }
@@ -60,18 +60,18 @@ fn edit_number(components: &[u64], wires: &[u16], counts: Counts, i: usize, numb
 
 // Sets the output of a Switch, and of any other component the first input.
 fn set_port(components: &[u64], inputs: &mut [u64], outputs: &mut [u64], i: usize, number: u64)
-    requires { ⌜ (i < 65536) × (is Switch (fieldsIn (now components) i) ≡ true → wordIn (now components) i 7 < length (now outputs))
-        × ((is Switch (fieldsIn (now components) i) ≡ true → ⊥) → wordIn (now components) i 6 < length (now inputs)) ⌝ }
+    requires { ⌜ (is Switch (fieldsIn (now components) i) ≡ true → firstOutputIn (now components) i < length (now outputs))
+        × ((is Switch (fieldsIn (now components) i) ≡ true → ⊥) → firstInputIn (now components) i < length (now inputs)) ⌝ }
     ensures { λ _. ⌜ (now (inputs .exit) ≡ cond (is Switch (fieldsIn (now (components .entry)) i)) (now (inputs .entry))
-        (set (now (inputs .entry)) (wordIn (now (components .entry)) i 6) number))
+        (set (now (inputs .entry)) (firstInputIn (now (components .entry)) i) number))
         × (now (outputs .exit) ≡ cond (is Switch (fieldsIn (now (components .entry)) i))
-        (set (now (outputs .entry)) (wordIn (now (components .entry)) i 7) number) (now (outputs .entry))) ⌝ }
+        (set (now (outputs .entry)) (firstOutputIn (now (components .entry)) i) number) (now (outputs .entry))) ⌝ }
 {
-    if is_kind(components, i, Kind::Switch) {
-        let at = tables::word_of(components, i, 7) as usize;
+    if tables::is_kind(components, i, Kind::Switch) {
+        let at = tables::first_output(components, i);
         outputs[at] = number;
     } else {
-        let at = tables::word_of(components, i, 6) as usize;
+        let at = tables::first_input(components, i);
         inputs[at] = number;
     }
 }

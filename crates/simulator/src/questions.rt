@@ -10,11 +10,12 @@ ghost use Rattle.lists.specs.Lists.{from, every, first, overlay};
 ghost use Rattle.primitive.specs.declared.kinds.Kind.the-variants.{Clock};
 ghost use Rattle.primitive.specs.Kinds.{is};
 ghost use Rattle.primitive.specs.Given.{done, declined, refusedBy};
-ghost use Rattle.tables.specs.Tables.{tablesOf, wordIn, fieldsIn};
+ghost use Rattle.tables.specs.Tables.{tablesOf};
+ghost use Rattle.tables.specs.Words.{fieldsIn, idIn};
 ghost use Rattle.net.specs.Parts.{lent};
 ghost use Rattle.simulator.specs.Questions.{AsksCalm, indexGives, indexFound, AsksIndex, valueGives, valueOnNet, AsksValue};
 ghost use Rattle.simulator.specs.Questions.{listNumber, Listing, AsksSources, AsksTargets};
-ghost use Rattle.simulator.specs.Asked.{isEnd, endOf, meets, met, markedBelow, RowRight};
+ghost use Rattle.simulator.specs.Asked.{compAt, endOf, meets, met, markedBelow, RowRight};
 use crate::Calm;
 use crate::Index;
 use crate::Listed;
@@ -25,22 +26,26 @@ use primitive::Kind;
 use primitive::Refusal;
 use tables::Counts;
 use tables::FlatIdx;
+use tables::Wire;
 use value::Value;
 
 // Full size of a list: the most that can be listed.
 const NAMES: usize = 256;
 
-// The ends of a wire, by the place of their component among its words.
-const SOURCE: usize = 0;
+// The ends of a wire.
+pub enum Tip {
+    Source,
+    Target,
+}
 
-const TARGET: usize = 2;
-
-// Whether component i is of a kind. The kind's word is compared whole.
-pub(crate) fn is_kind(components: &[u64], i: usize, kind: Kind) -> bool
-    requires { ⌜ i < 65536 ⌝ }
-    ensures { λ r. ⌜ r ≡ is kind (fieldsIn (now (components .entry)) i) ⌝ }
+// The component at an end of a wire.
+fn comp_at(wire: Wire, tip: Tip) -> usize
+    ensures { λ r. ⌜ r ≡ compAt wire tip ⌝ }
 {
-    tables::word_of(components, i, 0) == primitive::number_of(kind) as u64
+    match tip {
+        Tip::Source => wire.src.comp.0,
+        Tip::Target => wire.dst.comp.0,
+    }
 }
 
 // Whether the first `count` entries of a list name only Clocks.
@@ -51,7 +56,7 @@ pub(crate) fn only_clocks(components: &[u64], list: &[u16], count: usize) -> boo
     let mut k: usize = 0;
     while k < count {
         let i = tables::entry(list, k);
-        if !is_kind(components, i, Kind::Clock) {
+        if !tables::is_kind(components, i, Kind::Clock) {
             return false;
         }
         k += 1;
@@ -61,13 +66,11 @@ pub(crate) fn only_clocks(components: &[u64], list: &[u16], count: usize) -> boo
 
 // The search by id, among the first `count` components: the sole way from an id to a flat index.
 fn search_id(components: &[u64], count: usize, id: Id) -> Index
-    requires { ⌜ count ≤ 256 ⌝ }
-    ensures { λ r. ⌜ indexGives r ≡ indexFound (first (λ i. eqb (wordIn (now (components .entry)) i 1) (id .0)) (from 0 count)) ⌝ }
+    ensures { λ r. ⌜ indexGives r ≡ indexFound (first (λ i. eqb (idIn (now (components .entry)) i) (id .0)) (from 0 count)) ⌝ }
 {
-    let sought = id.0 as u64;
     let mut i: usize = 0;
     while i < count {
-        if tables::word_of(components, i, 1) == sought {
+        if tables::has_id(components, i, id) {
             return Index::Is(FlatIdx(i));
         }
         i += 1;
@@ -94,14 +97,15 @@ fn port_value(ports: &[u64], first: usize, count: usize, width: u64, port: usize
 }
 
 // Marks the component at the far end of each wire that has component i at its near end.
-fn mark_ends(wires: &[u16], count: usize, near: usize, far: usize, i: usize, marks: &mut [u8])
-    requires { ⌜ (count ≤ 1024) × (near < 4) × (far < 4) × ((k : ℕ) → k < count → endOf (now wires) k far < length (now marks)) ⌝ }
+fn mark_ends(wires: &[u16], count: usize, near: Tip, far: Tip, i: usize, marks: &mut [u8])
+    requires { ⌜ ((k : ℕ) → k < count → endOf (now wires) k far < length (now marks)) ⌝ }
     ensures { λ _. ⌜ ((j : ℕ) → getD (now (marks .exit)) j 0 ≡ cond (meets (now (wires .entry)) count near far i j) 1 (getD (now (marks .entry)) j 0)) ⌝ }
 {
     let mut k: usize = 0;
     while k < count {
-        if tables::entry(wires, 4 * k + near) == i {
-            let at = tables::entry(wires, 4 * k + far);
+        let wire = tables::wire_at(wires, k);
+        if comp_at(wire, near) == i {
+            let at = comp_at(wire, far);
             marks[at] = 1;
         }
         k += 1;
@@ -130,12 +134,12 @@ fn list_marked(marks: &[u8], count: usize, list: &mut [u16]) -> usize
 fn list_ends(
     wires: &[u16],
     counts: Counts,
-    near: usize,
-    far: usize,
+    near: Tip,
+    far: Tip,
     i: usize,
     list: &mut [u16],
 ) -> usize
-    requires { ⌜ (counts .components ≤ 256) × (counts .wires ≤ 1024) × (near < 4) × (far < 4) × (256 ≤ length (now list))
+    requires { ⌜ (counts .components ≤ 256) × (256 ≤ length (now list))
         × ((k : ℕ) → k < counts .wires → endOf (now wires) k far < 256) ⌝ }
     ensures { λ r. ⌜ (r ≡ length (met (now (wires .entry)) (counts .wires) near far i (counts .components)))
         × (now (list .exit) ≡ overlay (met (now (wires .entry)) (counts .wires) near far i (counts .components)) (now (list .entry))) ⌝ }
@@ -155,7 +159,7 @@ fn value_in(
     i: usize,
     port: usize,
 ) -> Port
-    requires { ⌜ (counts .components ≤ 256) × (i < counts .components → RowRight (now components) (now inputs) (now outputs) i) ⌝ }
+    requires { ⌜ (i < counts .components → RowRight (now components) (now inputs) (now outputs) i) ⌝ }
     ensures { λ r. ⌜ valueGives r ≡ valueOnNet (lent (now (components .entry)) (now (inputs .entry)) (now (outputs .entry)) [] counts) side i port ⌝ }
 {
     if counts.components <= i {
@@ -167,12 +171,12 @@ fn value_in(
     let f = tables::fields_at(components, i);
     match side {
         Side::Inputs => {
-            let first = tables::word_of(components, i, 6) as usize;
+            let first = tables::first_input(components, i);
             let width = primitive::input_width(f);
             port_value(inputs, first, f.inputs as usize, width, port)
         }
         Side::Outputs => {
-            let first = tables::word_of(components, i, 7) as usize;
+            let first = tables::first_output(components, i);
             let width = primitive::output_width(f);
             port_value(outputs, first, f.outputs as usize, width, port)
         }
@@ -217,7 +221,7 @@ fn list_number(
     0
 }
 
-// Lists what wires join to component i, where nothing is refused. `near` and `far` are ends of a wire.
+// Lists what wires join to component i, where nothing is refused.
 fn list_joined(
     components: &[u64],
     inputs: &[u64],
@@ -227,12 +231,11 @@ fn list_joined(
     following: &[u16],
     standing: &[u16],
     counts: Counts,
-    near: usize,
-    far: usize,
+    near: Tip,
+    far: Tip,
     i: usize,
     list: &mut [u16],
 ) -> Listed
-    requires { ⌜ (isEnd near ≡ true) × (isEnd far ≡ true) ⌝ }
     ensures { λ r.
         let before = tablesOf (now (components .entry)) (now (inputs .entry)) (now (outputs .entry)) (now (wires .entry))
         (now (current .entry)) (now (following .entry)) (now (standing .entry)) counts in
@@ -387,8 +390,8 @@ pub fn sources_of(
         (now (current .entry)) (now (following .entry)) (now (standing .entry)) counts in
         ⌜ AsksSources before (index .0) (now (list .entry)) r (now (list .exit)) ⌝ }
 {
-    let near = TARGET;
-    let far = SOURCE;
+    let near = Tip::Target;
+    let far = Tip::Source;
     list_joined(
         components,
         inputs,
@@ -423,8 +426,8 @@ pub fn targets_of(
         (now (current .entry)) (now (following .entry)) (now (standing .entry)) counts in
         ⌜ AsksTargets before (index .0) (now (list .entry)) r (now (list .exit)) ⌝ }
 {
-    let near = SOURCE;
-    let far = TARGET;
+    let near = Tip::Source;
+    let far = Tip::Target;
     list_joined(
         components,
         inputs,

@@ -4,16 +4,19 @@ ghost use mathlib.Core.Path.{_≡_};
 ghost use mathlib.Core.List.{[], foldl};
 ghost use Prim.Native.Nat.{_≤_, _<_};
 ghost use lib.ListN.{length, take};
-ghost use Rattle.tables.specs.Tables.{tablesOf, wireAt, wiresIn, countsAfter};
+ghost use Rattle.tables.specs.Tables.{tablesOf, wiresIn, countsAfter};
+ghost use Rattle.tables.specs.Words.{uncounted};
 ghost use Rattle.net.specs.Net.{netNumber};
 ghost use Rattle.simulator.specs.Round.{wiresFrom, turn, leave, send, evaluated, visit, roundOf};
 ghost use Rattle.simulator.specs.Calls.{Rounds, run, countsAfterRun, Runs};
-ghost use Rattle.simulator.specs.Steps.{uncounted, wiring, stateAt, CanEvaluate, CanSend, CanRun, ListFits, Step, Visited};
+ghost use Rattle.simulator.specs.Steps.{wiring, stateAt, CanEvaluate, CanSend, CanRun, ListFits, Step, Visited};
 use crate::Ran;
 use crate::questions::only_clocks;
+use primitive::Kind;
 use primitive::Refusal;
 use tables::Answer;
 use tables::Counts;
+use tables::Wire;
 
 // How many entries of the following and the standing list are in use.
 pub struct Sizes {
@@ -21,29 +24,24 @@ pub struct Sizes {
     pub standing: usize,
 }
 
-// Wire k: if output and input differ, writes the input and appends the target to the following list unless there. The answer is
+// One wire: if output and input differ, writes the input and appends the target to the following list unless there. The answer is
 // the list's new count.
-fn send_wire(
+fn send_along(
     components: &[u64],
-    wires: &[u16],
     inputs: &mut [u64],
     outputs: &[u64],
     following: &mut [u16],
     count: usize,
-    k: usize,
+    wire: Wire,
 ) -> usize
-    requires { ⌜ (k < 1024) × CanSend (uncounted (now components) (now wires)) (now inputs) (now outputs) count (now following)
-        (wireAt (uncounted (now components) (now wires)) k) ⌝ }
+    requires { ⌜ CanSend (uncounted (now components) []) (now inputs) (now outputs) count (now following) wire ⌝ }
     ensures { λ r. ⌜ Step r (now (following .exit)) (stateAt (now (inputs .exit)) (now (outputs .entry)) (take r (now (following .exit))) [])
-        (send (uncounted (now (components .entry)) (now (wires .entry))) (stateAt (now (inputs .entry)) (now (outputs .entry))
-        (take count (now (following .entry))) []) (wireAt (uncounted (now (components .entry)) (now (wires .entry))) k)) ⌝ }
+        (send (uncounted (now (components .entry)) []) (stateAt (now (inputs .entry)) (now (outputs .entry))
+        (take count (now (following .entry))) []) wire) ⌝ }
 {
-    let from = tables::entry(wires, 4 * k);
-    let output = tables::entry(wires, 4 * k + 1);
-    let to = tables::entry(wires, 4 * k + 2);
-    let input = tables::entry(wires, 4 * k + 3);
-    let source = tables::word_of(components, from, 7) as usize + output;
-    let target = tables::word_of(components, to, 6) as usize + input;
+    let to = wire.dst.comp.0;
+    let source = tables::first_output(components, wire.src.comp.0) + wire.src.port as usize;
+    let target = tables::first_input(components, to) + wire.dst.port as usize;
     let number = tables::word(outputs, source);
     if number == tables::word(inputs, target) {
         return count;
@@ -73,15 +71,16 @@ fn send_wires(
     let mut filled = count;
     let mut k: usize = 0;
     while k < counts.wires {
-        if tables::entry(wires, 4 * k) == i {
-            filled = send_wire(components, wires, inputs, outputs, following, filled, k);
+        let wire = tables::wire_at(wires, k);
+        if wire.src.comp.0 == i {
+            filled = send_along(components, inputs, outputs, following, filled, wire);
         }
         k += 1;
     }
     filled
 }
 
-// CanEvaluate component i in the tables of ports and, unless it is a Clock, strikes it from the standing list. The answer is that
+// Evaluates component i in the tables of ports and, unless it is a Clock, strikes it from the standing list. The answer is that
 // list's new count.
 fn evaluate_at(
     components: &[u64],
@@ -98,8 +97,8 @@ fn evaluate_at(
         (take count (now (standing .entry))))) ⌝ }
 {
     let f = tables::fields_at(components, i);
-    let input = tables::word_of(components, i, 6) as usize;
-    let output = tables::word_of(components, i, 7) as usize;
+    let input = tables::first_input(components, i);
+    let output = tables::first_output(components, i);
     let input_end = input + f.inputs as usize;
     let output_end = output + f.outputs as usize;
     primitive::update(
@@ -108,7 +107,7 @@ fn evaluate_at(
         &mut outputs[output..output_end],
         time,
     );
-    if f.kind == 12 {
+    if tables::is_kind(components, i, Kind::Clock) {
         return count;
     }
     tables::strike(standing, count, i as u16)

@@ -4,6 +4,7 @@
 -- Assumes nothing.
 use mathlib.Core.Path.{_≡_, refl, sym, _∙_}
 use mathlib.Core.Bool.{Bool, true, false, not, _||_}
+use mathlib.Core.Logic.{_⊎_, inl, inr}
 use mathlib.Core.List.{List, [], _∷_, _++_, append-nil}
 use Prim.Native.Nat.{ℕ, suc, _+_, _≤_, _<_}
 use native.Mathlib.Nat.{le-refl}
@@ -11,7 +12,7 @@ use native.Mathlib.Numerals.{add-one}
 use native.Mathlib.Omega.{arith}
 use borrow.Author.Tests.{eq-eqb, ne-eqb}
 use lib.ListN.{length, getD, take, drop, set, length-append, length-take, take-append-drop}
-use lib.Seq.{take-suc, take-suc-set, set-split, append-snoc, getD-take, getD-set-other, length-take-le, drop-cons, set-at}
+use lib.Seq.{take-all, take-length, take-suc, take-suc-set, set-split, append-snoc, getD-take, getD-set-other, length-take-le, drop-cons, set-at}
 use lib.Dec.{eqb}
 use Rattle.lists.proofs.OverlayLaws.{overlay-front}
 use Rattle.lists.specs.Lists.{has, appendNew, strike, overlay}
@@ -30,6 +31,12 @@ has-append x (y ∷ xs) ys = by-test (eqb x y) (has-append x xs ys)
 pub strike-append : (x : ℕ) (xs ys : List ℕ) → strike x (xs ++ ys) ≡ strike x xs ++ strike x ys
 unfolding strike
 strike-append x xs ys = keep-append (λ y. not (eqb x y)) xs ys
+
+-- A count that is cut to the length of the table, as a loop's end, names the same entries.
+pub cut-end : (t : List ℕ) (n e : ℕ) → ((e ≡ n) × (n < length t)) ⊎ ((length t ≤ n) × (e ≡ length t))
+    → (e ≤ length t) × (take e t ≡ take n t)
+cut-end t n e (inl h) = (omega (arith, h .0), rw (h .0))
+cut-end t n e (inr h) = (omega (arith, h .1), rw (h .1, take-length, take-all n t (h .0)))
 
 -- Looking for x among the first n entries: found at i; not found up to i.
 module _ (t : List ℕ) (n i x : ℕ) (small : n ≤ length t) (h : i < n) where

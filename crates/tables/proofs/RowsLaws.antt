@@ -1,12 +1,15 @@
--- Laws of a component's words: those that fit the fields of a component, and that a component that obeys the table of
--- kinds has
--- no others.
+-- Laws of an entry's words: stored one behind the other; those that fit the fields of a component,
+-- and that a component that obeys the table of kinds has no others.
 -- Assumes nothing.
-use mathlib.Core.Path.{_≡_, refl, sym, _∙_}
+use mathlib.Core.Path.{_≡_, refl, sym, ap, _∙_}
 use mathlib.Core.Bool.{Bool, true, false, _&&_, true≢false}
-use Prim.Native.Nat.{_<_}
+use mathlib.Core.List.{List, [], _∷_}
+use Prim.Native.Nat.{ℕ, suc, _+_, _<_}
+use native.Mathlib.Numerals.{add-one}
 use native.Mathlib.Omega.{arith}
 use borrow.Author.Tests.{lt-ltb, ltb-true}
+use lib.ListN.{set}
+use lib.Seq.{sets}
 use Rattle.lists.proofs.ListsLaws.{and-left, and-right, within-most}
 use Rattle.value.specs.Value.{below}
 use Rattle.primitive.specs.declared.kinds.Kind.{Kind}
@@ -15,6 +18,20 @@ use Rattle.primitive.specs.declared.table.Fields.{Fields}
 use Rattle.primitive.specs.Kinds.{kindOf, primitive, obeys, row}
 use Rattle.primitive.proofs.UpdateLaws.{InRow, obeys-row}
 use Rattle.tables.specs.Words.{fieldsFit}
+
+-- The words of an entry at k, stored by their offsets from k, the first of which is j.
+abbrev pub stores : List ℕ → ℕ → ℕ → List ℕ → List ℕ
+stores t k j [] = t
+stores t k j (x ∷ xs) = stores (set t (k + j) x) k (suc j) xs
+
+stores-sets : (t : List ℕ) (k j : ℕ) (xs : List ℕ) → stores t k j xs ≡ sets t (k + j) xs
+stores-sets t k j [] = refl
+stores-sets t k j (x ∷ xs) =
+    let e : k + suc j ≡ suc (k + j) = omega arith in
+    stores-sets (set t (k + j) x) k (suc j) xs ∙ ap (λ (i : ℕ). sets (set t (k + j) x) i xs) e
+
+pub stores-entry : (t : List ℕ) (k x : ℕ) (xs : List ℕ) → stores (set t k x) k 1 xs ≡ sets t k (x ∷ xs)
+stores-entry t k x xs = stores-sets (set t k x) k 1 xs ∙ ap (λ (i : ℕ). sets (set t k x) i xs) (add-one k)
 
 -- What fields that fit have.
 module _ (f : Fields) (e : fieldsFit f ≡ true) where

@@ -10,6 +10,7 @@ use lib.ListN.{length, getD}
 use Rattle.lists.specs.Lists.{from}
 use Rattle.tables.specs.declared.Wire.{Wire}
 use Rattle.tables.specs.Tables.{Tables, fullSize, wordIn, endAt, fieldsAt, wiresIn}
+use Rattle.tables.specs.Words.{wireIn}
 
 pub record SameWiring (T U : Tables) : Type 0 where
   pub components : U .components ≡ T .components
@@ -77,12 +78,7 @@ sameLengths-more T U W a b =
 -- k wires from their words.
 abbrev wiresOf : List ℕ → ℕ → List Wire
 wiresOf ws k =
-    let at : ℕ → Wire = λ q.
-    record {
-      src = endAt (getD ws (4 * q) 0) (getD ws (4 * q + 1) 0);
-      dst = endAt (getD ws (4 * q + 2) 0) (getD ws (4 * q + 3) 0);
-    } in
-    map at (from 0 k)
+    map (wireIn ws) (from 0 k)
 
 -- What is read off the components and the wires is then the same too.
 module _ (T U : Tables) (a : SameWiring T U) where

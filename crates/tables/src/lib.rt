@@ -3,6 +3,7 @@
 mod named;
 mod rows;
 mod sizes;
+mod wires;
 mod words;
 
 pub use named::append_new;
@@ -11,10 +12,21 @@ pub use named::strike;
 use primitive::Refusal;
 pub use rows::fields_at;
 pub use rows::fields_fit;
+pub use rows::first_input;
+pub use rows::first_output;
+pub use rows::has_id;
+pub use rows::id_word;
+pub use rows::input_count;
+pub use rows::is_kind;
+pub use rows::kind_word;
+pub use rows::lay_row;
+pub use rows::output_count;
+pub use rows::parameter_word;
 pub use sizes::full_size;
+pub use wires::lay_wire;
+pub use wires::wire_at;
 pub use words::entry;
 pub use words::word;
-pub use words::word_of;
 
 // The place of a component in the table of components.
 pub struct FlatIdx(pub usize);

@@ -33,15 +33,19 @@ pub fn append_new(list: &mut [u16], count: usize, x: u16) -> usize
     count + 1
 }
 
-// Strikes x, moving up what stands behind it. The answer is the new count; entries past it may have changed. Crate simulator calls it
-// for the standing list of a net.
+// Strikes x, moving up what stands behind it. The answer is the new count; entries past it may have changed. A count past the table's
+// end means all of the table.
 pub fn strike(list: &mut [u16], count: usize, x: u16) -> usize
-    requires { ⌜ count ≤ length (now list) ⌝ }
     ensures { λ r. ⌜ (r ≡ length (strike x (take count (now (list .entry))))) × (take r (now (list .exit)) ≡ strike x (take count (now (list .entry)))) ⌝ }
 {
+    let end = if count < list.len() {
+        count
+    } else {
+        list.len()
+    };
     let mut i: usize = 0;
     let mut left: usize = 0;
-    while i < count {
+    while i < end {
         let y = list[i];
         if x != y {
             list[left] = y;

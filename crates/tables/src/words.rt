@@ -1,8 +1,6 @@
 // Reading a word of a lent table. Past a table's end there is none, and 0 stands for it.
 ghost use mathlib.Core.Path.{_≡_};
-ghost use Prim.Native.Nat.{_<_};
 ghost use lib.ListN.{getD};
-ghost use Rattle.tables.specs.Tables.{wordIn};
 
 // A word of a table of words.
 pub fn word(table: &[u64], at: usize) -> u64
@@ -20,12 +18,4 @@ pub fn entry(table: &[u16], at: usize) -> usize
     } else {
         0
     }
-}
-
-// Word k of component i. Crates net and simulator call it with an index of a list or a wire, or below a count.
-pub fn word_of(components: &[u64], i: usize, k: usize) -> u64
-    requires { ⌜ (i < 65536) × (k < 8) ⌝ }
-    ensures { λ r. ⌜ r ≡ wordIn (now (components .entry)) i k ⌝ }
-{
-    word(components, 8 * i + k)
 }

@@ -9,11 +9,11 @@ use borrow.Author.Needs.{needs}
 use Rattle.lines.proofs.put_component.Statement.{statement}
 use Rattle.lines.proofs.put_component.Tie as tie
 
-word-of-requires : tie.Need-word-of-requires
-word-of-requires c κs = search needs
+kind-word-requires : tie.Need-kind-word-requires
+kind-word-requires c κs = search needs
 
-word-of-requires-2 : tie.Need-word-of-requires-2
-word-of-requires-2 c κs = search needs
+id-word-requires : tie.Need-id-word-requires
+id-word-requires c κs = search needs
 
 put-ended-requires : tie.Need-put-ended-requires
 put-ended-requires c κs = search needs
@@ -33,8 +33,8 @@ same-length c = search needs
 returns : tie.Need-returns
 unfolding componentLine
 returns c =
-    let kind = c .before .before .before .before .before .before .before .before .before .before .before .before .before .before .before .before .before .word-of in
-    let id = c .before .before .before .before .before .before .before .before .before .before .before .before .before .before .before .before .word-of2 in
+    let kind = c .before .before .before .before .before .before .before .before .before .before .before .before .before .before .before .before .before .kind-word in
+    let id = c .before .before .before .before .before .before .before .before .before .before .before .before .before .before .before .before .id-word in
     let index = c .before .before .before .before .before .before .before .before .before .before .before .before .before .before .put-ended in
     let name = c .before .before .before .before .before .before .before .before .before .before .put-kind in
     let blank = c .before .before .before .before .before .before .put in
@@ -47,8 +47,8 @@ pub put-component-spec : {M : Type 1} → statement M
 put-component-spec =
     tie.close
     (tie.spec
-    word-of-requires
-    word-of-requires-2
+    kind-word-requires
+    id-word-requires
     put-ended-requires
     put-kind-requires
     put-requires

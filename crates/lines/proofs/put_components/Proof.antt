@@ -1,8 +1,10 @@
 -- `put_components`: the first line, then a line for each.
 -- Assumes nothing.
-use Prim.Native.Nat.{_-_, _≤_}
+use mathlib.Core.List.{List}
+use Prim.Native.Nat.{ℕ, _-_, _≤_}
 use native.Mathlib.Omega.{arith}
 use Rattle.lists.specs.Lists.{from, joined}
+use Rattle.tables.specs.Words.{fieldsIn, idIn}
 use Rattle.text.proofs.TextLaws.{ToCome}
 use Rattle.lines.specs.Lines.{componentLine}
 use Rattle.lines.proofs.LinesLaws.{both, begun-lines, next-line, no-line}
@@ -10,9 +12,12 @@ use borrow.Author.Needs.{needs}
 use Rattle.lines.proofs.put_components.Statement.{statement}
 use Rattle.lines.proofs.put_components.Tie as tie
 
+abbrev line : List ℕ → ℕ → List ℕ
+line cs i = componentLine i (fieldsIn cs i .kind) (idIn cs i)
+
 abbrev Inv-loop : tie.InvT-loop
 Inv-loop out₀ at components count next₀ i₀ out next i =
-    (i ≤ count) × ToCome out₀ next₀ (joined (componentLine components) (from 0 count)) out next (joined (componentLine components) (from i (count - i)))
+    (i ≤ count) × ToCome out₀ next₀ (joined (line components) (from 0 count)) out next (joined (line components) (from i (count - i)))
 
 abbrev μ-loop : tie.MeasureT-loop
 μ-loop out₀ at components count next₀ i₀ out next i = count - i
@@ -27,7 +32,7 @@ loop-holds : tie.Need-loop-holds Inv-loop μ-loop
 loop-holds c =
     let a = c .before .before .before .before .before .before .before .args in
     let h = c .before .before .put-counted in
-    (omega arith, begun-lines (componentLine (a .components .now)) (a .count) (h .ensures))
+    (omega arith, begun-lines (line (a .components .now)) (a .count) (h .ensures))
 
 put-component-requires : tie.Need-put-component-requires Inv-loop μ-loop
 put-component-requires c κs = search needs
@@ -43,7 +48,7 @@ loop-again c =
     let a = c .before .before .before .before .before .before .before .before .before .before .before .before .before .args in
     let s = c .before .before .before .before .before .loop in
     let r = c .before .before .put-component in
-    (omega arith, next-line (componentLine (a .components .now)) (s .i) (a .count) (omega arith) (s .inv .1) (r .ensures))
+    (omega arith, next-line (line (a .components .now)) (s .i) (a .count) (omega arith) (s .inv .1) (r .ensures))
 
 same-length : tie.Need-same-length Inv-loop μ-loop
 same-length c = search needs
@@ -53,7 +58,7 @@ returns c =
     let a = c .before .before .before .before .before .before .before .before .before .args in
     let h = c .before .before .before .before .put-counted in
     let s = c .before .loop in
-    both (h .ensures) (no-line (componentLine (a .components .now)) (s .i) (a .count) (omega arith) (s .inv .1))
+    both (h .ensures) (no-line (line (a .components .now)) (s .i) (a .count) (omega arith) (s .inv .1))
 
 pub put-components-spec : {M : Type 1} → statement M
 put-components-spec =

@@ -63,10 +63,7 @@ slice-aggregate-put-net-2 : tie.Need-slice-aggregate-put-net-2
 slice-aggregate-put-net-2 c = search needs
 
 put-net-requires : tie.Need-put-net-requires
-put-net-requires c κs =
-    let d = c .before .before .before .before in
-    let w = net-within (left d) (left-net d) in
-    (w .components, w .wires)
+put-net-requires c κs = search needs
 
 slice-aggregate-put-rounds : tie.Need-slice-aggregate-put-rounds
 slice-aggregate-put-rounds c = search needs

@@ -14,13 +14,10 @@ enum-told c = search needs
 returns : tie.Need-returns
 returns c = search needs
 
-mul-write-row : tie.Need-mul-write-row
-mul-write-row c = search needs
-
-write-row-requires : tie.Need-write-row-requires
-write-row-requires c κs =
-    let s = c .before .before .before .before .before .before in
-    row-room _ _ (s .args .before) (s .args .drawn) (c .before .before .before .drawn .given .1)
+lay-row-requires : tie.Need-lay-row-requires
+lay-row-requires c κs =
+    let s = c .before .before .before .before .before in
+    row-room _ _ (s .args .before) (s .args .drawn) (c .before .before .drawn .given .1)
     (s .args .components .now) (s .pre .0)
 
 add-t9 : tie.Need-add-t9
@@ -44,10 +41,10 @@ same-length c = search needs
 returns-2 : tie.Need-returns-2
 returns-2 c =
     let b = c .before .before .before .before .before .before .before in
-    let s = b .before .before .before .before .before .before .before in
-    row-laid _ _ (s .args .before) (s .args .drawn) (b .before .before .before .before .drawn .given .1)
+    let s = b .before .before .before .before .before .before in
+    row-laid _ _ (s .args .before) (s .args .drawn) (b .before .before .before .drawn .given .1)
     (s .args .components .now) _ _ _
-    (b .write-row .ensures) (c .before .before .before .wide .ensures .0) (c .before .wide2 .ensures .0)
+    (b .lay-row .ensures) (c .before .before .before .wide .ensures .0) (c .before .wide2 .ensures .0)
 
 pub lay-component-spec : {M : Type 1} → statement M
 lay-component-spec =
@@ -56,8 +53,7 @@ lay-component-spec =
     enum-known-drawn
     enum-told
     returns
-    mul-write-row
-    write-row-requires
+    lay-row-requires
     add-t9
     wide-requires
     add-t11

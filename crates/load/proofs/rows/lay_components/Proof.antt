@@ -7,6 +7,7 @@ use Rattle.component.specs.Record.{recordAt, recordCount}
 use Rattle.load.specs.Laying.{beforeAt, rowAt}
 use Rattle.load.proofs.LayingLaws.{Laid, laid-start, laid-length}
 use Rattle.load.proofs.PassesLaws.{rows-requires, rows-before, rows-step, rows-end}
+use Rattle.tables.specs.Words.{rowPlace}
 use borrow.Author.Needs.{needs}
 use Rattle.load.proofs.rows.lay_components.Statement.{statement}
 use Rattle.load.proofs.rows.lay_components.Tie as tie
@@ -14,7 +15,7 @@ use Rattle.load.proofs.rows.lay_components.Tie as tie
 abbrev Inv-loop : tie.InvT-loop
 Inv-loop file components₀ n before₀ p₀ components before p =
     (p ≤ recordCount file) × (before ≡ beforeAt (recordAt file) (recordCount file) p)
-    × Laid (rowAt (recordAt file) (recordCount file)) p components₀ components (8 * before .components)
+    × Laid (rowAt (recordAt file) (recordCount file)) p components₀ components (rowPlace (before .components))
 
 abbrev μ-loop : tie.MeasureT-loop
 μ-loop file components₀ n before₀ p₀ components before p = n - p

@@ -5,6 +5,7 @@ use mathlib.Core.Logic.{⊎-elim}
 use native.Mathlib.Omega.{arith}
 use Rattle.load.proofs.WiresLaws.{Leading, lead-bottom, lead-room, lead-here, primitive-number}
 use Rattle.load.proofs.WiresLaws.{leading-start, leading-room, leading-to, leading-nothing, leading-end}
+use Rattle.tables.specs.Words.{wirePlace}
 use borrow.Author.Needs.{needs}
 use Prim.Native.Nat.{ℕ, _-_, _<_}
 use borrow.Fn.Kinds.{In}
@@ -16,7 +17,7 @@ use Rattle.component.proofs.is_primitive_at.Reads as is-primitive-at-reads
 use Rattle.flatten.proofs.enter.Reads as enter-reads
 use Rattle.flatten.proofs.stretch_of.Reads as stretch-of-reads
 use Rattle.load.proofs.wires.flat_pin.Reads as flat-pin-reads
-use Rattle.load.proofs.wires.write_wire.Reads as write-wire-reads
+use Rattle.tables.proofs.lay_wire.Reads as lay-wire-reads
 use Rattle.load.proofs.wires.+lead.{statement}
 use Rattle.load.proofs.wires.+lead.Tie.{close}
 
@@ -35,8 +36,8 @@ lead-claims t = (
   is-primitive-at-reads.Learnt,
   flat-pin-reads.Asked,
   flat-pin-reads.Learnt,
-  write-wire-reads.Asked,
-  write-wire-reads.Learnt,
+  lay-wire-reads.Asked,
+  lay-wire-reads.Learnt,
   stretch-of-reads.Asked,
   stretch-of-reads.Learnt,
   enter-reads.Asked,
@@ -46,11 +47,11 @@ lead-claims t = (
 )
 
 abbrev lead-Inv-loop : lead-lts.InvT-loop
-lead-Inv-loop file n children lo hi indexes from goal wires₀ at end depth place₀ q₀ wires place q =
-    Leading file n (goal .depth) (goal .comp) (goal .port) from wires₀ at q end wires place
+lead-Inv-loop file n children lo hi indexes from goal wires₀ at end depth next₀ q₀ wires next q =
+    Leading file n (goal .depth) (goal .comp) (goal .port) from wires₀ (wirePlace at) q end wires (wirePlace next)
 
 abbrev lead-μ-loop : lead-lts.MeasureT-loop
-lead-μ-loop file n children lo hi indexes from goal wires₀ at end depth place₀ q₀ wires place q =
+lead-μ-loop file n children lo hi indexes from goal wires₀ at end depth next₀ q₀ wires next q =
     end - q
 
 lead-returns : (t : ℕ) → lead-lts.Need-returns (lead-claims t) (lead-at t) lead.Post lead-Inv-loop lead-μ-loop
@@ -70,13 +71,13 @@ lead-flat-pin-requires t c κs =
           (c .if2 .taken),
     )
 
-lead-write-wire-requires : (t : ℕ)
-    → lead-lts.Need-write-wire-requires (lead-claims t) (lead-at t) lead.Post lead-Inv-loop lead-μ-loop
-lead-write-wire-requires t c κs =
+lead-lay-wire-requires : (t : ℕ)
+    → lead-lts.Need-lay-wire-requires (lead-claims t) (lead-at t) lead.Post lead-Inv-loop lead-μ-loop
+lead-lay-wire-requires t c κs =
     let d = c .before .before .before .before in
     let s = d .before .before .before .before .before .before .before .before in
     let a = s .args in (
-      lead-room (a .file .now) (a .n) (a .goal .depth) (a .goal .comp) (a .goal .port) (a .from) (a .wires .now) (a .at)
+      lead-room (a .file .now) (a .n) (a .goal .depth) (a .goal .comp) (a .goal .port) (a .from) (a .wires .now) (wirePlace (a .at))
           _
           (d .if1 .left)
           (c .before .before .before .is-primitive-at .ensures)
@@ -93,7 +94,7 @@ lead-add-result t c =
     let a = s .args in
     omega (
       arith,
-      lead-room (a .file .now) (a .n) (a .goal .depth) (a .goal .comp) (a .goal .port) (a .from) (a .wires .now) (a .at)
+      lead-room (a .file .now) (a .n) (a .goal .depth) (a .goal .comp) (a .goal .port) (a .from) (a .wires .now) (wirePlace (a .at))
           _
           (d .if1 .left) (w .before .is-primitive-at .ensures) (w .if2 .taken)
           (s .pre .1 .1 .1),
@@ -104,7 +105,15 @@ lead-same-length : (t : ℕ) → lead-lts.Need-same-length (lead-claims t) (lead
 lead-same-length t c = search needs
 
 lead-returns-2 : (t : ℕ) → lead-lts.Need-returns-2 (lead-claims t) (lead-at t) lead.Post lead-Inv-loop lead-μ-loop
-lead-returns-2 t c = search (lead-here)
+lead-returns-2 t c =
+    let f = c .before .before .before .before in
+    let w = f .before in
+    let d = w .before .before in
+    let a = d .before .before .before .before .before .before .before .before .args in
+    lead-here (a .file .now) (a .n) (a .goal .depth) (a .goal .comp) (a .goal .port) (a .from) (a .wires .now)
+    (wirePlace (a .at)) _
+    (d .if1 .left) (w .before .is-primitive-at .ensures) (w .if2 .taken)
+    _ _ (f .flat-pin .ensures .0) (c .before .before .lay-wire .ensures) _ (omega arith)
 
 lead-stretch-of-requires : (t : ℕ)
     → lead-lts.Need-stretch-of-requires (lead-claims t) (lead-at t) lead.Post lead-Inv-loop lead-μ-loop
@@ -137,8 +146,8 @@ lead-lead-requires t c κs =
         (
           s .pre .1 .1 .0,
           leading-room (a .file .now) (a .n) (a .goal .depth) (a .goal .comp) (a .goal .port) (a .from) (a .wires .now)
-              (a .at) (l .loop .q) _
-              (l .loop .wires) (l .loop .place) (l .loop .inv) _ _ _
+              (wirePlace (a .at)) (l .loop .q) _
+              (l .loop .wires) (wirePlace (l .loop .next)) (l .loop .inv) _ _ _
               (c .before .before .before .before .before .loop-test .taken)
               (c .before .before .comp .given .1) (c .before .before .before .before .enter .ensures) (s .pre .1 .1 .1),
         ),
@@ -163,12 +172,12 @@ lead-loop-again t c =
     let entered = c .before .enter .ensures in
     ⊎-elim
     (λ w. rw (w .7, w .8)
-    (leading-to (a .file .now) (a .n) (a .goal .depth) (a .goal .comp) (a .goal .port) (a .from) (a .wires .now) (a .at)
-    (l .q) _ (l .wires) (l .place) (l .inv) _ _ _
+    (leading-to (a .file .now) (a .n) (a .goal .depth) (a .goal .comp) (a .goal .port) (a .from) (a .wires .now) (wirePlace (a .at))
+    (l .q) _ (l .wires) (wirePlace (l .next)) (l .inv) _ _ _
     taken (w .1 .given .1) entered _ _ (w .4 .ensures)))
     (λ w. rw (w .2, w .3)
     (leading-nothing (a .file .now) (a .n) (a .goal .depth) (a .goal .comp) (a .goal .port) (a .from) (a .wires .now)
-    (a .at) (l .q) _ (l .wires) (l .place) (l .inv) _
+    (wirePlace (a .at)) (l .q) _ (l .wires) (wirePlace (l .next)) (l .inv) _
     taken (w .1 .given .1) entered))
     (c .match .came)
 
@@ -188,7 +197,7 @@ pub +lead-spec : {M : Type 1} → statement M
     (lead-returns t)
     (lead-is-primitive-at-requires t)
     (lead-flat-pin-requires t)
-    (lead-write-wire-requires t)
+    (lead-lay-wire-requires t)
     (lead-add-result t)
     (lead-same-length t)
     (lead-returns-2 t)

@@ -1,6 +1,7 @@
 -- `connect`: a connection's wires lead from its source to its targets; any other record has none.
 -- Assumes nothing.
 use Rattle.load.proofs.WiresLaws.{connect-refused, connect-other, source-number, connect-room, connect-written}
+use Rattle.tables.specs.Words.{wirePlace}
 use borrow.Author.Needs.{needs}
 use Rattle.load.proofs.wires.connect.Statement.{statement}
 use Rattle.load.proofs.wires.connect.Tie as tie
@@ -70,7 +71,7 @@ lead-requires c κs =
             _ _ _ (f .before .before .deepest .ensures) (f .before .before .before .child-of .ensures)
             (f .before .source-of .ensures)
             _ _ _ (c .before .deepest2 .ensures) (c .before .before .child-of2 .ensures) (f .flat-pin .ensures .0)
-            (s .args .wires .now) (s .args .at) (s .pre .1 .1 .1),
+            (s .args .wires .now) (wirePlace (s .args .at)) (s .pre .1 .1 .1),
       ),
     )
 

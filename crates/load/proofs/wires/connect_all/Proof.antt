@@ -7,11 +7,12 @@ use Rattle.load.specs.Laying.{wiresGiven}
 use Rattle.load.proofs.LayingLaws.{Laid, laid-start, laid-length}
 use Rattle.load.proofs.WiresLaws.{wires-requires, wires-step, wires-end}
 use Rattle.load.proofs.wires.connect_all.Statement.{statement}
+use Rattle.tables.specs.Words.{wirePlace}
 use Rattle.load.proofs.wires.connect_all.Tie as tie
 
 abbrev Inv-loop : tie.InvT-loop
 Inv-loop file n children outs lo hi indexes wires₀ at₀ p₀ wires at p =
-    (p ≤ n) × Laid (wiresGiven (recordAt file) n) p wires₀ wires at
+    (p ≤ n) × Laid (wiresGiven (recordAt file) n) p wires₀ wires (wirePlace at)
 
 abbrev μ-loop : tie.MeasureT-loop
 μ-loop file n children outs lo hi indexes wires₀ at₀ p₀ wires at p =

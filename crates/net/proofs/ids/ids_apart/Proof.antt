@@ -6,8 +6,10 @@ use mathlib.Core.List.{List, map}
 use Prim.Native.Nat.{ℕ, _+_, _-_, _≤_}
 use native.Mathlib.Omega.{arith}
 use Rattle.lists.specs.Lists.{from, has, distinct}
-use Rattle.net.specs.Parts.{idIn}
+use Rattle.lists.proofs.ListsLaws.{every-from}
 use Rattle.net.proofs.LoopsLaws.{from-start, distinctFrom-again, distinctFrom-next, distinctFrom-end}
+use Rattle.tables.specs.Words.{idIn}
+use Rattle.value.specs.Value.{below}
 use borrow.Author.Needs.{needs}
 use Rattle.net.proofs.ids.ids_apart.Statement.{statement}
 use Rattle.net.proofs.ids.ids_apart.Tie as tie
@@ -25,8 +27,10 @@ loop-holds c =
     let a = c .before .args in
     (omega arith, ap (λ (l : List ℕ). distinct (map (idIn (a .components .now)) l)) (from-start (a .count)))
 
-word-of-requires : tie.Need-word-of-requires Inv-loop μ-loop
-word-of-requires c κs = search needs
+id-at-requires : tie.Need-id-at-requires Inv-loop μ-loop
+id-at-requires c κs =
+    let s = c .before .before .before in
+    every-from (λ i. below (idIn (s .args .components .now) i) 32) (s .args .count) (s .pre) (c .before .loop .i) (omega arith)
 
 add-id-from : tie.Need-add-id-from Inv-loop μ-loop
 add-id-from c = search needs
@@ -40,7 +44,7 @@ returns c =
     let l = c .before .before .before .before .loop in
     let e : has (idIn (a .components .now) (l .i))
     (map (idIn (a .components .now)) (from (l .i + 1) (a .count - (l .i + 1)))) ≡ true =
-    rw (← c .before .before .word-of .ensures) (sym (c .before .id-from .ensures) ∙ c .if1 .taken) in
+    rw (← c .before .before .id-at .ensures) (sym (c .before .id-from .ensures) ∙ c .if1 .taken) in
     distinctFrom-again (idIn (a .components .now)) (l .i) (a .count) _ (l .inv .1) (omega arith) e
 
 add-i : tie.Need-add-i Inv-loop μ-loop
@@ -55,7 +59,7 @@ loop-again c =
     let l = c .before .before .before .before .loop in
     let e : has (idIn (a .components .now) (l .i))
     (map (idIn (a .components .now)) (from (l .i + 1) (a .count - (l .i + 1)))) ≡ false =
-    rw (← c .before .before .word-of .ensures) (sym (c .before .id-from .ensures) ∙ c .if1 .left) in
+    rw (← c .before .before .id-at .ensures) (sym (c .before .id-from .ensures) ∙ c .if1 .left) in
     (omega arith, distinctFrom-next (idIn (a .components .now)) (l .i) (a .count) _ (l .inv .1) (omega arith) e)
 
 returns-2 : tie.Need-returns-2 Inv-loop μ-loop
@@ -71,7 +75,7 @@ ids-apart-spec =
     Inv-loop
     μ-loop
     loop-holds
-    word-of-requires
+    id-at-requires
     add-id-from
     id-from-requires
     returns

@@ -9,8 +9,8 @@ use native.Mathlib.Omega.{arith}
 use Rattle.lists.specs.Lists.{from, every}
 use Rattle.lists.proofs.ListsLaws.{every-fails, every-next, every-end}
 use Rattle.value.specs.Value.{below}
-use Rattle.net.specs.Parts.{idIn}
 use Rattle.net.proofs.LoopsLaws.{from-start}
+use Rattle.tables.specs.Words.{idIn}
 use borrow.Author.Needs.{needs}
 use Rattle.net.proofs.ids.ids_fit.Statement.{statement}
 use Rattle.net.proofs.ids.ids_fit.Tie as tie
@@ -30,8 +30,8 @@ loop-holds : tie.Need-loop-holds Inv-loop μ-loop
 loop-holds c =
     let a = c .before .args in (omega arith, ap (every (idFits (a .components .now))) (from-start (a .count)))
 
-word-of-requires : tie.Need-word-of-requires Inv-loop μ-loop
-word-of-requires c κs = search needs
+id-word-requires : tie.Need-id-word-requires Inv-loop μ-loop
+id-word-requires c κs = search needs
 
 lies-below-requires : tie.Need-lies-below-requires Inv-loop μ-loop
 lies-below-requires c κs = search needs
@@ -41,7 +41,7 @@ returns c =
     let a = c .before .before .before .before .before .before .args in
     let l = c .before .before .before .before .loop in
     let e : idFits (a .components .now) (l .i) ≡ false =
-    ap (λ (x : ℕ). below x 32) (sym (c .before .before .word-of .ensures)) ∙ sym (c .before .lies-below .ensures)
+    ap (λ (x : ℕ). below x 32) (sym (c .before .before .id-word .ensures)) ∙ sym (c .before .lies-below .ensures)
     ∙ not-true _ (c .if1 .taken) in
     every-fails (idFits (a .components .now)) (l .i) (a .count) _ (omega arith) e (l .inv .1)
 
@@ -56,7 +56,7 @@ loop-again c =
     let a = c .before .before .before .before .before .before .args in
     let l = c .before .before .before .before .loop in
     let e : idFits (a .components .now) (l .i) ≡ true =
-    ap (λ (x : ℕ). below x 32) (sym (c .before .before .word-of .ensures)) ∙ sym (c .before .lies-below .ensures)
+    ap (λ (x : ℕ). below x 32) (sym (c .before .before .id-word .ensures)) ∙ sym (c .before .lies-below .ensures)
     ∙ not-false _ (c .if1 .left) in
     (omega arith, every-next (idFits (a .components .now)) (l .i) (a .count) _ (omega arith) e (l .inv .1))
 
@@ -72,7 +72,7 @@ ids-fit-spec =
     Inv-loop
     μ-loop
     loop-holds
-    word-of-requires
+    id-word-requires
     lies-below-requires
     returns
     add-i

@@ -7,8 +7,8 @@ use native.Mathlib.Omega.{arith}
 use Rattle.lists.specs.Lists.{from, every}
 use Rattle.lists.proofs.ListsLaws.{every-fails, every-next, every-end}
 use Rattle.net.specs.Net.{kindsObeyed}
-use Rattle.net.specs.Net.{obeyedAt}
 use Rattle.net.proofs.LoopsLaws.{from-start}
+use Rattle.net.specs.Parts.{obeyedAt}
 use borrow.Author.Needs.{needs}
 use Rattle.net.proofs.rows.kinds_obeyed.Statement.{statement}
 use Rattle.net.proofs.rows.kinds_obeyed.Tie as tie

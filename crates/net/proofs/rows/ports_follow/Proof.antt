@@ -1,6 +1,5 @@
 -- `ports_follow`: the ports of the components still to come follow exactly if all do; the sums are those of the
--- components passed,
--- and are small, since each component obeys the table of kinds.
+-- components passed, and are small, since each component obeys the table of kinds.
 -- Assumes nothing.
 use borrow.Author.Tests.{not-true, not-false}
 use mathlib.Core.Path.{_≡_, refl, sym, ap, _∙_}
@@ -11,9 +10,9 @@ use native.Mathlib.Omega.{arith}
 use lib.Dec.{eqb}
 use Rattle.lists.specs.Lists.{from, every}
 use Rattle.lists.proofs.ListsLaws.{every-fails, every-next}
-use Rattle.net.specs.Parts.{lent}
-use Rattle.net.specs.Net.{inputSum, outputSum, followAt}
-use Rattle.tables.specs.Tables.{wordIn}
+use Rattle.net.specs.Parts.{lent, followAt}
+use Rattle.net.specs.Net.{inputSum, outputSum}
+use Rattle.tables.specs.Words.{fieldsIn, uncounted}
 use Rattle.net.proofs.LoopsLaws.{from-start, total-step}
 use Rattle.net.proofs.ClausesLaws.{kindsObeyed-inputs, kindsObeyed-outputs, portsFollow-fails, portsFollow-end}
 use borrow.Author.Needs.{needs}
@@ -22,7 +21,7 @@ use Rattle.net.proofs.rows.ports_follow.Tie as tie
 
 abbrev Inv-loop : tie.InvT-loop
 Inv-loop components counts n inputs₀ outputs₀ i₀ inputs outputs i =
-    (i ≤ n) × (inputs ≡ inputSum components i) × (outputs ≡ outputSum components i) × (inputs ≤ 65536 * i) ×
+    (i ≤ n) × (inputs ≡ inputSum (uncounted components []) i) × (outputs ≡ outputSum (uncounted components []) i) × (inputs ≤ 65536 * i) ×
     (outputs ≤ 65536 * i)
     × (every (followAt components) (from i (n - i)) ≡ every (followAt components) (from 0 n))
 
@@ -30,13 +29,13 @@ abbrev μ-loop : tie.MeasureT-loop
 μ-loop components counts n inputs₀ outputs₀ i₀ inputs outputs i = n - i
 
 -- What the test of a turn says.
-tested : (c : tie.After-word-of2 Inv-loop μ-loop) →
-    (eqb (c .before .word-of .result) (c .before .before .before .loop .inputs) && eqb (c .word-of2 .result)
+tested : (c : tie.After-first-output Inv-loop μ-loop) →
+    (eqb (c .before .first-input .result) (c .before .before .before .loop .inputs) && eqb (c .first-output .result)
     (c .before .before .before .loop .outputs))
     ≡ followAt (c .before .before .before .before .before .args .components .now) (c .before .before .before .loop .i)
 tested c =
     let l = c .before .before .before .loop in
-    rw (c .before .word-of .ensures, c .word-of2 .ensures, l .inv .1, l .inv .2)
+    rw (c .before .first-input .ensures, c .first-output .ensures, l .inv .1, l .inv .2)
 
 loop-holds : tie.Need-loop-holds Inv-loop μ-loop
 loop-holds c =
@@ -50,11 +49,11 @@ loop-holds c =
           (from-start (a .counts .components)),
     )
 
-word-of-requires : tie.Need-word-of-requires Inv-loop μ-loop
-word-of-requires c κs = search needs
+first-input-requires : tie.Need-first-input-requires Inv-loop μ-loop
+first-input-requires c κs = search needs
 
-word-of-requires-2 : tie.Need-word-of-requires-2 Inv-loop μ-loop
-word-of-requires-2 c κs = search needs
+first-output-requires : tie.Need-first-output-requires Inv-loop μ-loop
+first-output-requires c κs = search needs
 
 returns : tie.Need-returns Inv-loop μ-loop
 returns c =
@@ -64,8 +63,8 @@ returns c =
     (every-fails (followAt (a .components .now)) (l .i) (a .counts .components) _ (omega arith)
     (sym (tested (c .before)) ∙ not-true _ (c .if1 .taken)) (l .inv .5))
 
-word-of-requires-3 : tie.Need-word-of-requires-3 Inv-loop μ-loop
-word-of-requires-3 c κs = search needs
+input-count-requires : tie.Need-input-count-requires Inv-loop μ-loop
+input-count-requires c κs = search needs
 
 add-inputs : tie.Need-add-inputs Inv-loop μ-loop
 add-inputs c =
@@ -73,15 +72,15 @@ add-inputs c =
     let l = c .before .before .before .before .before .loop in
     omega (
       arith,
-      c .word-of3 .ensures,
+      c .input-count .ensures,
       l .inv .3,
       l .inv .0,
       s .pre .0,
       kindsObeyed-inputs (lent (s .args .components .now) [] [] [] (s .args .counts)) (s .pre .1) (l .i) (omega arith),
     )
 
-word-of-requires-4 : tie.Need-word-of-requires-4 Inv-loop μ-loop
-word-of-requires-4 c κs = search needs
+output-count-requires : tie.Need-output-count-requires Inv-loop μ-loop
+output-count-requires c κs = search needs
 
 add-outputs : tie.Need-add-outputs Inv-loop μ-loop
 add-outputs c =
@@ -89,7 +88,7 @@ add-outputs c =
     let l = c .before .before .before .before .before .before .loop in
     omega (
       arith,
-      c .word-of4 .ensures,
+      c .output-count .ensures,
       l .inv .4,
       l .inv .0,
       s .pre .0,
@@ -109,20 +108,20 @@ loop-again c =
     let cs = s .args .components .now in
     let h : l .i < s .args .counts .components = omega arith in (
       omega arith,
-      total-step (λ j. wordIn cs j 4) (l .inputs) (c .before .word-of3 .result) (l .i) (l .inv .1)
-          (c .before .word-of3 .ensures),
-      total-step (λ j. wordIn cs j 5) (l .outputs) (c .word-of4 .result) (l .i) (l .inv .2) (c .word-of4 .ensures),
+      total-step (λ j. fieldsIn cs j .inputs) (l .inputs) (c .before .input-count .result) (l .i) (l .inv .1)
+          (c .before .input-count .ensures),
+      total-step (λ j. fieldsIn cs j .outputs) (l .outputs) (c .output-count .result) (l .i) (l .inv .2) (c .output-count .ensures),
       omega (
         arith,
         l .inv .3,
-        c .before .word-of3 .ensures,
+        c .before .input-count .ensures,
         kindsObeyed-inputs (lent cs [] [] [] (s .args .counts))
             (s .pre .1) (l .i) h,
       ),
       omega (
         arith,
         l .inv .4,
-        c .word-of4 .ensures,
+        c .output-count .ensures,
         kindsObeyed-outputs (lent cs [] [] [] (s .args .counts))
             (s .pre .1) (l .i) h,
       ),
@@ -132,8 +131,8 @@ loop-again c =
 
 returns-2 : tie.Need-returns-2 Inv-loop μ-loop
 returns-2 c =
-    let a = c .before .before .before .args in
-    let l = c .before .loop in
+    let a = c .before .before .before .before .before .args in
+    let l = c .before .before .before .loop in
     portsFollow-end (a .components .now) (a .counts) (l .i) (l .inputs) (l .outputs) (omega arith) (l .inv .1)
     (l .inv .2) (l .inv .5)
 
@@ -144,12 +143,12 @@ ports-follow-spec =
     Inv-loop
     μ-loop
     loop-holds
-    word-of-requires
-    word-of-requires-2
+    first-input-requires
+    first-output-requires
     returns
-    word-of-requires-3
+    input-count-requires
     add-inputs
-    word-of-requires-4
+    output-count-requires
     add-outputs
     add-i
     loop-less

@@ -14,8 +14,7 @@ returns : tie.Need-returns
 returns c = sym (unfit-obeys _ (sym (c .before .fields-fit .ensures) ∙ not-true _ (c .if1 .taken)))
 
 fields-at-requires : tie.Need-fields-at-requires
-fields-at-requires c κs =
-    (c .before .before .before .pre, sym (c .before .fields-fit .ensures) ∙ not-false _ (c .if1 .left))
+fields-at-requires c κs = sym (c .before .fields-fit .ensures) ∙ not-false _ (c .if1 .left)
 
 is-primitive-requires : tie.Need-is-primitive-requires
 is-primitive-requires c κs = search needs

@@ -7,8 +7,8 @@ use native.Mathlib.Omega.{arith}
 use Rattle.lists.specs.Lists.{from, every}
 use Rattle.lists.proofs.ListsLaws.{every-fails, every-next, every-end}
 use Rattle.net.specs.Net.{constsHeld}
-use Rattle.net.specs.Net.{heldAt}
 use Rattle.net.proofs.LoopsLaws.{from-start}
+use Rattle.net.specs.Parts.{heldAt}
 use borrow.Author.Needs.{needs}
 use Rattle.net.proofs.values.consts_held.Statement.{statement}
 use Rattle.net.proofs.values.consts_held.Tie as tie

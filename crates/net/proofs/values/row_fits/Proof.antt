@@ -10,11 +10,11 @@ use Rattle.net.proofs.values.row_fits.Tie as tie
 fields-at-requires : tie.Need-fields-at-requires
 fields-at-requires c κs = search needs
 
-word-of-requires : tie.Need-word-of-requires
-word-of-requires c κs = search needs
+first-input-requires : tie.Need-first-input-requires
+first-input-requires c κs = search needs
 
-word-of-requires-2 : tie.Need-word-of-requires-2
-word-of-requires-2 c κs = search needs
+first-output-requires : tie.Need-first-output-requires
+first-output-requires c κs = search needs
 
 input-width-requires : tie.Need-input-width-requires
 input-width-requires c κs = search needs
@@ -31,8 +31,8 @@ all-below-requires c κs =
     let f = c .before .before .before .before .before .fields-at in
     omega (
       arith,
-      s .pre .2,
-      c .before .before .before .before .word-of .ensures,
+      s .pre .1,
+      c .before .before .before .before .first-input .ensures,
       ap (λ (f : Fields). f .inputs)
           (f .ensures),
     )
@@ -46,8 +46,8 @@ all-below-requires-2 c κs =
     let f = c .before .before .before .before .before .before .before .fields-at in
     omega (
       arith,
-      s .pre .3,
-      c .before .before .before .before .before .word-of2 .ensures,
+      s .pre .2,
+      c .before .before .before .before .before .first-output .ensures,
       ap
           (λ (f : Fields). f .outputs) (f .ensures),
     )
@@ -60,8 +60,8 @@ returns c =
       a1,
       c .before .before .before .before .output-width .ensures,
       c .before .before .before .before .before .input-width .ensures,
-      c .before .before .before .before .before .before .word-of2 .ensures,
-      c .before .before .before .before .before .before .before .word-of .ensures,
+      c .before .before .before .before .before .before .first-output .ensures,
+      c .before .before .before .before .before .before .before .first-input .ensures,
       c .before .before .before .before .before .before .before .before .fields-at .ensures,
     )
 
@@ -70,8 +70,8 @@ row-fits-spec =
     tie.close
     (tie.spec
     fields-at-requires
-    word-of-requires
-    word-of-requires-2
+    first-input-requires
+    first-output-requires
     input-width-requires
     output-width-requires
     cast-all-below

@@ -4,28 +4,28 @@ use borrow.Author.Needs.{needs}
 use Rattle.net.proofs.values.row_held.Statement.{statement}
 use Rattle.net.proofs.values.row_held.Tie as tie
 
-word-of-requires : tie.Need-word-of-requires
-word-of-requires c κs = search needs
-
-word-of-requires-2 : tie.Need-word-of-requires-2
-word-of-requires-2 c κs = search needs
-
-word-of-requires-3 : tie.Need-word-of-requires-3
-word-of-requires-3 c κs = search needs
+first-output-requires : tie.Need-first-output-requires
+first-output-requires c κs = search needs
 
 word-requires : tie.Need-word-requires
 word-requires c κs = search needs
 
+is-kind-requires : tie.Need-is-kind-requires
+is-kind-requires c κs = search needs
+
+parameter-word-requires : tie.Need-parameter-word-requires
+parameter-word-requires c κs = search needs
+
 returns : tie.Need-returns
 returns c =
     rw (
-      c .word .ensures,
-      c .before .word-of3 .ensures,
-      c .before .before .word-of2 .ensures,
-      c .before .before .before .word-of .ensures,
+      c .parameter-word .ensures,
+      c .before .is-kind .ensures,
+      c .before .before .word .ensures,
+      c .before .before .before .first-output .ensures,
     )
 
 pub row-held-spec : {M : Type 1} → statement M
 row-held-spec =
     tie.close
-    (tie.spec word-of-requires word-of-requires-2 word-of-requires-3 word-requires returns)
+    (tie.spec first-output-requires word-requires is-kind-requires parameter-word-requires returns)

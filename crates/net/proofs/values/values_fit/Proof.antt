@@ -8,8 +8,7 @@ use native.Mathlib.Omega.{arith}
 use Rattle.lists.specs.Lists.{from, every}
 use Rattle.lists.proofs.ListsLaws.{every-fails, every-next, every-end}
 use Rattle.net.specs.Net.{valuesFit}
-use Rattle.net.specs.Parts.{lent}
-use Rattle.net.specs.Net.{fitAt}
+use Rattle.net.specs.Parts.{lent, fitAt}
 use Rattle.net.proofs.ClausesLaws.{kindsObeyed-fit}
 use Rattle.net.proofs.LoopsLaws.{from-start}
 use borrow.Author.Needs.{needs}
@@ -36,10 +35,9 @@ row-fits-requires : tie.Need-row-fits-requires Inv-loop μ-loop
 row-fits-requires c κs =
     let s = c .before .before .before .before .before in
     let i = c .before .loop .i in (
-      omega arith,
-      kindsObeyed-fit (lent (s .args .components .now) [] [] [] (s .args .counts)) (s .pre .1) i (omega arith),
-      s .pre .2 i (omega arith) .0,
-      s .pre .2 i (omega arith) .1,
+      kindsObeyed-fit (lent (s .args .components .now) [] [] [] (s .args .counts)) (s .pre .0) i (omega arith),
+      s .pre .1 i (omega arith) .0,
+      s .pre .1 i (omega arith) .1,
     )
 
 returns : tie.Need-returns Inv-loop μ-loop

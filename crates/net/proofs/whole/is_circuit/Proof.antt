@@ -84,7 +84,7 @@ returns c =
     (sym (c .before .counts-within .ensures) ∙ not-true _ (c .if1 .taken))
 
 kinds-obeyed-requires : tie.Need-kinds-obeyed-requires
-kinds-obeyed-requires c κs = let w = countsWithin-sound (entry1 c .args .counts) (few c) in w .components
+kinds-obeyed-requires c κs = search needs
 
 returns-2 : tie.Need-returns-2
 returns-2 c =
@@ -94,8 +94,7 @@ returns-2 c =
     (sym (c .before .kinds-obeyed .ensures) ∙ not-true _ (c .if2 .taken))
 
 ids-distinct-requires : tie.Need-ids-distinct-requires
-ids-distinct-requires c κs =
-    let w = countsWithin-sound (entry2 c .args .counts) (few (c .before .before)) in w .components
+ids-distinct-requires c κs = search needs
 
 ports-follow-requires : tie.Need-ports-follow-requires
 ports-follow-requires c κs =
@@ -115,9 +114,7 @@ values-fit-requires : tie.Need-values-fit-requires
 values-fit-requires c κs =
     let s = entry3 c in
     let e = c .before .before .before in
-    let f = few (e .before .before) in
-    let w = countsWithin-sound (s .args .counts) f in (
-      w .components,
+    let f = few (e .before .before) in (
       kinds e,
       portsInside (s .args .components .now) (s .args .counts) f (follow c) (s .args .inputs .now)
           (s .args .outputs .now)
@@ -125,16 +122,10 @@ values-fit-requires c κs =
     )
 
 consts-held-requires : tie.Need-consts-held-requires
-consts-held-requires c κs =
-    let e = c .before in
-    let w = countsWithin-sound (entry3 e .args .counts) (few (e .before .before .before .before .before)) in
-    w .components
+consts-held-requires c κs = search needs
 
 wires-fit-requires : tie.Need-wires-fit-requires
-wires-fit-requires c κs =
-    let e = c .before .before in
-    let w = countsWithin-sound (entry3 e .args .counts) (few (e .before .before .before .before .before)) in
-    (w .wires, w .components, kinds (e .before .before .before))
+wires-fit-requires c κs = kinds (c .before .before .before .before .before)
 
 returns-4 : tie.Need-returns-4
 returns-4 c =
@@ -149,8 +140,7 @@ inputs-once-requires c κs =
     let a = entry4 c .args in
     let e = c .before .before .before .before in
     let f = few (e .before .before .before .before .before) in
-    let w = countsWithin-sound (a .counts) f in
-    (w .wires, placesInside (a .components .now) (a .counts) f (follow e) (a .wires .now) (fit c))
+    placesInside (a .components .now) (a .counts) f (follow e) (a .wires .now) (fit c)
 
 returns-5 : tie.Need-returns-5
 returns-5 c =

@@ -1,11 +1,14 @@
 -- `inputs_once`: the inputs that the wires still to come enter are fresh exactly if no input has two wires.
 -- Assumes nothing.
 use Prim.Native.Nat.{ℕ, _-_, _≤_, _<_}
-use mathlib.Core.List.{List, map}
+use mathlib.Core.List.{List, [], map}
 use mathlib.Core.Path.{_≡_, refl, ap, _∙_}
 use native.Mathlib.Omega.{arith}
 use lib.ListN.{length, length-set}
 use Rattle.lists.specs.Lists.{from, distinct}
+use Rattle.tables.specs.declared.Wire.{Wire}
+use Rattle.tables.specs.Tables.{inputPlace}
+use Rattle.tables.specs.Words.{uncounted}
 use Rattle.net.specs.Parts.{placeIn}
 use Rattle.net.proofs.LoopsLaws.{from-start}
 use Rattle.net.proofs.MarksLaws.{fresh, fresh-start, freshFrom-again, freshFrom-next, freshFrom-end}
@@ -23,11 +26,17 @@ Inv-loop components wires n seen₀ k₀ seen k =
 abbrev μ-loop : tie.MeasureT-loop
 μ-loop components wires n seen₀ k₀ seen k = n - k
 
--- The place of a turn is one of full size.
+-- The place of a turn is that of its wire, and one of full size.
+place-is : (c : tie.After-place-of Inv-loop μ-loop) → c .place-of .result
+    ≡ placeIn (c .before .before .before .before .before .before .args .components .now)
+    (c .before .before .before .before .before .before .args .wires .now) (c .before .before .before .loop .k)
+place-is c = c .place-of .ensures ∙ ap (λ (w : Wire). inputPlace (uncounted (c .before .before .before .before .before .before .args .components .now) []) (w .dst))
+    (c .before .wire-at .ensures)
+
 place-small : (c : tie.After-place-of Inv-loop μ-loop) → c .place-of .result < 1024
 place-small c =
-    let s = c .before .before .before .before .before in
-    omega (arith, c .place-of .ensures, s .pre .1 (c .before .before .loop .k) (omega arith) .1)
+    let s = c .before .before .before .before .before .before in
+    omega (arith, place-is c, s .pre (c .before .before .before .loop .k) (omega arith))
 
 loop-holds : tie.Need-loop-holds Inv-loop μ-loop
 loop-holds c =
@@ -39,20 +48,22 @@ loop-holds c =
           (from-start (a .counts .wires)),
     )
 
+wire-at-requires : tie.Need-wire-at-requires Inv-loop μ-loop
+wire-at-requires c κs = search needs
+
 place-of-requires : tie.Need-place-of-requires Inv-loop μ-loop
 place-of-requires c κs =
-    let s = c .before .before .before .before in
-    let p = s .pre .1 (c .before .loop .k) (omega arith) in
-    (omega arith, p .0, p .1)
+    let s = c .before .before .before .before .before in
+    rw (c .wire-at .ensures) (s .pre (c .before .before .loop .k) (omega arith))
 
 array-read-if1 : tie.Need-array-read-if1 Inv-loop μ-loop
 array-read-if1 c = place-small c
 
 returns : tie.Need-returns Inv-loop μ-loop
 returns c =
-    let a = c .before .before .before .before .before .before .args in
-    let l = c .before .before .before .loop in
-    let e = c .before .place-of .ensures in
+    let a = c .before .before .before .before .before .before .before .args in
+    let l = c .before .before .before .before .loop in
+    let e = place-is (c .before) in
     freshFrom-again (placeIn (a .components .now) (a .wires .now)) (l .seen) (l .k) (a .counts .wires) _ (l .inv .2)
     (omega arith)
     (λ z. c .if1 .taken (rw e z))
@@ -69,9 +80,9 @@ loop-less c = search needs
 
 loop-again : tie.Need-loop-again Inv-loop μ-loop
 loop-again c =
-    let a = c .before .before .before .before .before .before .args in
-    let l = c .before .before .before .loop in
-    let e = c .before .place-of .ensures in (
+    let a = c .before .before .before .before .before .before .before .args in
+    let l = c .before .before .before .before .loop in
+    let e = place-is (c .before) in (
       omega arith,
       simp length-set (l .inv .1),
       rw e
@@ -95,6 +106,7 @@ inputs-once-spec =
     Inv-loop
     μ-loop
     loop-holds
+    wire-at-requires
     place-of-requires
     array-read-if1
     returns

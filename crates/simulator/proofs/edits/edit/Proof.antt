@@ -50,7 +50,6 @@ set-port-requires c κs =
     let a = s .args in
     let T = came s in
     let z = passed (c .before .before) in (
-      edit-index T (a .index .0) (a .number) z,
       edit-output T (a .index .0) (a .number) z,
       edit-input T (a .index .0)
           (a .number) z,

@@ -34,11 +34,7 @@ returns c =
 edit-number-requires : tie.Need-edit-number-requires
 edit-number-requires c κs =
     let s = c .before .before .before .before .before .before .before .before .before in
-    let T = came s in (
-      net-within T (is-net c) .components,
-      net-within T (is-net c) .wires,
-      λ h. net-row T (is-net c) (s .args .i) h .fit,
-    )
+    λ h. net-row (came s) (is-net c) (s .args .i) h .fit
 
 returns-2 : tie.Need-returns-2
 returns-2 c =

@@ -44,7 +44,7 @@ fields-at-requires : tie.Need-fields-at-requires
 fields-at-requires c κs =
     let at-if1 = c .before .before .before .before in
     let s = at-if1 .before .before .before .before in
-    (omega arith, s .pre .2 (at-if1 .if1 .left))
+    s .pre (at-if1 .if1 .left)
 
 -- The width of the port that is set.
 

@@ -10,13 +10,15 @@ use lib.Dec.{eqb}
 use Rattle.lists.specs.Lists.{from, any}
 use Rattle.lists.proofs.ListsLaws.{any-here, any-next, any-none}
 use Rattle.net.proofs.LoopsLaws.{from-start}
+use Rattle.tables.specs.declared.Wire.{Wire}
+use Rattle.simulator.specs.declared.questions.Tip.the-variants.{Target}
 use Rattle.simulator.specs.Asked.{endOf}
 use borrow.Author.Needs.{needs}
 use Rattle.simulator.proofs.edits.is_driven.Statement.{statement}
 use Rattle.simulator.proofs.edits.is_driven.Tie as tie
 
 abbrev enters : List ℕ → ℕ → ℕ → Bool
-enters ws i k = eqb (endOf ws k 2) i
+enters ws i k = eqb (endOf ws k Target) i
 
 abbrev Inv-loop : tie.InvT-loop
 Inv-loop wires count i k₀ k =
@@ -29,21 +31,20 @@ loop-holds : tie.Need-loop-holds Inv-loop μ-loop
 loop-holds c =
     let a = c .before .args in (omega arith, ap (any (enters (a .wires .now) (a .i))) (from-start (a .count)))
 
-mul-entry : tie.Need-mul-entry Inv-loop μ-loop
-mul-entry c = search needs
+wire-at-requires : tie.Need-wire-at-requires Inv-loop μ-loop
+wire-at-requires c κs = search needs
 
-add-entry : tie.Need-add-entry Inv-loop μ-loop
-add-entry c = search needs
-
-entry-requires : tie.Need-entry-requires Inv-loop μ-loop
-entry-requires c κs = search needs
+-- Where the wire of a turn goes.
+to-there : (c : tie.After-wire-at Inv-loop μ-loop) → c .wire-at .result .dst .comp .0
+    ≡ endOf (c .before .before .before .before .args .wires .now) (c .before .before .loop .k) Target
+to-there c = ap (λ (w : Wire). w .dst .comp .0) (c .wire-at .ensures)
 
 returns : tie.Need-returns Inv-loop μ-loop
 returns c =
-    let a = c .before .before .before .before .before .args in
-    let l = c .before .before .before .loop in
+    let a = c .before .before .before .before .before .before .args in
+    let l = c .before .before .before .before .loop in
     any-here (enters (a .wires .now) (a .i)) (l .k) (a .count) _ (l .inv .1) (omega arith)
-    (eq-eqb (endOf (a .wires .now) (l .k) 2) (a .i) (sym (c .before .entry .ensures) ∙ c .if1 .taken))
+    (eq-eqb (endOf (a .wires .now) (l .k) Target) (a .i) (sym (to-there (c .before .before)) ∙ c .if1 .taken))
 
 add-k : tie.Need-add-k Inv-loop μ-loop
 add-k c = search needs
@@ -53,11 +54,11 @@ loop-less c = search needs
 
 loop-again : tie.Need-loop-again Inv-loop μ-loop
 loop-again c =
-    let a = c .before .before .before .before .before .args in
-    let l = c .before .before .before .loop in (
+    let a = c .before .before .before .before .before .before .args in
+    let l = c .before .before .before .before .loop in (
       omega arith,
       any-next (enters (a .wires .now) (a .i)) (l .k) (a .count) _ (l .inv .1) (omega arith)
-          (ne-eqb (endOf (a .wires .now) (l .k) 2) (a .i) (λ e. c .if1 .left (c .before .entry .ensures ∙ e))),
+          (ne-eqb (endOf (a .wires .now) (l .k) Target) (a .i) (λ e. c .if1 .left (to-there (c .before .before) ∙ e))),
     )
 
 returns-2 : tie.Need-returns-2 Inv-loop μ-loop
@@ -73,9 +74,7 @@ is-driven-spec =
     Inv-loop
     μ-loop
     loop-holds
-    mul-entry
-    add-entry
-    entry-requires
+    wire-at-requires
     returns
     add-k
     loop-less

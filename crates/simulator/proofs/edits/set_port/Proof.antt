@@ -5,7 +5,7 @@ use mathlib.Core.Bool.{true, false, true≢false}
 use native.Mathlib.Omega.{arith}
 use Rattle.primitive.specs.declared.kinds.Kind.the-variants.{Switch}
 use Rattle.primitive.specs.Kinds.{is}
-use Rattle.tables.specs.Tables.{fieldsIn}
+use Rattle.tables.specs.Words.{fieldsIn}
 use borrow.Author.Needs.{needs}
 use Rattle.simulator.proofs.edits.set_port.Statement.{statement}
 use Rattle.simulator.proofs.edits.set_port.Tie as tie
@@ -13,27 +13,27 @@ use Rattle.simulator.proofs.edits.set_port.Tie as tie
 is-kind-requires : tie.Need-is-kind-requires
 is-kind-requires c κs = search needs
 
-word-of-requires : tie.Need-word-of-requires
-word-of-requires c κs = search needs
+first-output-requires : tie.Need-first-output-requires
+first-output-requires c κs = search needs
 
 slice-write-outputs : tie.Need-slice-write-outputs
 slice-write-outputs c =
     let s = c .before .before .before .before .before .before in
-    omega (arith, c .word-of .ensures, s .pre .1 (sym (c .before .before .is-kind .ensures) ∙ c .before .if1 .taken))
+    omega (arith, c .first-output .ensures, s .pre .0 (sym (c .before .before .is-kind .ensures) ∙ c .before .if1 .taken))
 
 mul-outputs : tie.Need-mul-outputs
 mul-outputs c = omega (arith, slice-write-outputs c)
 
-word-of-requires-2 : tie.Need-word-of-requires-2
-word-of-requires-2 c κs = search needs
+first-input-requires : tie.Need-first-input-requires
+first-input-requires c κs = search needs
 
 slice-write-inputs : tie.Need-slice-write-inputs
 slice-write-inputs c =
     let s = c .before .before .before .before .before .before in
     omega (
       arith,
-      c .word-of2 .ensures,
-      s .pre .2
+      c .first-input .ensures,
+      s .pre .1
           (λ e. true≢false (sym e ∙ sym (c .before .before .is-kind .ensures) ∙ c .before .if1 .left)),
     )
 
@@ -49,7 +49,7 @@ returns c =
     let a = s .args in
     let k : is Switch (fieldsIn (a .components .now) (a .i)) ≡ true =
     sym (c .before .before .is-kind .ensures) ∙ c .before .if1 .taken in
-    rw (k, c .word-of .ensures) (refl, refl)
+    rw (k, c .first-output .ensures) (refl, refl)
 
 same-length-2 : tie.Need-same-length-2
 same-length-2 c = search needs
@@ -60,17 +60,17 @@ returns-2 c =
     let a = s .args in
     let k : is Switch (fieldsIn (a .components .now) (a .i)) ≡ false =
     sym (c .before .before .is-kind .ensures) ∙ c .before .if1 .left in
-    rw (k, c .word-of2 .ensures) (refl, refl)
+    rw (k, c .first-input .ensures) (refl, refl)
 
 pub set-port-spec : {M : Type 1} → statement M
 set-port-spec =
     tie.close
     (tie.spec
     is-kind-requires
-    word-of-requires
+    first-output-requires
     mul-outputs
     slice-write-outputs
-    word-of-requires-2
+    first-input-requires
     mul-inputs
     slice-write-inputs
     same-length

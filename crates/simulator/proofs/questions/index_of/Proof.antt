@@ -31,9 +31,7 @@ returns c =
     index-refused (came s) (s .args .id .0) _ (c .before .net-number .ensures) (c .if1 .taken)
 
 search-id-requires : tie.Need-search-id-requires
-search-id-requires c κs =
-    let s = c .before .before .before .before .before .before .before .before .before in
-    net-within (came s) (is-net c) .components
+search-id-requires c κs = search needs
 
 returns-2 : tie.Need-returns-2
 returns-2 c =

@@ -7,7 +7,7 @@ use Rattle.tables.specs.Tables.{Tables, tablesOf}
 use Rattle.simulator.specs.Questions.{listNumber}
 use Rattle.simulator.specs.Asked.{met}
 use Rattle.simulator.proofs.Sound.{net-within}
-use Rattle.simulator.proofs.QuestionsLaws.{end-place, net-end, list-full, list-net, joined-refused, joined-listed}
+use Rattle.simulator.proofs.QuestionsLaws.{net-end, list-full, list-net, joined-refused, joined-listed}
 use borrow.Author.Needs.{needs}
 use Rattle.simulator.proofs.questions.list_joined.Statement.{statement}
 use Rattle.simulator.proofs.questions.list_joined.Tie as tie
@@ -50,11 +50,8 @@ list-ends-requires c κs =
     let T = came s in
     let z = list-net T (s .args .i) (s .args .list .now) (passed (c .before)) in (
       net-within T z .components,
-      net-within T z .wires,
-      end-place (s .args .near) (s .pre .0),
-      end-place (s .args .far) (s .pre .1),
       list-full T (s .args .i) (s .args .list .now) (passed (c .before)),
-      net-end T z (s .args .far) (s .pre .1),
+      net-end T z (s .args .far),
     )
 
 same-length-2 : tie.Need-same-length-2

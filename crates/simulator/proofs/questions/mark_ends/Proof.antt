@@ -1,13 +1,14 @@
 -- `mark_ends`: after the wires passed, a component is marked exactly if one of them joins it to component i, or if it
 -- was.
 -- Assumes nothing.
-use mathlib.Core.Path.{_≡_, refl, sym, _∙_}
+use mathlib.Core.Path.{_≡_, refl, sym, ap, _∙_}
 use mathlib.Core.Bool.{cond}
 use mathlib.Core.Logic.{⊎-elim}
 use Prim.Native.Nat.{ℕ, _-_, _≤_}
 use native.Mathlib.Omega.{arith}
 use lib.ListN.{length, getD, length-set}
-use Rattle.simulator.specs.Asked.{meets}
+use Rattle.tables.specs.declared.Wire.{Wire}
+use Rattle.simulator.specs.Asked.{compAt, endOf, meets}
 use Rattle.simulator.proofs.EndsLaws.{mark-here, mark-none}
 use borrow.Author.Needs.{needs}
 use Rattle.simulator.proofs.questions.mark_ends.Statement.{statement}
@@ -24,29 +25,31 @@ abbrev μ-loop : tie.MeasureT-loop
 loop-holds : tie.Need-loop-holds Inv-loop μ-loop
 loop-holds c = (omega arith, refl, λ j. refl)
 
-mul-entry : tie.Need-mul-entry Inv-loop μ-loop
-mul-entry c = search needs
+wire-at-requires : tie.Need-wire-at-requires Inv-loop μ-loop
+wire-at-requires c κs = search needs
 
-add-entry : tie.Need-add-entry Inv-loop μ-loop
-add-entry c = search needs
+comp-at-requires : tie.Need-comp-at-requires Inv-loop μ-loop
+comp-at-requires c κs = search needs
 
-entry-requires : tie.Need-entry-requires Inv-loop μ-loop
-entry-requires c κs = search needs
+comp-at-requires-2 : tie.Need-comp-at-requires-2 Inv-loop μ-loop
+comp-at-requires-2 c κs = search needs
 
-mul-entry-2 : tie.Need-mul-entry-2 Inv-loop μ-loop
-mul-entry-2 c = search needs
+-- The ends of the wire of a turn.
+near-end : (c : tie.After-comp-at Inv-loop μ-loop) →
+    let l = c .before .before .before in
+    c .comp-at .result ≡ endOf (l .before .before .before .args .wires .now) (l .loop .k) (l .before .before .before .args .near)
+near-end c = c .comp-at .ensures ∙ ap (λ (w : Wire). compAt w (c .before .before .before .before .before .before .args .near)) (c .before .wire-at .ensures)
 
-add-entry-2 : tie.Need-add-entry-2 Inv-loop μ-loop
-add-entry-2 c = search needs
-
-entry-requires-2 : tie.Need-entry-requires-2 Inv-loop μ-loop
-entry-requires-2 c κs = search needs
+far-end : (c : tie.After-comp-at2 Inv-loop μ-loop) →
+    let l = c .before .before .before .before .before in
+    c .comp-at2 .result ≡ endOf (l .before .before .before .args .wires .now) (l .loop .k) (l .before .before .before .args .far)
+far-end c = c .comp-at2 .ensures ∙ ap (λ (w : Wire). compAt w (c .before .before .before .before .before .before .before .before .args .far)) (c .before .before .before .wire-at .ensures)
 
 slice-write-marks : tie.Need-slice-write-marks Inv-loop μ-loop
 slice-write-marks c =
-    let at-loop = c .before .before .before .before in
+    let at-loop = c .before .before .before .before .before in
     let s = at-loop .before .before .before in
-    omega (arith, c .entry2 .ensures, s .pre .3 (at-loop .loop .k) (c .before .before .before .loop-test .taken))
+    omega (arith, far-end c, s .pre (at-loop .loop .k) (c .before .before .before .before .loop-test .taken))
 
 add-k : tie.Need-add-k Inv-loop μ-loop
 add-k c = search needs
@@ -56,17 +59,19 @@ loop-less c = omega arith
 
 loop-again : tie.Need-loop-again Inv-loop μ-loop
 loop-again c =
-    let s = c .before .before .before .before .before .before in
+    let s = c .before .before .before .before .before .before .before in
     let a = s .args in
-    let l = c .before .before .before .loop in
-    let n = c .before .entry .ensures in
+    let l = c .before .before .before .before .loop in
+    let n = near-end (c .before) in
+    let far : (x : ℕ) → x ≡ compAt (c .before .before .wire-at .result) (a .far) → x ≡ endOf (a .wires .now) (l .k) (a .far) =
+    λ x e. e ∙ ap (λ (w : Wire). compAt w (a .far)) (c .before .before .wire-at .ensures) in
     ⊎-elim
     (λ w. rw (w .2) (
       omega arith,
       simp length-set (l .inv .1),
       mark-here (a .wires .now) (a .marks .now) (l .marks) (a .near) (a .far) (a .i) (l .k) (l .inv .2) (w .1 .result)
-          (sym n ∙ w .0 .taken) (w .1 .ensures)
-          (omega (arith, w .1 .ensures, l .inv .1, s .pre .3 (l .k) (c .before .before .loop-test .taken))),
+          (sym n ∙ w .0 .taken) (far _ (w .1 .ensures))
+          (omega (arith, far _ (w .1 .ensures), l .inv .1, s .pre (l .k) (c .before .before .before .loop-test .taken))),
     ))
     (λ w. rw (w .1) (
       omega arith,
@@ -92,12 +97,9 @@ mark-ends-spec =
     Inv-loop
     μ-loop
     loop-holds
-    mul-entry
-    add-entry
-    entry-requires
-    mul-entry-2
-    add-entry-2
-    entry-requires-2
+    wire-at-requires
+    comp-at-requires
+    comp-at-requires-2
     slice-write-marks
     add-k
     loop-less

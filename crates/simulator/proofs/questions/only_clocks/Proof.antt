@@ -11,8 +11,8 @@ use lib.Seq.{slice}
 use Rattle.lists.specs.Lists.{every}
 use Rattle.primitive.specs.declared.kinds.Kind.the-variants.{Clock}
 use Rattle.primitive.specs.Kinds.{is}
-use Rattle.tables.specs.Tables.{fieldsIn}
 use Rattle.net.proofs.LoopsLaws.{everySlice-fails, everySlice-next, everySlice-end}
+use Rattle.tables.specs.Words.{fieldsIn}
 use borrow.Author.Needs.{needs}
 use Rattle.simulator.proofs.questions.only_clocks.Statement.{statement}
 use Rattle.simulator.proofs.questions.only_clocks.Tie as tie
@@ -34,8 +34,7 @@ entry-requires : tie.Need-entry-requires Inv-loop μ-loop
 entry-requires c κs = search needs
 
 is-kind-requires : tie.Need-is-kind-requires Inv-loop μ-loop
-is-kind-requires c κs =
-    omega (arith, c .entry .ensures, c .before .before .before .shared-slice-known2 .given (c .before .before .loop .k))
+is-kind-requires c κs = search needs
 
 returns : tie.Need-returns Inv-loop μ-loop
 returns c =

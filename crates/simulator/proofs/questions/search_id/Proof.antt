@@ -1,6 +1,5 @@
 -- `search_id`: what is found among the components still to come is what is found among all.
 -- Assumes nothing.
-use borrow.Author.Tests.{eq-eqb, ne-eqb}
 use mathlib.Core.Path.{_≡_, sym, ap, _∙_}
 use mathlib.Core.Bool.{Bool}
 use mathlib.Core.List.{List}
@@ -9,7 +8,7 @@ use native.Mathlib.Omega.{arith}
 use lib.Dec.{eqb}
 use Rattle.lists.specs.Lists.{from, first}
 use Rattle.lists.proofs.ListsLaws.{first-here, first-next, first-none}
-use Rattle.tables.specs.Tables.{wordIn}
+use Rattle.tables.specs.Words.{idIn}
 use Rattle.net.proofs.LoopsLaws.{from-start}
 use Rattle.simulator.specs.Questions.{indexFound}
 use borrow.Author.Needs.{needs}
@@ -17,34 +16,31 @@ use Rattle.simulator.proofs.questions.search_id.Statement.{statement}
 use Rattle.simulator.proofs.questions.search_id.Tie as tie
 
 abbrev hasId : List ℕ → ℕ → ℕ → Bool
-hasId cs id i = eqb (wordIn cs i 1) id
+hasId cs id i = eqb (idIn cs i) id
 
 abbrev Inv-loop : tie.InvT-loop
-Inv-loop components count sought i₀ i =
-    (i ≤ count) × (first (hasId components sought) (from i (count - i)) ≡ first (hasId components sought)
+Inv-loop components count id i₀ i =
+    (i ≤ count) × (first (hasId components (id .0)) (from i (count - i)) ≡ first (hasId components (id .0))
     (from 0 count))
 
 abbrev μ-loop : tie.MeasureT-loop
-μ-loop components count sought i₀ i = count - i
-
-cast-sought : tie.Need-cast-sought Inv-loop μ-loop
-cast-sought c = search needs
+μ-loop components count id i₀ i = count - i
 
 loop-holds : tie.Need-loop-holds Inv-loop μ-loop
 loop-holds c =
-    let a = c .before .before .args in
+    let a = c .before .args in
     (omega arith, ap (first (hasId (a .components .now) (a .id .0))) (from-start (a .count)))
 
-word-of-requires : tie.Need-word-of-requires Inv-loop μ-loop
-word-of-requires c κs = search needs
+has-id-requires : tie.Need-has-id-requires Inv-loop μ-loop
+has-id-requires c κs = search needs
 
 returns : tie.Need-returns Inv-loop μ-loop
 returns c =
-    let a = c .before .before .before .before .before .before .args in
+    let a = c .before .before .before .before .before .args in
     let l = c .before .before .before .loop in
     ap indexFound
     (first-here (hasId (a .components .now) (a .id .0)) (l .i) (a .count) _ (l .inv .1) (omega arith)
-    (eq-eqb (wordIn (a .components .now) (l .i) 1) (a .id .0) (sym (c .before .word-of .ensures) ∙ c .if1 .taken)))
+    (sym (c .before .has-id .ensures) ∙ c .if1 .taken))
 
 add-i : tie.Need-add-i Inv-loop μ-loop
 add-i c = search needs
@@ -54,18 +50,16 @@ loop-less c = search needs
 
 loop-again : tie.Need-loop-again Inv-loop μ-loop
 loop-again c =
-    let s = c .before .before .before .before .before .before in
-    let a = s .args in
+    let a = c .before .before .before .before .before .args in
     let l = c .before .before .before .loop in (
       omega arith,
       first-next (hasId (a .components .now) (a .id .0)) (l .i) (a .count) _ (l .inv .1) (omega arith)
-          (ne-eqb (wordIn (a .components .now) (l .i) 1) (a .id .0)
-          (λ e. c .if1 .left (c .before .word-of .ensures ∙ e))),
+          (sym (c .before .has-id .ensures) ∙ c .if1 .left),
     )
 
 returns-2 : tie.Need-returns-2 Inv-loop μ-loop
 returns-2 c =
-    let a = c .before .before .before .before .args in
+    let a = c .before .before .before .args in
     let l = c .before .loop in
     ap indexFound (first-none (hasId (a .components .now) (a .id .0)) (l .i) (a .count) _ (l .inv .1) (omega arith))
 
@@ -75,9 +69,8 @@ search-id-spec =
     (tie.spec
     Inv-loop
     μ-loop
-    cast-sought
     loop-holds
-    word-of-requires
+    has-id-requires
     returns
     add-i
     loop-less

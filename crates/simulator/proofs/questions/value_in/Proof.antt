@@ -22,7 +22,7 @@ abbrev Right : tie.Start → Type 0
 Right s = RowRight (s .args .components .now) (s .args .inputs .now) (s .args .outputs .now) (s .args .i)
 
 right : (c : tie.Else1) → Right (start c)
-right c = start c .pre .1 (c .if1 .left)
+right c = start c .pre (c .if1 .left)
 
 returns : tie.Need-returns
 returns c =
@@ -30,13 +30,13 @@ returns c =
     value-none (came s) (s .args .side) (s .args .i) (s .args .port) (c .if1 .taken)
 
 fields-at-requires : tie.Need-fields-at-requires
-fields-at-requires c κs = (omega arith, right c .fit)
+fields-at-requires c κs = right c .fit
 
 enum-told : tie.Need-enum-told
 enum-told c = search needs
 
-word-of-requires : tie.Need-word-of-requires
-word-of-requires c κs = search needs
+first-input-requires : tie.Need-first-input-requires
+first-input-requires c κs = search needs
 
 input-width-requires : tie.Need-input-width-requires
 input-width-requires c κs = search needs
@@ -48,13 +48,13 @@ port-value-requires : tie.Need-port-value-requires
 port-value-requires c κs =
     let f = c .before .before .before .before .before in
     let n = ap (λ (f : Fields). f .inputs) (f .fields-at .ensures) in
-    omega (arith, right (f .before) .inputs-in, c .before .before .word-of .ensures, n)
+    omega (arith, right (f .before) .inputs-in, c .before .before .first-input .ensures, n)
 
 enum-told-2 : tie.Need-enum-told-2
 enum-told-2 c = search needs
 
-word-of-requires-2 : tie.Need-word-of-requires-2
-word-of-requires-2 c κs = search needs
+first-output-requires : tie.Need-first-output-requires
+first-output-requires c κs = search needs
 
 output-width-requires : tie.Need-output-width-requires
 output-width-requires c κs = search needs
@@ -66,7 +66,7 @@ port-value-requires-2 : tie.Need-port-value-requires-2
 port-value-requires-2 c κs =
     let f = c .before .before .before .before .before in
     let n = ap (λ (f : Fields). f .outputs) (f .fields-at .ensures) in
-    omega (arith, right (f .before) .outputs-in, c .before .before .word-of2 .ensures, n)
+    omega (arith, right (f .before) .outputs-in, c .before .before .first-output .ensures, n)
 
 returns-2 : tie.Need-returns-2
 returns-2 c =
@@ -75,7 +75,7 @@ returns-2 c =
     let s = start (f .before) in
     value-input (came s) (s .args .side) (s .args .i) (s .args .port) (c .port-value .result) _ _ _ (f .before .if1 .left)
     (f .fields-at .ensures)
-    (w .before .enum-told .given .1) (w .word-of .ensures) (c .before .before .input-width .ensures)
+    (w .before .enum-told .given .1) (w .first-input .ensures) (c .before .before .input-width .ensures)
     (c .port-value .ensures)
 
 returns-3 : tie.Need-returns-3
@@ -85,7 +85,7 @@ returns-3 c =
     let s = start (f .before) in
     value-output (came s) (s .args .side) (s .args .i) (s .args .port) (c .port-value2 .result) _ _ _ (f .before .if1 .left)
     (f .fields-at .ensures)
-    (w .before .enum-told2 .given .1) (w .word-of2 .ensures) (c .before .before .output-width .ensures)
+    (w .before .enum-told2 .given .1) (w .first-output .ensures) (c .before .before .output-width .ensures)
     (c .port-value2 .ensures)
 
 pub value-in-spec : {M : Type 1} → statement M
@@ -95,12 +95,12 @@ value-in-spec =
     returns
     fields-at-requires
     enum-told
-    word-of-requires
+    first-input-requires
     input-width-requires
     cast-port-value
     port-value-requires
     enum-told-2
-    word-of-requires-2
+    first-output-requires
     output-width-requires
     cast-port-value-2
     port-value-requires-2

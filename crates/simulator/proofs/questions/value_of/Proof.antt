@@ -34,7 +34,7 @@ returns c =
 value-in-requires : tie.Need-value-in-requires
 value-in-requires c κs =
     let s = c .before .before .before .before .before .before .before .before .before in
-    (net-within (came s) (is-net c) .components, net-row (came s) (is-net c) (s .args .index .0))
+    net-row (came s) (is-net c) (s .args .index .0)
 
 returns-2 : tie.Need-returns-2
 returns-2 c =

@@ -1,10 +1,11 @@
 -- `evaluate_at`: the component's own ports are lent to `update` and put back; a Clock stays in the standing list, any
 -- other is struck.
 -- Assumes nothing.
+use mathlib.Core.Path.{sym, _∙_}
 use mathlib.Core.List.{[]}
 use native.Mathlib.Omega.{arith}
 use Rattle.tables.proofs.RowsLaws.{obeyed-fit}
-use Rattle.simulator.specs.Steps.{uncounted}
+use Rattle.tables.specs.Words.{uncounted}
 use Rattle.simulator.proofs.StepsLaws.{lent-inputs, lent-outputs, lent-own, evaluated-clock, evaluated-struck}
 use borrow.Author.Needs.{needs}
 use Rattle.simulator.proofs.rounds.evaluate_at.Statement.{statement}
@@ -13,13 +14,13 @@ use Rattle.simulator.proofs.rounds.evaluate_at.Tie as tie
 fields-at-requires : tie.Need-fields-at-requires
 fields-at-requires c κs =
     let s = c .before .before .before .before in
-    (omega (arith, s .pre .1 .few), obeyed-fit _ (s .pre .1 .obeyed))
+    obeyed-fit _ (s .pre .1 .obeyed)
 
-word-of-requires : tie.Need-word-of-requires
-word-of-requires c κs = search needs
+first-input-requires : tie.Need-first-input-requires
+first-input-requires c κs = search needs
 
-word-of-requires-2 : tie.Need-word-of-requires-2
-word-of-requires-2 c κs = search needs
+first-output-requires : tie.Need-first-output-requires
+first-output-requires c κs = search needs
 
 cast-input-end : tie.Need-cast-input-end
 cast-input-end c = search needs
@@ -48,8 +49,8 @@ part-update-end c =
     let s = at-fields-at .before .before .before .before .before in
     let a = s .args in
     lent-inputs (uncounted (a .components .now) []) (a .inputs .now) (a .outputs .now) (a .i) (s .pre .1) _ _ _
-    (at-fields-at .fields-at .ensures) (c .before .before .before .word-of .ensures)
-    (c .before .before .word-of2 .ensures)
+    (at-fields-at .fields-at .ensures) (c .before .before .before .first-input .ensures)
+    (c .before .before .first-output .ensures)
 
 mul-update-2 : tie.Need-mul-update-2
 mul-update-2 c = search needs
@@ -62,22 +63,25 @@ part-update-start-2 c = search needs
 
 part-update-end-2 : tie.Need-part-update-end-2
 part-update-end-2 c =
-    let at-word-of = c .before .before .before .before in
-    let at-fields-at = at-word-of .before in
+    let at-first-input = c .before .before .before .before in
+    let at-fields-at = at-first-input .before in
     let s = at-fields-at .before .before .before .before .before in
     let a = s .args in
     lent-outputs (uncounted (a .components .now) []) (a .inputs .now) (a .outputs .now) (a .i) (s .pre .1) _ _ _
-    (at-fields-at .fields-at .ensures) (at-word-of .word-of .ensures) (c .before .before .before .word-of2 .ensures)
+    (at-fields-at .fields-at .ensures) (at-first-input .first-input .ensures) (c .before .before .before .first-output .ensures)
 
 update-requires : tie.Need-update-requires
 update-requires c κs =
-    let at-word-of2 = c .before .before .before .before in
-    let at-word-of = at-word-of2 .before in
-    let at-fields-at = at-word-of .before in
+    let at-first-output = c .before .before .before .before in
+    let at-first-input = at-first-output .before in
+    let at-fields-at = at-first-input .before in
     let s = at-fields-at .before .before .before .before .before in
     let a = s .args in
     lent-own (uncounted (a .components .now) []) (a .inputs .now) (a .outputs .now) (a .i) (s .pre .1) _ _ _
-    (at-fields-at .fields-at .ensures) (at-word-of .word-of .ensures) (at-word-of2 .word-of2 .ensures)
+    (at-fields-at .fields-at .ensures) (at-first-input .first-input .ensures) (at-first-output .first-output .ensures)
+
+is-kind-requires : tie.Need-is-kind-requires
+is-kind-requires c κs = search needs
 
 same-length : tie.Need-same-length
 same-length c = search needs
@@ -85,14 +89,14 @@ same-length c = search needs
 returns : tie.Need-returns
 returns c =
     let at-update = c .before .before .before .before in
-    let at-word-of2 = at-update .before .before .before .before .before in
-    let at-word-of = at-word-of2 .before in
-    let at-fields-at = at-word-of .before in
+    let at-first-output = at-update .before .before .before .before .before in
+    let at-first-input = at-first-output .before in
+    let at-fields-at = at-first-input .before in
     let s = at-fields-at .before .before .before .before .before in
     let a = s .args in
     evaluated-clock (uncounted (a .components .now) []) (a .inputs .now) (a .outputs .now) (a .i) (s .pre .1) _ _ _
-    (at-fields-at .fields-at .ensures) (at-word-of .word-of .ensures) (at-word-of2 .word-of2 .ensures) (a .time)
-    (a .count) _ (a .standing .now) (at-update .update .ensures) (c .if1 .taken) (s .pre .0)
+    (at-fields-at .fields-at .ensures) (at-first-input .first-input .ensures) (at-first-output .first-output .ensures) (a .time)
+    (a .count) _ (a .standing .now) (at-update .update .ensures) (sym (c .before .is-kind .ensures) ∙ c .if1 .taken) (s .pre .0)
 
 cast-strike : tie.Need-cast-strike
 cast-strike c = search needs
@@ -110,14 +114,15 @@ returns-2 : tie.Need-returns-2
 returns-2 c =
     let at-if1 = c .before .before .before .before in
     let at-update = at-if1 .before .before .before .before in
-    let at-word-of2 = at-update .before .before .before .before .before in
-    let at-word-of = at-word-of2 .before in
-    let at-fields-at = at-word-of .before in
+    let at-first-output = at-update .before .before .before .before .before in
+    let at-first-input = at-first-output .before in
+    let at-fields-at = at-first-input .before in
     let s = at-fields-at .before .before .before .before .before in
     let a = s .args in
     evaluated-struck (uncounted (a .components .now) []) (a .inputs .now) (a .outputs .now) (a .i) (s .pre .1) _ _ _
-    (at-fields-at .fields-at .ensures) (at-word-of .word-of .ensures) (at-word-of2 .word-of2 .ensures) (a .time)
-    (a .count) _ _ (a .standing .now) _ (at-update .update .ensures) (at-if1 .if1 .left)
+    (at-fields-at .fields-at .ensures) (at-first-input .first-input .ensures) (at-first-output .first-output .ensures) (a .time)
+    (a .count) _ _ (a .standing .now) _ (at-update .update .ensures)
+    (sym (at-if1 .before .is-kind .ensures) ∙ at-if1 .if1 .left)
     (c .before .before .strike .ensures .0) (c .before .before .strike .ensures .1)
 
 pub evaluate-at-spec : {M : Type 1} → statement M
@@ -125,8 +130,8 @@ evaluate-at-spec =
     tie.close
     (tie.spec
     fields-at-requires
-    word-of-requires
-    word-of-requires-2
+    first-input-requires
+    first-output-requires
     cast-input-end
     add-input-end
     cast-output-end
@@ -140,6 +145,7 @@ evaluate-at-spec =
     part-update-start-2
     part-update-end-2
     update-requires
+    is-kind-requires
     same-length
     returns
     cast-strike

@@ -1,12 +1,13 @@
 -- `send_wires`: what the wires still to come make of the state is what all of them make of the state that came in.
 -- Assumes nothing.
-use mathlib.Core.Path.{_≡_, refl, _∙_}
+use mathlib.Core.Path.{_≡_, refl, ap, _∙_}
 use mathlib.Core.Logic.{⊎-elim}
 use mathlib.Core.List.{[], map, foldl}
 use Prim.Native.Nat.{_≤_, _-_}
 use native.Mathlib.Omega.{arith}
 use lib.ListN.{length, take}
 use Rattle.lists.specs.Lists.{from}
+use Rattle.tables.specs.declared.Wire.{Wire}
 use Rattle.tables.specs.Tables.{wireAt, wiresIn}
 use Rattle.simulator.specs.Round.{wiresFrom, send}
 use Rattle.simulator.specs.Steps.{wiring, stateAt, ListFits}
@@ -41,25 +42,21 @@ loop-holds c =
           (stateAt [] [] [] []),
     )
 
-mul-entry : tie.Need-mul-entry Inv-loop μ-loop
-mul-entry c = search needs
+wire-at-requires : tie.Need-wire-at-requires Inv-loop μ-loop
+wire-at-requires c κs = search needs
 
-entry-requires : tie.Need-entry-requires Inv-loop μ-loop
-entry-requires c κs = search needs
-
-send-wire-requires : tie.Need-send-wire-requires Inv-loop μ-loop
-send-wire-requires c κs =
-    let at-if1 = c .before .before .before .before in
+send-along-requires : tie.Need-send-along-requires Inv-loop μ-loop
+send-along-requires c κs =
+    let at-if1 = c .before .before .before .before .before in
     let at-loop = at-if1 .before .before in
     let s = at-loop .before .before .before .before .before .before in
     let l = at-loop .loop in
     let g =
     runs-kept (s .args .components .now) (s .args .wires .now) (s .args .counts) (s .args .inputs .now)
-    (s .args .outputs .now) (l .inputs) (s .args .outputs .now) (s .pre .0) (l .inv .1) refl in (
-      omega (arith, s .pre .0 .few-wires, at-if1 .if1 .taken),
-      runs-sends (s .args .components .now) (s .args .wires .now) (s .args .counts) (l .inputs) (s .args .outputs .now)
-          (l .following) (l .filled) (l .k) g (l .inv .3) (at-if1 .if1 .taken),
-    )
+    (s .args .outputs .now) (l .inputs) (s .args .outputs .now) (s .pre .0) (l .inv .1) refl in
+    rw (c .before .before .before .before .wire-at .ensures)
+    (runs-sends (s .args .components .now) (s .args .wires .now) (s .args .counts) (l .inputs) (s .args .outputs .now)
+    (l .following) (l .filled) (l .k) g (l .inv .3) (at-if1 .if1 .taken))
 
 add-k : tie.Need-add-k Inv-loop μ-loop
 add-k c = search needs
@@ -69,23 +66,24 @@ loop-less c = search needs
 
 loop-again : tie.Need-loop-again Inv-loop μ-loop
 loop-again c =
-    let at-loop = c .before .before .before .before in
+    let at-loop = c .before .before .before .before .before in
+    let w-at = c .before .before .wire-at .ensures in
     let s = at-loop .before .before .before .before .before .before in
     let l = at-loop .loop in
     let T = wiring (s .args .components .now) (s .args .wires .now) (s .args .counts) in
-    let b = c .before .before .if1 .taken in
+    let b = c .before .before .before .if1 .taken in
     let g =
     runs-kept (s .args .components .now) (s .args .wires .now) (s .args .counts) (s .args .inputs .now)
     (s .args .outputs .now) (l .inputs) (s .args .outputs .now) (s .pre .0) (l .inv .1) refl in
     ⊎-elim
     (λ w. rw (w .8, w .9, w .10) (
       omega arith,
-      w .3 .kept .1 .1 .0 ∙ l .inv .1,
-      w .3 .kept .1 .1 .1 .1 .0 ∙ l .inv .2,
+      w .3 .kept .1 .0 ∙ l .inv .1,
+      w .3 .kept .1 .1 .1 .0 ∙ l .inv .2,
       sent-listed (s .args .components .now) (s .args .wires .now) (s .args .counts) (l .inputs) (s .args .outputs .now)
-          (l .following) _ _ (l .filled) (l .k) _ g (l .inv .3) b (w .3 .ensures) (w .3 .kept .1 .1 .1 .1 .0),
-      sends-taken T (s .args .i) (l .k) (s .args .counts .wires) _ _ _ _ b (c .before .entry .ensures) (w .0 .taken)
-          (w .3 .ensures .state ∙ send-bare (s .args .components .now) (s .args .wires .now) (s .args .counts) _ _)
+          (l .following) _ _ (l .filled) (l .k) _ g (l .inv .3) b (rw w-at at (w .3 .ensures)) (w .3 .kept .1 .1 .1 .0),
+      sends-taken T (s .args .i) (l .k) (s .args .counts .wires) _ _ _ _ b (ap (λ (x : Wire). x .src .comp .0) w-at) (w .0 .taken)
+          (rw w-at at (w .3 .ensures .state) ∙ send-bare (s .args .components .now) (s .args .wires .now) (s .args .counts) _ _)
           (l .inv .4),
     ))
     (λ w. rw (w .1, w .2, w .3) (
@@ -93,7 +91,7 @@ loop-again c =
       l .inv .1,
       l .inv .2,
       l .inv .3,
-      sends-passed T (s .args .i) (l .k) (s .args .counts .wires) _ _ _ b (c .before .entry .ensures) (w .0 .left)
+      sends-passed T (s .args .i) (l .k) (s .args .counts .wires) _ _ _ b (ap (λ (x : Wire). x .src .comp .0) w-at) (w .0 .left)
           (l .inv .4),
     ))
     (c .if2 .came)
@@ -122,9 +120,8 @@ send-wires-spec =
     Inv-loop
     μ-loop
     loop-holds
-    mul-entry
-    entry-requires
-    send-wire-requires
+    wire-at-requires
+    send-along-requires
     add-k
     loop-less
     loop-again

@@ -1,7 +1,7 @@
 -- `fields_at`: each word fits its field, and is the definition's.
 -- Assumes nothing.
 use native.Mathlib.Omega.{arith}
-use Rattle.tables.specs.Tables.{fieldsIn}
+use Rattle.tables.specs.Words.{fieldsIn}
 use Rattle.tables.proofs.RowsLaws.{fieldsFit-kind, fieldsFit-inputs, fieldsFit-outputs, fieldsFit-width}
 use borrow.Author.Needs.{needs}
 use Rattle.tables.proofs.rows.fields_at.Statement.{statement}
@@ -13,7 +13,7 @@ word-of-requires c κs = search needs
 cast-t4 : tie.Need-cast-t4
 cast-t4 c =
     let s = c .before .before in
-    omega (arith, c .word-of .ensures, fieldsFit-kind (fieldsIn (s .args .components .now) (s .args .i)) (s .pre .1))
+    omega (arith, c .word-of .ensures, fieldsFit-kind (fieldsIn (s .args .components .now) (s .args .i)) (s .pre))
 
 word-of-requires-2 : tie.Need-word-of-requires-2
 word-of-requires-2 c κs = search needs
@@ -21,7 +21,7 @@ word-of-requires-2 c κs = search needs
 cast-t6 : tie.Need-cast-t6
 cast-t6 c =
     let s = c .before .before .before in
-    omega (arith, c .word-of2 .ensures, fieldsFit-inputs (fieldsIn (s .args .components .now) (s .args .i)) (s .pre .1))
+    omega (arith, c .word-of2 .ensures, fieldsFit-inputs (fieldsIn (s .args .components .now) (s .args .i)) (s .pre))
 
 word-of-requires-3 : tie.Need-word-of-requires-3
 word-of-requires-3 c κs = search needs
@@ -33,7 +33,7 @@ cast-t8 c =
       arith,
       c .word-of3 .ensures,
       fieldsFit-outputs (fieldsIn (s .args .components .now) (s .args .i))
-          (s .pre .1),
+          (s .pre),
     )
 
 word-of-requires-4 : tie.Need-word-of-requires-4
@@ -42,7 +42,7 @@ word-of-requires-4 c κs = search needs
 cast-t10 : tie.Need-cast-t10
 cast-t10 c =
     let s = c .before .before .before .before .before in
-    omega (arith, c .word-of4 .ensures, fieldsFit-width (fieldsIn (s .args .components .now) (s .args .i)) (s .pre .1))
+    omega (arith, c .word-of4 .ensures, fieldsFit-width (fieldsIn (s .args .components .now) (s .args .i)) (s .pre))
 
 word-of-requires-5 : tie.Need-word-of-requires-5
 word-of-requires-5 c κs = search needs

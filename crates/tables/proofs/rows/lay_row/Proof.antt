@@ -1,12 +1,16 @@
--- `write_row`: the words are stored one behind the other.
+-- `lay_row`: the words are stored one behind the other.
 -- Assumes nothing.
 use mathlib.Core.List.{[], _∷_}
+use Prim.Native.Nat.{_*_}
 use native.Mathlib.Omega.{arith}
 use lib.ListN.{length-set}
-use Rattle.load.proofs.LayingLaws.{stores-entry}
+use Rattle.tables.proofs.RowsLaws.{stores-entry}
 use borrow.Author.Needs.{needs}
-use Rattle.load.proofs.rows.write_row.Statement.{statement}
-use Rattle.load.proofs.rows.write_row.Tie as tie
+use Rattle.tables.proofs.rows.lay_row.Statement.{statement}
+use Rattle.tables.proofs.rows.lay_row.Tie as tie
+
+mul-at : tie.Need-mul-at
+mul-at c = search needs
 
 cast-components : tie.Need-cast-components
 cast-components c = search needs
@@ -99,13 +103,14 @@ returns : tie.Need-returns
 returns c =
     let a = c .before .before .before .before .before .args in
     let f = a .fields in
-    stores-entry (a .components .now) (a .at) (f .kind)
-    (a .id .0 ∷ f .width ∷ f .parameter ∷ f .inputs ∷ f .outputs ∷ a .before .inputs ∷ a .before .outputs ∷ [])
+    stores-entry (a .components .now) (8 * a .i) (f .kind)
+    (a .id .0 ∷ f .width ∷ f .parameter ∷ f .inputs ∷ f .outputs ∷ a .inputs ∷ a .outputs ∷ [])
 
-pub write-row-spec : {M : Type 1} → statement M
-write-row-spec =
+pub lay-row-spec : {M : Type 1} → statement M
+lay-row-spec =
     tie.close
     (tie.spec
+    mul-at
     cast-components
     mul-components
     slice-write-components

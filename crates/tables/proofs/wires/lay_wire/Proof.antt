@@ -1,12 +1,16 @@
--- `write_wire`: the words are stored one behind the other.
+-- `lay_wire`: the words are stored one behind the other.
 -- Assumes nothing.
 use mathlib.Core.List.{[], _∷_}
+use Prim.Native.Nat.{_*_}
 use native.Mathlib.Omega.{arith}
 use lib.ListN.{length-set}
-use Rattle.load.proofs.LayingLaws.{stores-entry}
+use Rattle.tables.proofs.RowsLaws.{stores-entry}
 use borrow.Author.Needs.{needs}
-use Rattle.load.proofs.wires.write_wire.Statement.{statement}
-use Rattle.load.proofs.wires.write_wire.Tie as tie
+use Rattle.tables.proofs.wires.lay_wire.Statement.{statement}
+use Rattle.tables.proofs.wires.lay_wire.Tie as tie
+
+mul-at : tie.Need-mul-at
+mul-at c = search needs
 
 cast-wires : tie.Need-cast-wires
 cast-wires c = search needs
@@ -53,12 +57,13 @@ same-length c = search needs
 returns : tie.Need-returns
 returns c =
     let a = c .before .before .args in
-    stores-entry (a .wires .now) (a .at) (a .from .comp .0) (a .from .port ∷ a .to .comp .0 ∷ a .to .port ∷ [])
+    stores-entry (a .wires .now) (4 * a .k) (a .wire .src .comp .0) (a .wire .src .port ∷ a .wire .dst .comp .0 ∷ a .wire .dst .port ∷ [])
 
-pub write-wire-spec : {M : Type 1} → statement M
-write-wire-spec =
+pub lay-wire-spec : {M : Type 1} → statement M
+lay-wire-spec =
     tie.close
     (tie.spec
+    mul-at
     cast-wires
     mul-wires
     slice-write-wires
