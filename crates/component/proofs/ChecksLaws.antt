@@ -15,7 +15,7 @@ use lib.ListN.{length}
 use types.Run.{OneOf}
 use Rattle.lists.specs.Lists.{from, any}
 use denote.Enum.Declared.{tagOf}
-use Rattle.primitive.specs.Kinds.{obeys, primitive}
+use Rattle.primitive.specs.Kinds.{obeys, primitive, forCustom, unknown}
 use Rattle.primitive.specs.declared.table.Fields.{Fields}
 use Rattle.component.specs.declared.ChildNo.{ChildNo}
 use Rattle.primitive.specs.declared.Id.{Id}
@@ -28,16 +28,15 @@ use Rattle.component.specs.declared.Stands.{Stands}
 use Rattle.component.specs.declared.Stands.the-variants.{Component as StandsComponent, Nothing}
 use Rattle.component.specs.declared.checks.Entry.{Entry}
 use Rattle.component.specs.declared.checks.Entry.the-variants.{Of, Nothing as NoEntry}
-use Rattle.component.specs.Record.{recordAt, fromOf, outputOf, toOf, inputOf, portOf, noRecord}
+use Rattle.component.specs.Record.{recordAt, toOf, inputOf, noRecord}
 use Rattle.component.specs.Reading.{idOf, ownerOf, formOf, apart, formBy, said, number, number3, StandsAs, EntryAs}
 use Rattle.component.specs.Record.{inputsOf, outputsOf, isPrimitive, composite}
-use Rattle.component.specs.Record.{hasId, entering, enters, enteringAs}
-use Rattle.component.specs.Drawing.{fromThere, portThere, toThere}
+use Rattle.component.specs.Record.{hasId, entering, enters}
 use Rattle.component.specs.Drawing.{child, deepest, holds, deeper, outMaps, inputsBefore, outputsBefore}
-use Rattle.component.specs.Drawing.{fails3, fails4, fails5, fails6, fails7, fails8, fails9}
+use Rattle.component.specs.Drawing.{fails4, fails5, fails6, fails7, fails8, fails9}
 use Rattle.component.specs.Drawing.{fails10, fails11, fails12, fails13, fails14}
 use Rattle.component.proofs.Says.{the-type}
-use Rattle.component.proofs.RecordLaws.{formBy-tag, no-component, form-apart, owner-apart, refused-is, taken-is, taken-form, taken-owner, unseen-test, unseen-fields, seen-is}
+use Rattle.component.proofs.RecordLaws.{formBy-tag, no-component, refused-is, taken-is, taken-form, taken-owner, unseen-test, unseen-fields, seen-is}
 use Rattle.component.proofs.ScanLaws.{tested}
 
 -- 3: taken apart; refused
@@ -303,11 +302,11 @@ module _ (s : List ℕ) where
       pub fails6-depth : (d : ℕ) (b : Bool) → p < 256 → d ≡ deepest → b ≡ deeper (recordAt s) d p → b ≡ fails6 (recordAt s) p
       fails6-depth d b k l j = j ∙ rw (form-is, lt-leb 256 p k, l)
 
-      pub fails7-component : eqb (f .kind) 14 ≡ fails7 (recordAt s) p
-      fails7-component = rw (seen-is (recordAt s p) g e o i f h)
+      pub fails7-component : (b : Bool) → b ≡ forCustom (f .kind) → b ≡ fails7 (recordAt s) p
+      fails7-component b k = rw (k, seen-is (recordAt s p) g e o i f h)
 
-      pub fails8-component : leb 15 (f .kind) ≡ fails8 (recordAt s) p
-      fails8-component = rw (seen-is (recordAt s p) g e o i f h)
+      pub fails8-component : (b : Bool) → b ≡ unknown (f .kind) → b ≡ fails8 (recordAt s) p
+      fails8-component b k = rw (k, seen-is (recordAt s p) g e o i f h)
 
       pub fails9-component : (b : Bool) → b ≡ obeys f → not b ≡ fails9 (recordAt s) p
       fails9-component b k = rw (k, seen-is (recordAt s p) g e o i f h)

@@ -185,7 +185,7 @@ pub fn check7(file: &[u8], p: usize) -> bool
     let Stands::Component { fields, .. } = component_at(file, p) else {
         return false;
     };
-    fields.kind == 14
+    primitive::is_kept(fields.kind)
 }
 
 // 8: the kind is none.
@@ -195,7 +195,7 @@ pub fn check8(file: &[u8], p: usize) -> bool
     let Stands::Component { fields, .. } = component_at(file, p) else {
         return false;
     };
-    15 <= fields.kind
+    primitive::is_unknown(fields.kind)
 }
 
 // 9: the component breaks the table of kinds.

@@ -3,7 +3,7 @@
 --   told, laid, made         a call's answer, the words it lays, the tables it leaves: 2 where lent words are too few
 --   CallChanges, Answers         what a call that changes the tables promises, and one that asks
 -- Assumes nothing.
-use Prim.Native.Nat.{ℕ, _+_, _*_}
+use Prim.Native.Nat.{ℕ, _*_}
 use mathlib.Core.Path.{_≡_}
 use mathlib.Core.Bool.{Bool, cond, _&&_, _||_}
 use mathlib.Core.List.{List, []}

@@ -17,9 +17,12 @@ enum-told c = search needs
 returns : tie.Need-returns
 returns c = search (fails7-other)
 
+is-kept-requires : tie.Need-is-kept-requires
+is-kept-requires c κs = search needs
+
 returns-2 : tie.Need-returns-2
 returns-2 c = search (fails7-component)
 
 pub check7-spec : {M : Type 1} → statement M
 check7-spec =
-    tie.close (tie.spec component-at-requires enum-known-fields enum-told returns returns-2)
+    tie.close (tie.spec component-at-requires enum-known-fields enum-told returns is-kept-requires returns-2)

@@ -17,9 +17,12 @@ enum-told c = search needs
 returns : tie.Need-returns
 returns c = search (fails8-other)
 
+is-unknown-requires : tie.Need-is-unknown-requires
+is-unknown-requires c κs = search needs
+
 returns-2 : tie.Need-returns-2
 returns-2 c = search (fails8-component)
 
 pub check8-spec : {M : Type 1} → statement M
 check8-spec =
-    tie.close (tie.spec component-at-requires enum-known-fields enum-told returns returns-2)
+    tie.close (tie.spec component-at-requires enum-known-fields enum-told returns is-unknown-requires returns-2)

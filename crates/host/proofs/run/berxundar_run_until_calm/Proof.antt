@@ -2,7 +2,7 @@
 -- Assumes nothing.
 use mathlib.Core.Path.{refl}
 use Rattle.tables.specs.declared.Counts.{Counts}
-use Rattle.tables.specs.Tables.{Tables, tablesOf, countWords}
+use Rattle.tables.specs.Tables.{Tables, tablesOf}
 use Rattle.simulator.specs.Calls.{ranGives, countsAfterRun}
 use Rattle.host.proofs.NumbersLaws.{changed-small}
 use Rattle.host.proofs.HostLaws.{enough-counts, enough-found, run-short, run-made}
