@@ -195,7 +195,7 @@ fn check7(file: &[u8], p: usize) -> u32
     let Stands::Component { fields, .. } = component_at(file, p) else {
         return 0;
     };
-    given(7, fields.kind == 14)
+    given(7, primitive::is_kept(fields.kind))
 }
 
 // 8: the kind is none.
@@ -205,7 +205,7 @@ fn check8(file: &[u8], p: usize) -> u32
     let Stands::Component { fields, .. } = component_at(file, p) else {
         return 0;
     };
-    given(8, 15 <= fields.kind)
+    given(8, primitive::is_unknown(fields.kind))
 }
 
 // 9: the component breaks the table of kinds.

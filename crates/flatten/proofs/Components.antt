@@ -3,9 +3,9 @@
 -- docs/SPECIFICATION.md, "The drawing file" and checks 3 to 8.
 -- Not here: the table of kinds, ids and numbers of ports (Primitives).
 -- Assumes nothing.
-use mathlib.Core.Path.{_≡_, refl, ap}
+use mathlib.Core.Path.{_≡_, refl, sym, ap, _∙_}
 use mathlib.Core.Logic.{_⊎_, inl, inr, ⊎-elim}
-use mathlib.Core.Bool.{Bool, true, false, not, _&&_, _||_, false≢true}
+use mathlib.Core.Bool.{Bool, true, false, not, _&&_, _||_, false≢true, true≢false}
 use mathlib.Core.List.{List}
 use Prim.Native.Nat.{ℕ, zero, suc, _-_, _≤_, _<_}
 use native.Mathlib.Decide.{decLt}
@@ -18,6 +18,8 @@ use Rattle.lists.proofs.ListsLaws.{and-left, and-right}
 use Rattle.lists.proofs.MembersLaws.{In, or-left-false, or-right-false, or-cases, and-right-false, getD-cases}
 use Rattle.lists.proofs.MembersLaws.{keep-sound, from-sound, distinct-place, distinct-keep, distinct-from}
 use Rattle.primitive.specs.declared.table.Fields.{Fields}
+use Rattle.primitive.specs.Kinds.{forCustom, unknown}
+use Rattle.primitive.proofs.KindsLaws.{isKind}
 use Rattle.component.specs.declared.Record.{Record}
 use Rattle.component.specs.Record.{fieldsOf, inputsOf, outputsOf, composite, isPrimitive}
 use Rattle.component.specs.Reading.{ownerOf, formOf}
@@ -64,15 +66,14 @@ module _ (at : ℕ → Record) (n : ℕ) (d : Passed at n) where
   component-composite c e z =
       let k = fieldsOf (at c) .kind in
       let l = component-below c e in
-      let seven : eqb k 14 ≡ false = and-right-false _ _ (d .passes 7 c l) (eq-eqb (formOf (at c)) 1 e) in
-      let eight : leb 15 k ≡ false = and-right-false _ _ (d .passes 8 c l) (eq-eqb (formOf (at c)) 1 e) in
-      by-least (leb 1 k) refl (eqb-false k 14 seven) (leb-false 15 k eight)
+      let seven : forCustom k ≡ false = and-right-false _ _ (d .passes 7 c l) (eq-eqb (formOf (at c)) 1 e) in
+      let eight : unknown k ≡ false = and-right-false _ _ (d .passes 8 c l) (eq-eqb (formOf (at c)) 1 e) in
+      by-least (leb 1 k) refl (rw (seven, eight))
     where
-      by-least : (b : Bool) → leb 1 (fieldsOf (at c) .kind) ≡ b → (fieldsOf (at c) .kind ≡ 14 → ⊥)
-          → fieldsOf (at c) .kind < 15 → composite (at c) ≡ true
-      by-least false u v w = eq-eqb (fieldsOf (at c) .kind) 0 (omega (arith, leb-false 1 (fieldsOf (at c) .kind) u))
-      by-least true u v w =
-          absurd (omega (arith, leb-false (fieldsOf (at c) .kind) 13 (and-right-false _ _ z u)))
+      by-least : (b : Bool) → leb 1 (fieldsOf (at c) .kind) ≡ b → isKind (fieldsOf (at c) .kind) ≡ true
+          → composite (at c) ≡ true
+      by-least false u v = eq-eqb (fieldsOf (at c) .kind) 0 (omega (arith, leb-false 1 (fieldsOf (at c) .kind) u))
+      by-least true u v = absurd (true≢false (sym v ∙ and-right-false (leb 1 (fieldsOf (at c) .kind)) _ z u))
 
   -- The owner of a connection or a map is a composite.
   pub owner-composite : (q : ℕ) → q < n → 2 ≤ formOf (at q) → composite (at (ownerOf (at q))) ≡ true

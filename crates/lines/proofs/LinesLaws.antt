@@ -1,9 +1,10 @@
 -- Laws of parts that are put one after the other, and of loops that put a line for each number.
 -- Assumes nothing.
-use mathlib.Core.Path.{_≡_, refl, sym, ap, subst, _∙_}
-use mathlib.Core.List.{List, [], _∷_, _++_, append-assoc}
+use mathlib.Core.Path.{_≡_, sym, ap, subst, _∙_}
+use mathlib.Core.List.{List, [], _++_, append-assoc}
 use Prim.Native.Nat.{ℕ, _+_, _-_, _≤_, _<_}
 use native.Mathlib.Nat.{sub-zero}
+use native.Mathlib.Decide.{decLt}
 use native.Mathlib.Omega.{arith}
 use lib.ListN.{length}
 use lib.Seq.{length-sets}
@@ -66,4 +67,8 @@ pub no-name-0 : (k : ℕ) → k ≡ 0 → [] ≡ nameOf (kindOf k)
 no-name-0 k e = rw e
 
 pub no-name : (k : ℕ) → 14 ≤ k → [] ≡ nameOf (kindOf k)
-no-name k h = rw (kindOf-none k h)
+no-name k h = by-place (decLt 14 k)
+  where
+    by-place : Dec (14 < k) → [] ≡ nameOf (kindOf k)
+    by-place (yes l) = rw (kindOf-none k l)
+    by-place (no l) = let e : k ≡ 14 = omega arith in rw e

@@ -59,8 +59,7 @@ componentsText T =
 
 -- The wires, likewise.
 abbrev pub wiresText : Tables → List ℕ
-wiresText T =
-    ascii "wires " ++ numeral (T .counts .wires) ++ ascii "\n" ++ joined (λ k. wireLine (wireAt T k)) (from 0 (T .counts .wires))
+wiresText T = ascii "wires " ++ numeral (T .counts .wires) ++ ascii "\n" ++ joined (λ k. wireLine (wireAt T k)) (from 0 (T .counts .wires))
 
 -- Round r, and the current list that it leaves.
 abbrev pub roundLine : ℕ → List ℕ → List ℕ

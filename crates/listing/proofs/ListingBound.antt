@@ -1,16 +1,16 @@
 -- No listing is longer than 65,536 bytes: the program's buffer holds any.
 -- Assumes nothing.
-use mathlib.Core.Path.{_≡_, refl, sym, ap, _∙_, subst}
-use mathlib.Core.Logic.{_⊎_, inl, inr}
+use mathlib.Core.Path.{_≡_, refl, subst}
+use mathlib.Core.Logic.{inl, inr}
 use mathlib.Core.Bool.{Bool, true, false, cond}
 use mathlib.Core.List.{List, [], _∷_, _++_}
 use Prim.Native.Nat.{ℕ, zero, suc, _+_, _*_, _/_, _%_, _^_, _≤_, _<_}
 use native.Mathlib.Nat.{pow-suc, div-lt-iff-lt-mul, mul-suc}
 use native.Mathlib.Omega.{arith}
-use borrow.Author.Tests.{ltb-true, ltb-false}
-use lib.ListN.{length, length-append, getD}
+use borrow.Author.Tests.{ltb-false}
+use lib.ListN.{length, length-append}
 use lib.Dec.{ltb}
-use Rattle.lists.specs.Lists.{from, joined, every, distinct}
+use Rattle.lists.specs.Lists.{from, joined}
 use Rattle.lists.proofs.ListsLaws.{and-left, every-from}
 use Rattle.lists.proofs.MembersLaws.{In}
 use Rattle.value.specs.Value.{below}
@@ -22,8 +22,7 @@ use Rattle.component.specs.Record.{IsBytes}
 use Rattle.component.specs.declared.Verdict.{Verdict}
 use Rattle.component.specs.declared.Verdict.the-variants.{Accepted, Refused}
 use Rattle.tables.specs.declared.Wire.{Wire}
-use Rattle.tables.specs.Tables.{Tables, wordIn, idAt, fieldsAt, wireAt, indexes, currentList}
-use Rattle.tables.specs.Words.{idIn}
+use Rattle.tables.specs.Tables.{Tables, idAt, fieldsAt, wireAt, currentList}
 use Rattle.load.specs.Load.{loadTables, loadVerdict}
 use Rattle.net.specs.Net.{idsDistinct, netNumber}
 use Rattle.net.proofs.ClausesLaws.{portsFollow-inputs, portsFollow-outputs}
@@ -33,7 +32,7 @@ use Rattle.simulator.specs.Calls.{roundTables}
 use Rattle.simulator.proofs.Kept.{roundTables-net}
 use Rattle.simulator.proofs.Sound.{net-sound, net-within, wire-in}
 use Rattle.text.specs.Text.{placeAfter, numeralOf, numeral, spaced}
-use Rattle.lines.specs.Lines.{ascii, nameOf, componentLine, wireLine, componentsText, wiresText, roundLine, refusedLine}
+use Rattle.lines.specs.Lines.{nameOf, componentLine, wireLine, componentsText, wiresText, roundLine}
 use Rattle.listing.specs.Listing.{fresh, ending, roundLines, listedText, listing}
 use Rattle.listing.proofs.LoadedLaws.{loaded-number}
 

@@ -1,7 +1,7 @@
 -- What the definition makes of some files: the lamp drawing, a refused file, one that is never calm, all kinds. Each is a computation.
 -- Assumes nothing.
 use mathlib.Core.Path.{_≡_, refl}
-use mathlib.Core.List.{List, [], _∷_, _++_}
+use mathlib.Core.List.{List, _++_}
 use Prim.Native.Nat.{ℕ}
 use Rattle.lists.specs.Lists.{appendNew, strike, overlay}
 use Rattle.primitive.specs.Kinds.{obeys}

@@ -9,7 +9,7 @@ use borrow.Author.Tests.{ltb-false}
 use lib.ListN.{length}
 use lib.Dec.{eqb, ltb}
 use Rattle.value.specs.Value.{level}
-use Rattle.primitive.specs.Given.{Given, done, declined, refusedBy, giving}
+use Rattle.primitive.specs.Given.{done, declined, refusedBy, giving}
 use Rattle.primitive.proofs.GivenLaws.{done-declined}
 use Rattle.tables.specs.declared.Counts.{Counts}
 use Rattle.tables.specs.declared.Answer.{Answer}
@@ -24,7 +24,6 @@ use Rattle.simulator.specs.Questions.{AsksCalm}
 use Rattle.simulator.proofs.AnswersLaws.{calmGives-is}
 use Rattle.simulator.proofs.CallsLaws.{counted}
 use Rattle.simulator.proofs.Kept.{roundTables-net}
-use Rattle.text.specs.Text.{written, placeAfter}
 use Rattle.text.proofs.TextLaws.{ToCome, begun, put-piece}
 use Rattle.lines.specs.Lines.{roundLine, Puts}
 use Rattle.listing.specs.Listing.{fresh, ending, roundLines}

@@ -13,7 +13,7 @@ use Rattle.component.specs.declared.Record.{Record}
 use Rattle.component.specs.Record.{isPrimitive}
 use Rattle.flatten.specs.declared.Pin.{Pin}
 use Rattle.flatten.specs.declared.Lead.{Lead}
-use Rattle.flatten.specs.Descent.{pin, flat, wires}
+use Rattle.flatten.specs.Descent.{pin, wires}
 use Rattle.flatten.specs.Leads.{Leads}
 use Rattle.tables.specs.declared.End.{End}
 use Rattle.tables.specs.declared.Wire.{Wire}

@@ -1,8 +1,7 @@
 -- A load: its answer and the tables it leaves. docs/SPECIFICATION.md, "Numbers given back", "Flattening" and "Rounds" (the state at load).
-use mathlib.Core.Path.{_≡_}
 use Prim.Native.Nat.{ℕ}
 use mathlib.Core.Bool.{cond, _||_}
-use mathlib.Core.List.{List, [], _∷_, map}
+use mathlib.Core.List.{List, map}
 use lib.ListN.{length, replicate}
 use Rattle.lists.specs.Lists.{from, keep, joined, overlay}
 use Rattle.primitive.specs.declared.kinds.Kind.the-variants.{Clock, Const}

@@ -3,10 +3,10 @@
 use mathlib.Core.Path.{_≡_, refl, sym, ap}
 use mathlib.Core.Bool.{Bool, true, false, _&&_, true≢false}
 use mathlib.Core.List.{List, [], _∷_, map}
-use Prim.Native.Nat.{ℕ, _+_, _-_, _*_, _≤_, _<_}
+use Prim.Native.Nat.{ℕ, _+_, _-_, _≤_, _<_}
 use native.Mathlib.Omega.{arith}
 use borrow.Author.Tests.{leb-true, le-leb, eqb-true}
-use lib.ListN.{length, getD}
+use lib.ListN.{length}
 use lib.Dec.{leb, ltb, eqb}
 use Rattle.lists.specs.Lists.{from, every, distinct}
 use Rattle.lists.proofs.ListsLaws.{and-left, and-right, every-from, every-end}

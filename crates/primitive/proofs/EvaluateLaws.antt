@@ -64,20 +64,20 @@ module _ (f : Fields) (xs vs ys ws : List ℕ) where
     module _ (b : unknown (f .kind) ≡ false) where
       pub number-9 : (primitive f && obeys f) ≡ false → 9 ≡ evaluateNumber f xs vs ys ws
       unfolding evaluateNumber
-      number-9 d = rw (a, b, d)
+      number-9 d = rw (d, a, b)
 
       module _ (d : (primitive f && obeys f) ≡ true) where
         pub number-2 : lacking ≡ true → 2 ≡ evaluateNumber f xs vs ys ws
         unfolding evaluateNumber
-        number-2 e = rw (a, b, d, e)
+        number-2 e = rw (d, a, b, e)
 
         pub number-19 : lacking ≡ false → allFit ≡ false → 19 ≡ evaluateNumber f xs vs ys ws
         unfolding evaluateNumber
-        number-19 e h = rw (a, b, d, e, h)
+        number-19 e h = rw (d, a, b, e, h)
 
         pub number-0 : lacking ≡ false → allFit ≡ true → 0 ≡ evaluateNumber f xs vs ys ws
         unfolding evaluateNumber
-        number-0 e h = rw (a, b, d, e, h)
+        number-0 e h = rw (d, a, b, e, h)
 
   -- There are values for all ports where none is lacking.
   module _ (e : lacking ≡ false) where

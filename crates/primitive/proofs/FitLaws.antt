@@ -8,18 +8,18 @@ use native.Mathlib.Omega.{arith}
 use borrow.Author.Tests.{lt-ltb}
 use lib.ListN.{length, getD}
 use Rattle.lists.specs.Lists.{from, every}
-use Rattle.lists.proofs.ListsLaws.{and-left, within-most}
+use Rattle.lists.proofs.ListsLaws.{and-left}
 use Rattle.value.specs.Value.{below, bitOf, complement}
 use Rattle.value.proofs.ValueLaws.{bitOf-fits, complement-fits}
 use Rattle.primitive.specs.declared.kinds.Kind.{Kind}
 use Rattle.primitive.specs.declared.kinds.Kind.the-variants.{Composite, And, Or, Not, Nand, Nor, Xor, Switch, Input, Output, Splitter, Joiner, Clock, Const}
 use Rattle.primitive.specs.declared.table.Fields.{Fields}
-use Rattle.primitive.specs.Kinds.{numberOf, kindOf, primitive, obeys, row, only, inputWidth, outputWidth}
+use Rattle.primitive.specs.Kinds.{numberOf, kindOf, row, only, inputWidth, outputWidth}
 use Rattle.primitive.specs.Evaluate.{one, allHigh, anyHigh, oddHigh, clockHigh, join, rule, outputsAfter}
 use Rattle.primitive.specs.Own.{Own}
 use Rattle.primitive.proofs.KindsLaws.{numberOf-kindOf}
 use Rattle.primitive.proofs.RulesLaws.{join-lt}
-use Rattle.primitive.proofs.UpdateLaws.{Inside, InRow, obeyed-row, obeyed-primitive, leaves, outputsAfter-rule, outputsAfter-left}
+use Rattle.primitive.proofs.UpdateLaws.{Inside, InRow, obeyed-row, obeyed-primitive, obeyed-kind, leaves, outputsAfter-rule, outputsAfter-left}
 
 -- All numbers of a list lie below 2^w.
 abbrev pub allBelow : ℕ → List ℕ → Bool
@@ -98,7 +98,7 @@ module _ (f : Fields) (xs ys : List ℕ) (t : ℕ) (own : Own f xs ys) where
   k = kindOf (f .kind)
 
   kind-is : f .kind ≡ numberOf k
-  kind-is = sym (numberOf-kindOf (f .kind) (omega (arith, within-most 1 13 (f .kind) (and-left (primitive f) (obeys f) (own .obeyed)))))
+  kind-is = sym (numberOf-kindOf (f .kind) (obeyed-kind f (own .obeyed)))
 
   in-row : InRow (row k (f .width) (f .parameter)) f
   in-row = obeyed-row f k (own .obeyed) kind-is

@@ -5,9 +5,11 @@ use mathlib.Core.Bool.{Bool, true, false, not, _&&_, _||_}
 use mathlib.Core.List.{List}
 use Prim.Native.Nat.{ℕ, _≤_}
 use native.Mathlib.Omega.{arith}
-use lib.Dec.{eqb}
+use borrow.Author.Tests.{leb-true}
+use lib.Dec.{eqb, leb}
 use Rattle.lists.proofs.ListsLaws.{and-left, and-right, within-least, within-most}
 use Rattle.primitive.specs.declared.kinds.Kind.{Kind}
+use Rattle.primitive.specs.declared.kinds.Kind.the-variants.{Switch, Const}
 use Rattle.primitive.specs.declared.kinds.Seen.{Seen}
 use Rattle.primitive.specs.declared.kinds.Seen.the-variants.{Known, Kept, Unknown}
 use Rattle.primitive.specs.declared.table.Fields.{Fields}
@@ -15,7 +17,7 @@ use Rattle.primitive.specs.declared.table.Span.{Span}
 use Rattle.primitive.specs.declared.table.Row.{Row}
 use Rattle.primitive.specs.Kinds.{numberOf, seenAs, forCustom, unknown, kindOf, primitive, row, rowOf, spans, obeys}
 use Rattle.primitive.specs.Evaluate.{rule, functionOf, outputsAfter}
-use Rattle.primitive.proofs.KindsLaws.{kindOf-numberOf, seenAs-kind}
+use Rattle.primitive.proofs.KindsLaws.{isKind, kindOf-numberOf, seenAs-kind}
 
 -- x lies in a span.
 pub record Inside (s : Span) (x : ℕ) : Type 0 where
@@ -72,14 +74,17 @@ obeyed-row f k o e =
     let q : kindOf (f .kind) ≡ k = ap kindOf e ∙ kindOf-numberOf k in
     rw q at (obeys-row f (and-right (primitive f) (obeys f) o))
 
--- It is of kinds 1 to 13.
+-- It is of a kind, and not of the composite's.
 pub obeyed-primitive : (f : Fields) → (primitive f && obeys f) ≡ true → 1 ≤ f .kind
-obeyed-primitive f o = within-least 1 13 (f .kind) (and-left (primitive f) (obeys f) o)
+obeyed-primitive f o =
+    leb-true 1 (f .kind) (and-left (leb 1 (f .kind)) (isKind (f .kind)) (and-left (primitive f) (obeys f) o))
+
+pub obeyed-kind : (f : Fields) → (primitive f && obeys f) ≡ true → isKind (f .kind) ≡ true
+obeyed-kind f o = and-right (leb 1 (f .kind)) (isKind (f .kind)) (and-left (primitive f) (obeys f) o)
 
 -- So its number is read as a kind.
 pub obeyed-seen : (f : Fields) → (primitive f && obeys f) ≡ true → seenAs (f .kind) ≡ Known (kindOf (f .kind))
-obeyed-seen f o =
-    seenAs-kind (f .kind) (omega (arith, within-most 1 13 (f .kind) (and-left (primitive f) (obeys f) o)))
+obeyed-seen f o = seenAs-kind (f .kind) (obeyed-kind f o)
 
 pub obeyed-unkept : (f : Fields) (s : Seen) → (primitive f && obeys f) ≡ true → s ≡ seenAs (f .kind) → s ≡ Kept → ⊥
 obeyed-unkept f s o e q = let k = obeyed-seen f o in let z : _≡_ {A = ℕ} 0 1 = cc in omega arith
@@ -89,7 +94,7 @@ obeyed-known f s o e q = let k = obeyed-seen f o in let z : _≡_ {A = ℕ} 0 1 
 
 -- A kind that leaves its outputs: Switch or Const.
 abbrev pub leaves : Kind → Bool
-leaves k = eqb (numberOf k) 7 || eqb (numberOf k) 13
+leaves k = eqb (numberOf k) (numberOf Switch) || eqb (numberOf k) (numberOf Const)
 
 -- What an evaluation of a component of kind k leaves.
 module _ (f : Fields) (k : Kind) (xs ys zs : List ℕ) (t : ℕ) (e : f .kind ≡ numberOf k) where

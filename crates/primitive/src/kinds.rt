@@ -1,10 +1,11 @@
 // The kinds of component and their numbers. Rule: docs/SPECIFICATION.md, "The drawing file". Source: primitive.rs, `Primitive`.
 ghost use mathlib.Core.Path.{_≡_};
-ghost use Rattle.primitive.specs.Kinds.{numberOf, seenAs};
+ghost use Rattle.primitive.specs.Kinds.{numberOf, seenAs, forCustom, unknown};
 
 // To whoever adds a kind: append yours after the last, never between two. A kind's number is saved in the drawing files of every
 // gate, and all of them are read by this table: a kind put in before Nand would make each Nand drawn so far another gate, and
-// a screen would light a closed run. 14 is kept for the Rust's `Custom`, so the next number is 15.
+// a screen would light a closed run. 14 is kept for the Rust's `Custom`, so the next number is 15. Besides this file the
+// table of kinds and the rules want a line, and so do the definitions of all three.
 pub enum Kind {
     Composite,
     And,
@@ -72,5 +73,27 @@ pub fn kind_of(number: u8) -> Seen
         13 => Seen::Known(Kind::Const),
         14 => Seen::Kept,
         _ => Seen::Unknown,
+    }
+}
+
+// Whether a number is the one kept for Custom.
+pub fn is_kept(number: u8) -> bool
+    ensures { λ r. ⌜ r ≡ forCustom number ⌝ }
+{
+    match kind_of(number) {
+        Seen::Known(_) => false,
+        Seen::Kept => true,
+        Seen::Unknown => false,
+    }
+}
+
+// Whether a number is no kind, nor kept for one.
+pub fn is_unknown(number: u8) -> bool
+    ensures { λ r. ⌜ r ≡ unknown number ⌝ }
+{
+    match kind_of(number) {
+        Seen::Known(_) => false,
+        Seen::Kept => false,
+        Seen::Unknown => true,
     }
 }

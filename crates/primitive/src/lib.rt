@@ -9,6 +9,8 @@ pub use answers::Evaluated;
 pub use answers::Refusal;
 pub use kinds::Kind;
 pub use kinds::Seen;
+pub use kinds::is_kept;
+pub use kinds::is_unknown;
 pub use kinds::kind_of;
 pub use kinds::number_of;
 pub use rules::update;

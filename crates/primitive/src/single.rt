@@ -5,6 +5,8 @@ ghost use lib.ListN.{length};
 ghost use Rattle.primitive.specs.Evaluate.{fitting, evaluateNumber, Evaluates};
 use crate::answers::Evaluated;
 use crate::answers::Refusal;
+use crate::kinds::is_kept;
+use crate::kinds::is_unknown;
 use crate::rules::update;
 use crate::table::Fields;
 use crate::table::input_width;
@@ -39,10 +41,10 @@ fn evaluate_number(
 {
     let n = f.inputs as usize;
     let m = f.outputs as usize;
-    if f.kind == 14 {
+    if is_kept(f.kind) {
         return 7;
     }
-    if 15 <= f.kind {
+    if is_unknown(f.kind) {
         return 8;
     }
     if !(is_primitive(f) & obeys(f)) {

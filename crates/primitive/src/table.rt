@@ -5,6 +5,8 @@ ghost use Rattle.value.specs.Value.{widest, ones};
 ghost use Rattle.primitive.specs.Kinds.{row, rowOf, line, only, spans, primitive, obeys, inputWidth, outputWidth};
 use crate::kinds::Kind;
 use crate::kinds::Seen;
+use crate::kinds::is_kept;
+use crate::kinds::is_unknown;
 use crate::kinds::kind_of;
 use value::WIDEST;
 
@@ -133,11 +135,11 @@ fn row_of(f: Fields) -> Row
     }
 }
 
-// Whether a component is of one of the kinds 1 to 13.
+// Whether a component is of a kind other than the composite's.
 pub fn is_primitive(f: Fields) -> bool
     ensures { λ r. ⌜ r ≡ primitive f ⌝ }
 {
-    (1 <= f.kind) & (f.kind <= 13)
+    (1 <= f.kind) & (!is_kept(f.kind) & !is_unknown(f.kind))
 }
 
 // Whether a component obeys the table of kinds.
@@ -145,8 +147,8 @@ pub fn obeys(f: Fields) -> bool
     ensures { λ r. ⌜ r ≡ obeys f ⌝ }
 {
     let row = row_of(f);
-    !(f.kind == 14)
-        & !(15 <= f.kind)
+    !is_kept(f.kind)
+        & !is_unknown(f.kind)
         & row.inputs.spans(f.inputs as u64)
         & row.outputs.spans(f.outputs as u64)
         & row.width.spans(f.width as u64)

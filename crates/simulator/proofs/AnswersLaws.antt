@@ -10,7 +10,6 @@ use Rattle.value.specs.declared.Value.{Value}
 use Rattle.value.specs.Value.{level}
 use Rattle.primitive.proofs.GivenLaws.{done-values, done-declined, declined-refusal}
 use Rattle.tables.specs.declared.FlatIdx.{FlatIdx}
-use Rattle.tables.specs.declared.Counts.{Counts}
 use Rattle.tables.specs.Tables.{countWords}
 use Rattle.tables.proofs.AnswerLaws.{countWords-is}
 use Rattle.simulator.specs.declared.Ran.{Ran}

@@ -3,18 +3,17 @@
 use mathlib.Core.Path.{_≡_, refl, sym, ap, _∙_}
 use mathlib.Core.Bool.{Bool, true, false, cond, _&&_, _||_}
 use mathlib.Core.List.{List, [], _∷_}
-use Prim.Native.Nat.{ℕ, _<_}
+use Prim.Native.Nat.{ℕ}
 use native.Mathlib.Omega.{arith}
 use borrow.Author.Tests.{eqb-true, eqb-false}
 use lib.Dec.{eqb}
-use Rattle.lists.proofs.ListsLaws.{and-left, within-most}
 use Rattle.primitive.specs.declared.kinds.Kind.{Kind}
 use Rattle.primitive.specs.declared.kinds.Kind.the-variants.{Composite, And, Or, Not, Nand, Nor, Xor, Switch, Input, Output, Splitter, Joiner, Clock, Const}
 use Rattle.primitive.specs.declared.table.Fields.{Fields}
 use Rattle.primitive.specs.Kinds.{numberOf, kindOf, is, primitive, obeys}
 use Rattle.primitive.specs.Evaluate.{rule, functionOf, outputsAfter}
 use Rattle.primitive.proofs.KindsLaws.{numberOf-kindOf}
-use Rattle.primitive.proofs.UpdateLaws.{obeyed-row}
+use Rattle.primitive.proofs.UpdateLaws.{obeyed-row, obeyed-kind}
 
 -- A component is of one kind only.
 pub is-other : (f : Fields) (j k : Kind) → eqb (numberOf j) (numberOf k) ≡ false → is j f ≡ true → is k f ≡ false
@@ -62,8 +61,7 @@ module _ (f : Fields) (o : (primitive f && obeys f) ≡ true) where
     where
       no-clock : kindOf (f .kind) ≡ Clock → ⊥
       no-clock q =
-          let b : f .kind < 14 = omega (arith, within-most 1 13 (f .kind) (and-left (primitive f) (obeys f) o)) in
-          eqb-false (f .kind) 12 e (sym (numberOf-kindOf (f .kind) b) ∙ ap numberOf q)
+          eqb-false (f .kind) (numberOf Clock) e (sym (numberOf-kindOf (f .kind) (obeyed-kind f o)) ∙ ap numberOf q)
 
 -- A second evaluation on the same inputs changes nothing.
 pub outputsAfter-twice : (f : Fields) (xs ys : List ℕ) (t : ℕ)

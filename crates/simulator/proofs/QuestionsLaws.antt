@@ -3,22 +3,20 @@
 -- Not here: laws of the ends of wires (EndsLaws).
 -- Assumes nothing.
 use mathlib.Core.Path.{_≡_, refl, sym, ap, _∙_}
-use mathlib.Core.Logic.{⊎-elim}
 use mathlib.Core.Bool.{Bool, true, false, cond}
 use mathlib.Core.List.{List, [], _∷_}
-use Prim.Native.Nat.{ℕ, _+_, _*_, _≤_, _<_}
+use Prim.Native.Nat.{ℕ, _+_, _≤_, _<_}
 use native.Mathlib.Omega.{arith}
 use borrow.Author.Tests.{eqb-true, eq-eqb, ne-eqb, le-leb, lt-leb, lt-ltb, le-ltb, ltb-false}
 use lib.ListN.{length, getD}
 use lib.Dec.{eqb, leb, ltb}
 use Rattle.lists.specs.Lists.{every, first, overlay}
-use Rattle.lists.proofs.MembersLaws.{or-cases}
 use Rattle.value.specs.Value.{level}
 use Rattle.primitive.specs.declared.kinds.Kind.the-variants.{Clock}
 use Rattle.primitive.specs.declared.table.Fields.{Fields}
 use Rattle.primitive.specs.Kinds.{is, inputWidth, outputWidth}
 use Rattle.primitive.specs.Given.{Given, done, declined, refusedBy}
-use Rattle.tables.specs.Tables.{Tables, fullSize, fieldsAt, idAt, firstInput, firstOutput, indexes, currentList, wireAt, indexOf}
+use Rattle.tables.specs.Tables.{Tables, fieldsAt, idAt, firstInput, firstOutput, indexes, currentList, wireAt, indexOf}
 use Rattle.net.specs.Net.{netNumber, onNet}
 use Rattle.net.specs.Parts.{lent}
 use Rattle.net.proofs.ClausesLaws.{kindsObeyed-fit}
@@ -29,11 +27,11 @@ use Rattle.simulator.specs.declared.Calm.the-variants.{Is as CalmIs, Ref
 use Rattle.simulator.specs.declared.Index.{Index}
 use Rattle.simulator.specs.declared.Index.the-variants.{Refused as NoIndex}
 use Rattle.simulator.specs.declared.Port.{Port}
-use Rattle.simulator.specs.declared.Port.the-variants.{Is as PortIs, Refused as NoPort}
+use Rattle.simulator.specs.declared.Port.the-variants.{Refused as NoPort}
 use Rattle.simulator.specs.declared.Listed.{Listed}
 use Rattle.simulator.specs.declared.Listed.the-variants.{Count, Refused as NotListed}
 use Rattle.simulator.specs.Round.{calm}
-use Rattle.simulator.specs.Questions.{ofNet, AsksCalm, indexGives, indexFound, AsksIndex, portCount, valueGives, valueOnNet, AsksValue, listNumber, Listing, AsksSources, AsksTargets}
+use Rattle.simulator.specs.Questions.{ofNet, AsksCalm, indexGives, indexFound, AsksIndex, valueGives, valueOnNet, AsksValue, listNumber, Listing, AsksSources, AsksTargets}
 use Rattle.simulator.specs.declared.questions.Tip.{Tip}
 use Rattle.simulator.specs.declared.questions.Tip.the-variants.{Source, Target}
 use Rattle.simulator.specs.Asked.{endOf, met, RowRight}

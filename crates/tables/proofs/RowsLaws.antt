@@ -10,13 +10,14 @@ use native.Mathlib.Omega.{arith}
 use borrow.Author.Tests.{lt-ltb, ltb-true}
 use lib.ListN.{set}
 use lib.Seq.{sets}
-use Rattle.lists.proofs.ListsLaws.{and-left, and-right, within-most}
+use Rattle.lists.proofs.ListsLaws.{and-left, and-right}
 use Rattle.value.specs.Value.{below}
 use Rattle.primitive.specs.declared.kinds.Kind.{Kind}
 use Rattle.primitive.specs.declared.kinds.Kind.the-variants.{Composite, And, Or, Not, Nand, Nor, Xor, Switch, Input, Output, Splitter, Joiner, Clock, Const}
 use Rattle.primitive.specs.declared.table.Fields.{Fields}
 use Rattle.primitive.specs.Kinds.{kindOf, primitive, obeys, row}
-use Rattle.primitive.proofs.UpdateLaws.{InRow, obeys-row}
+use Rattle.primitive.proofs.UpdateLaws.{InRow, obeys-row, obeyed-kind}
+use Rattle.primitive.proofs.KindsLaws.{kind-below}
 use Rattle.tables.specs.Words.{fieldsFit}
 
 -- The words of an entry at k, stored by their offsets from k, the first of which is j.
@@ -87,7 +88,7 @@ pub obeyed-fit : (f : Fields) → (primitive f && obeys f) ≡ true → fieldsFi
 unfolding fieldsFit
 obeyed-fit f o =
     let s = row-small f (kindOf (f .kind)) (obeys-row f (and-right (primitive f) (obeys f) o)) in
-    let k : f .kind < 256 = omega (arith, within-most 1 13 (f .kind) (and-left (primitive f) (obeys f) o)) in
+    let k : f .kind < 256 = omega (arith, kind-below (f .kind) (obeyed-kind f o)) in
     rw (
       lt-ltb (f .kind) 256 k,
       lt-ltb (f .inputs) 65536 (s .inputs),

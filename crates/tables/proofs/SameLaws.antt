@@ -5,11 +5,11 @@
 use mathlib.Core.Path.{_≡_, refl, _∙_}
 use mathlib.Core.Bool.{true}
 use mathlib.Core.List.{List, map}
-use Prim.Native.Nat.{ℕ, _+_, _*_}
-use lib.ListN.{length, getD}
+use Prim.Native.Nat.{ℕ}
+use lib.ListN.{length}
 use Rattle.lists.specs.Lists.{from}
 use Rattle.tables.specs.declared.Wire.{Wire}
-use Rattle.tables.specs.Tables.{Tables, fullSize, wordIn, endAt, fieldsAt, wiresIn}
+use Rattle.tables.specs.Tables.{Tables, fullSize, wordIn, fieldsAt, wiresIn}
 use Rattle.tables.specs.Words.{wireIn}
 
 pub record SameWiring (T U : Tables) : Type 0 where

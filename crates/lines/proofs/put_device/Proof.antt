@@ -1,9 +1,6 @@
 -- `put_device`: each number has its name, and no other number has one.
 -- Assumes nothing.
-use mathlib.Core.Path.{_≡_}
 use mathlib.Core.List.{[]}
-use Prim.Native.Nat.{_≤_}
-use native.Mathlib.Omega.{arith}
 use Rattle.lines.specs.Lines.{ascii}
 use Rattle.lines.proofs.LinesLaws.{put, named-as, past, no-name}
 use borrow.Author.Needs.{needs}

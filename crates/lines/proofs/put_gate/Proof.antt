@@ -2,7 +2,6 @@
 -- Assumes nothing.
 use mathlib.Core.Path.{_≡_}
 use mathlib.Core.List.{[]}
-use Prim.Native.Nat.{_≤_}
 use native.Mathlib.Omega.{arith}
 use Rattle.lines.specs.Lines.{ascii}
 use Rattle.lines.proofs.LinesLaws.{put, named-as, no-name-0}

@@ -1,12 +1,10 @@
 -- `list`: an accepted file leaves a net, whose parts are put one after the other; a refused one its line.
 -- Assumes nothing.
 use mathlib.Core.Path.{_≡_}
-use Prim.Native.Nat.{_<_}
 use native.Mathlib.Omega.{arith}
 use Rattle.component.specs.Record.{IsBytes}
 use Rattle.tables.specs.Tables.{Tables, tablesOf}
 use Rattle.net.specs.Net.{netNumber}
-use Rattle.simulator.proofs.Sound.{net-within}
 use Rattle.lines.proofs.LinesLaws.{both, named-as}
 use Rattle.listing.specs.Listing.{fresh, roundLines}
 use Rattle.listing.proofs.LoadedLaws.{inside, listed-refused, listed-net, listed-done}

@@ -1,6 +1,5 @@
 -- `put_end`: each ending.
 -- Assumes nothing.
-use mathlib.Core.Path.{sym}
 use Rattle.lines.specs.Lines.{ascii}
 use Rattle.lines.proofs.LinesLaws.{put}
 use borrow.Author.Needs.{needs}

@@ -20,10 +20,13 @@ returns c = search (given-passes, fails7-other)
 given-requires : tie.Need-given-requires
 given-requires c κs = search needs
 
+is-kept-requires : tie.Need-is-kept-requires
+is-kept-requires c κs = search needs
+
 returns-2 : tie.Need-returns-2
 returns-2 c = search (given-by, fails7-component)
 
 pub check7-spec : {M : Type 1} → statement M
 check7-spec =
     tie.close
-    (tie.spec component-at-requires enum-known-fields enum-told returns given-requires returns-2)
+    (tie.spec component-at-requires enum-known-fields enum-told returns is-kept-requires given-requires returns-2)

@@ -20,10 +20,13 @@ returns c = search (given-passes, fails8-other)
 given-requires : tie.Need-given-requires
 given-requires c κs = search needs
 
+is-unknown-requires : tie.Need-is-unknown-requires
+is-unknown-requires c κs = search needs
+
 returns-2 : tie.Need-returns-2
 returns-2 c = search (given-by, fails8-component)
 
 pub check8-spec : {M : Type 1} → statement M
 check8-spec =
     tie.close
-    (tie.spec component-at-requires enum-known-fields enum-told returns given-requires returns-2)
+    (tie.spec component-at-requires enum-known-fields enum-told returns is-unknown-requires given-requires returns-2)

@@ -1,7 +1,7 @@
 -- `lay_components`: the entries of the primitives passed so far are laid, and what stands before the next is known.
 -- Assumes nothing.
 use mathlib.Core.Path.{_≡_, refl}
-use Prim.Native.Nat.{_-_, _*_, _≤_}
+use Prim.Native.Nat.{_-_, _≤_}
 use native.Mathlib.Omega.{arith}
 use Rattle.component.specs.Record.{recordAt, recordCount}
 use Rattle.load.specs.Laying.{beforeAt, rowAt}

@@ -1,10 +1,8 @@
 -- `wire_fits`: where both components exist, their fields are read, and what is left of the definition is tested.
 -- Assumes nothing.
 use borrow.Author.Tests.{not-true, not-false, ltb-true}
-use mathlib.Core.Path.{_≡_}
-use mathlib.Core.Bool.{Bool, _&&_}
+use mathlib.Core.Bool.{Bool}
 use mathlib.Core.List.{[]}
-use Prim.Native.Nat.{_<_}
 use lib.Dec.{ltb}
 use Rattle.lists.proofs.ListsLaws.{and-left, and-right}
 use Rattle.tables.specs.Tables.{Tables}

@@ -1,7 +1,7 @@
 -- `evaluate_number`: the tests stand in the order of the definition's checks, so at each return those before did not hold.
 -- Assumes nothing.
 use borrow.Author.Needs.{needs}
-use borrow.Author.Tests.{eq-eqb, ne-eqb, le-leb, lt-leb, not-true, not-false}
+use borrow.Author.Tests.{not-true, not-false}
 use mathlib.Core.Path.{_≡_, sym, _∙_}
 use mathlib.Core.Bool.{true, false, _&&_}
 use Rattle.primitive.specs.Kinds.{forCustom, unknown, primitive, obeys}
@@ -10,11 +10,11 @@ use Rattle.primitive.proofs.single.evaluate_number.Statement.{statement
 use Rattle.primitive.proofs.single.evaluate_number.Tie as tie
 
 -- What is known once a test is passed.
-not-14 : (c : tie.Else1) → forCustom (c .before .before .before .before .before .before .before .before .args .f .kind) ≡ false
-not-14 c = ne-eqb _ 14 (c .if1 .left)
+unkept : (c : tie.Else1) → forCustom (c .before .before .before .before .before .before .before .before .args .f .kind) ≡ false
+unkept c = sym (c .before .is-kept .ensures) ∙ c .if1 .left
 
-below-15 : (c : tie.Else2) → unknown (c .before .before .before .before .before .before .before .before .before .before .args .f .kind) ≡ false
-below-15 c = lt-leb 15 _ (c .if2 .left)
+not-unknown : (c : tie.Else2) → unknown (c .before .before .before .before .before .before .before .before .before .before .args .f .kind) ≡ false
+not-unknown c = sym (c .before .is-unknown .ensures) ∙ c .if2 .left
 
 tested : (c : tie.After-obeys) → (c .before .is-primitive .result && c .obeys .result) ≡ (primitive (c .before .before .before .before .before .before .before .before .before .before .before .before .args .f) && obeys (c .before .before .before .before .before .before .before .before .before .before .before .before .args .f))
 tested c = rw (c .before .is-primitive .ensures, c .obeys .ensures)
@@ -32,17 +32,23 @@ cast-n c = search needs
 cast-m : tie.Need-cast-m
 cast-m c = search needs
 
+is-kept-requires : tie.Need-is-kept-requires
+is-kept-requires c κs = search needs
+
+is-unknown-requires : tie.Need-is-unknown-requires
+is-unknown-requires c κs = search needs
+
 -- 7
 returns : tie.Need-returns
 returns c =
     let a = c .before .before .before .before .before .before .before .before .args in
-    number-7 (a .f) (a .inputs .now) (a .entering .now) (a .outputs .now) (a .leaving .now) (eq-eqb _ 14 (c .if1 .taken))
+    number-7 (a .f) (a .inputs .now) (a .entering .now) (a .outputs .now) (a .leaving .now) (sym (c .before .is-kept .ensures) ∙ c .if1 .taken)
 
 -- 8
 returns-2 : tie.Need-returns-2
 returns-2 c =
     let a = c .before .before .before .before .before .before .before .before .before .before .args in
-    number-8 (a .f) (a .inputs .now) (a .entering .now) (a .outputs .now) (a .leaving .now) (not-14 (c .before .before)) (le-leb 15 _ (c .if2 .taken))
+    number-8 (a .f) (a .inputs .now) (a .entering .now) (a .outputs .now) (a .leaving .now) (unkept (c .before .before)) (sym (c .before .is-unknown .ensures) ∙ c .if2 .taken)
 
 is-primitive-requires : tie.Need-is-primitive-requires
 is-primitive-requires c κs = search needs
@@ -55,14 +61,14 @@ returns-3 : tie.Need-returns-3
 returns-3 c =
     let a = c .before .before .before .before .before .before .before .before .before .before .before .before .before .args in
     number-9 (a .f) (a .inputs .now) (a .entering .now) (a .outputs .now) (a .leaving .now)
-    (not-14 (c .before .before .before .before .before)) (below-15 (c .before .before .before)) (sym (tested (c .before)) ∙ not-true _ (c .if3 .taken))
+    (unkept (c .before .before .before .before .before)) (not-unknown (c .before .before .before)) (sym (tested (c .before)) ∙ not-true _ (c .if3 .taken))
 
 -- 2
 returns-4 : tie.Need-returns-4
 returns-4 c =
     let a = c .before .before .before .before .before .before .before .before .before .before .before .before .before .before .args in
     number-2 (a .f) (a .inputs .now) (a .entering .now) (a .outputs .now) (a .leaving .now)
-    (not-14 (c .before .before .before .before .before .before)) (below-15 (c .before .before .before .before)) (obeyed (c .before)) (c .if4 .taken)
+    (unkept (c .before .before .before .before .before .before)) (not-unknown (c .before .before .before .before)) (obeyed (c .before)) (c .if4 .taken)
 
 input-width-requires : tie.Need-input-width-requires
 input-width-requires c κs = search needs
@@ -91,14 +97,14 @@ returns-5 : tie.Need-returns-5
 returns-5 c =
     let a = c .before .before .before .before .before .before .before .before .before .before .before .before .before .before .before .before .before .before .before .args in
     number-19 (a .f) (a .inputs .now) (a .entering .now) (a .outputs .now) (a .leaving .now)
-    (not-14 (c .before .before .before .before .before .before .before .before .before .before .before)) (below-15 (c .before .before .before .before .before .before .before .before .before)) (obeyed (c .before .before .before .before .before .before)) (c .before .before .before .before .before .if4 .left) (sym (fitted (c .before)) ∙ not-true _ (c .if5 .taken))
+    (unkept (c .before .before .before .before .before .before .before .before .before .before .before)) (not-unknown (c .before .before .before .before .before .before .before .before .before)) (obeyed (c .before .before .before .before .before .before)) (c .before .before .before .before .before .if4 .left) (sym (fitted (c .before)) ∙ not-true _ (c .if5 .taken))
 
 -- accepted
 returns-6 : tie.Need-returns-6
 returns-6 c =
     let a = c .before .before .before .before .before .before .before .before .before .before .before .before .before .before .before .before .before .before .before .args in
     number-0 (a .f) (a .inputs .now) (a .entering .now) (a .outputs .now) (a .leaving .now)
-    (not-14 (c .before .before .before .before .before .before .before .before .before .before .before)) (below-15 (c .before .before .before .before .before .before .before .before .before)) (obeyed (c .before .before .before .before .before .before)) (c .before .before .before .before .before .if4 .left) (sym (fitted (c .before)) ∙ not-false _ (c .if5 .left))
+    (unkept (c .before .before .before .before .before .before .before .before .before .before .before)) (not-unknown (c .before .before .before .before .before .before .before .before .before)) (obeyed (c .before .before .before .before .before .before)) (c .before .before .before .before .before .if4 .left) (sym (fitted (c .before)) ∙ not-false _ (c .if5 .left))
 
 pub evaluate-number-spec : {M : Type 1} → statement M
 evaluate-number-spec =
@@ -106,7 +112,9 @@ evaluate-number-spec =
     (tie.spec
     cast-n
     cast-m
+    is-kept-requires
     returns
+    is-unknown-requires
     returns-2
     is-primitive-requires
     obeys-requires

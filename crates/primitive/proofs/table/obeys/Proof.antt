@@ -6,6 +6,12 @@ use Rattle.primitive.proofs.table.obeys.Tie as tie
 row-of-requires : tie.Need-row-of-requires
 row-of-requires c κs = search needs
 
+is-kept-requires : tie.Need-is-kept-requires
+is-kept-requires c κs = search needs
+
+is-unknown-requires : tie.Need-is-unknown-requires
+is-unknown-requires c κs = search needs
+
 cast-spans : tie.Need-cast-spans
 cast-spans c = search needs
 
@@ -35,6 +41,8 @@ returns c =
       c .before .spans3 .ensures,
       c .before .before .before .spans2 .ensures,
       c .before .before .before .before .before .spans .ensures,
+      c .before .before .before .before .before .before .before .is-unknown .ensures,
+      c .before .before .before .before .before .before .before .before .is-kept .ensures,
       c .before .before .before .before .before .before .before .before .before .row-of .ensures,
     )
 
@@ -43,6 +51,8 @@ obeys-spec =
     tie.close
     (tie.spec
     row-of-requires
+    is-kept-requires
+    is-unknown-requires
     cast-spans
     spans-requires
     cast-spans-2

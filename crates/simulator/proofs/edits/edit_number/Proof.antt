@@ -3,7 +3,6 @@
 use mathlib.Core.Path.{_≡_, _∙_}
 use mathlib.Core.Bool.{cond}
 use mathlib.Core.Logic.{⊎-elim}
-use native.Mathlib.Omega.{arith}
 use Rattle.primitive.specs.Kinds.{inputWidth, outputWidth}
 use Rattle.simulator.proofs.EditsLaws.{edit-17, edit-18, edit-19, edit-0}
 use borrow.Author.Needs.{needs}

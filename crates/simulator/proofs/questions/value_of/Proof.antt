@@ -3,7 +3,6 @@
 use mathlib.Core.Path.{_≡_, sym, _∙_}
 use Rattle.tables.specs.Tables.{Tables, tablesOf}
 use Rattle.net.specs.Net.{netNumber}
-use Rattle.simulator.proofs.Sound.{net-within}
 use Rattle.simulator.proofs.QuestionsLaws.{net-row, value-refused, value-there}
 use borrow.Author.Needs.{needs}
 use Rattle.simulator.proofs.questions.value_of.Statement.{statement}

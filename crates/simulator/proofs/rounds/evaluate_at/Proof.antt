@@ -3,7 +3,6 @@
 -- Assumes nothing.
 use mathlib.Core.Path.{sym, _∙_}
 use mathlib.Core.List.{[]}
-use native.Mathlib.Omega.{arith}
 use Rattle.tables.proofs.RowsLaws.{obeyed-fit}
 use Rattle.tables.specs.Words.{uncounted}
 use Rattle.simulator.proofs.StepsLaws.{lent-inputs, lent-outputs, lent-own, evaluated-clock, evaluated-struck}
