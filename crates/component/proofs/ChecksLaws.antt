@@ -29,17 +29,16 @@ use Rattle.component.specs.declared.Stands.{Stands}
 use Rattle.component.specs.declared.Stands.the-variants.{Component as StandsComponent, Nothing}
 use Rattle.component.specs.declared.checks.Entry.{Entry}
 use Rattle.component.specs.declared.checks.Entry.the-variants.{Of, Nothing as NoEntry}
-use Rattle.component.specs.Record.{recordAt, fromOf, outputOf, toOf, inputOf, portOf, noRecord}
+use Rattle.component.specs.Record.{recordAt, toOf, inputOf, noRecord}
 use Rattle.component.specs.Reading.{idOf, ownerOf, formOf, apart, formBy, said, number, StandsAs, EntryAs}
 use Rattle.component.specs.Checks.{given}
 use Rattle.component.specs.Record.{inputsOf, outputsOf, isPrimitive, composite}
-use Rattle.component.specs.Record.{hasId, entering, enters, enteringAs}
-use Rattle.component.specs.Drawing.{fromThere, portThere, toThere}
+use Rattle.component.specs.Record.{hasId, entering, enters}
 use Rattle.component.specs.Drawing.{child, deepest, holds, deeper, outMaps, inputsBefore, outputsBefore}
-use Rattle.component.specs.Drawing.{fails3, fails4, fails5, fails6, fails7, fails8, fails9}
+use Rattle.component.specs.Drawing.{fails4, fails5, fails6, fails7, fails8, fails9}
 use Rattle.component.specs.Drawing.{fails10, fails11, fails12, fails13, fails14}
 use Rattle.component.proofs.Says.{the-type}
-use Rattle.component.proofs.RecordLaws.{formBy-tag, no-component, form-apart, owner-apart, refused-is, taken-is, taken-form, taken-owner, unseen-test, unseen-fields, seen-is}
+use Rattle.component.proofs.RecordLaws.{formBy-tag, no-component, refused-is, taken-is, taken-form, taken-owner, unseen-test, unseen-fields, seen-is}
 use Rattle.component.proofs.ScanLaws.{tested}
 
 -- A check fails, or not; r is what `given` answers.

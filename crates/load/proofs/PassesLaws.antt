@@ -7,8 +7,6 @@ use mathlib.Core.List.{List, [], _∷_, _++_}
 use Prim.Native.Nat.{ℕ, suc, _+_, _-_, _*_, _≤_, _<_}
 use native.Mathlib.Numerals.{add-one}
 use native.Mathlib.Omega.{arith}
-use types.Run.{OneOf}
-use denote.Enum.Declared.{tagOf}
 use lib.ListN.{length, length-append}
 use lib.Seq.{sets}
 use Rattle.lists.specs.Lists.{from, keep, total, joined, overlay}
@@ -26,7 +24,6 @@ use Rattle.component.specs.Record.{recordAt, recordCount, inputsOf, outputsOf, 
 use Rattle.component.specs.Drawing.{primitivesBefore}
 use Rattle.component.proofs.RecordLaws.{unseen-primitive, seen-is}
 use Rattle.flatten.specs.Verdict.{verdict}
-use Rattle.flatten.proofs.Components.{primitive-component}
 use Rattle.flatten.proofs.Primitives.{primitivesBefore-append, primitivesBefore-step, primitivesBefore-skip}
 use Rattle.flatten.proofs.Primitives.{portsBefore-step}
 use Rattle.flatten.proofs.WireTheorems.{accepted-primitives-bound, accepted-inputs-bound, accepted-outputs-bound}

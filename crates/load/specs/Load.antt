@@ -1,5 +1,4 @@
 -- A load: its answer and the tables it leaves. docs/SPECIFICATION.md, "Numbers given back", "Flattening" and "Rounds" (the state at load).
-use mathlib.Core.Path.{_≡_}
 use Prim.Native.Nat.{ℕ}
 use mathlib.Core.Bool.{cond, _||_}
 use mathlib.Core.List.{List, [], _∷_, map}
