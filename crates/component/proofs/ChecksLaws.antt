@@ -29,7 +29,7 @@ use Rattle.component.specs.declared.Stands.{Stands}
 use Rattle.component.specs.declared.Stands.the-variants.{Component as StandsComponent, Nothing}
 use Rattle.component.specs.declared.checks.Entry.{Entry}
 use Rattle.component.specs.declared.checks.Entry.the-variants.{Of, Nothing as NoEntry}
-use Rattle.component.specs.Record.{recordAt, fromOf, outputOf, toOf, inputOf, portOf, noRecord}
+use Rattle.component.specs.Record.{recordAt, toOf, inputOf, noRecord}
 use Rattle.component.specs.Reading.{idOf, ownerOf, formOf, apart, formBy, said, number, StandsAs, EntryAs}
 use Rattle.component.specs.Checks.{given}
 use Rattle.component.specs.Record.{inputsOf, outputsOf, isPrimitive, composite}

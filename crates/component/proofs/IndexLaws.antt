@@ -1,18 +1,20 @@
--- Laws of the tables of src/index.rt (specs/Index.antt): the cells of a table, one step of filling it, and what it
--- holds in the end.
+-- Laws of the index of src/index.rt (specs/Index.antt): the cells of a table, one step of filling it, and what it holds in the end; the
+-- same of the stretches; and the index from its parts.
 --   Filling    the invariant of the pass: the table and the counts say what the records before q say
+--   Widening   the same of the stretches
 -- Assumes nothing.
 use mathlib.Core.Path.{_≡_, refl, sym, ap, _∙_}
 use mathlib.Core.Bool.{Bool, true, false, cond, not, _&&_, false≢true}
 use mathlib.Core.List.{List, [], _∷_, _++_}
-use Prim.Native.Nat.{ℕ, _+_, _-_, _*_, _≤_, _<_}
-use native.Mathlib.Nat.{sub-zero, mul-suc, mul-comm, mul-le-mul-left}
+use Prim.Native.Nat.{ℕ, _+_, _-_, _*_, _/_, _≤_, _<_}
+use native.Mathlib.Nat.{sub-zero, zero-add, mul-suc, mul-comm, mul-le-mul-left}
 use native.Mathlib.Decide.{decLt}
 use native.Mathlib.Omega.{arith}
 use borrow.Author.Tests.{eq-eqb, ne-eqb, lt-ltb, le-ltb, eqb-true, eqb-false, not-true, not-false, ltb-true, ltb-false}
 use lib.Dec.{eqb, ltb}
-use lib.ListN.{length, getD, set, length-set, length-append, List·getD-eq-default}
-use lib.Seq.{getD-set-same, getD-set-other}
+use lib.ListN.{length, getD, set, take, drop, length-set, length-append, length-drop, List·getD-eq-default, List·getD-append}
+use lib.Seq.{getD-set-same, getD-set-other, getD-take, getD-append-add, length-take-le}
+use borrow.Rule.Slice.PartMut.{midOf, postOf, putMid, same-len-mid}
 use Rattle.lists.specs.Lists.{from, keep}
 use Rattle.lists.proofs.ListsLaws.{and-left, and-right, keep-snoc-here, keep-snoc-next, length-keep-le, getD-snoc-end}
 use Rattle.lists.proofs.ListsLaws.{getD-snoc-else}
@@ -25,12 +27,12 @@ use Rattle.component.specs.declared.Says.the-variants.{InputMap}
 use Rattle.component.specs.declared.Reading.{Reading}
 use Rattle.component.specs.declared.Reading.the-variants.{Taken, Refused}
 use Rattle.component.specs.Record.{recordAt}
-use Rattle.component.specs.Reading.{ownerOf, formOf, formBy, said}
+use Rattle.component.specs.Reading.{ownerOf, formOf, apart, formBy, said}
 use Rattle.component.proofs.RecordLaws.{no-input-map, refused-is, taken-form, taken-owner}
 use Rattle.component.proofs.Says.{the-type}
-use Rattle.component.specs.Index.{nthOwned, putWord, putCount, widenLow, widenHigh, IsTable, IsRange}
+use Rattle.component.specs.Index.{nthOwned, putWord, putCount, widenLow, widenHigh, IsTable, IsRange, IsIndex, stretchFirst, stretchEnd}
 use Rattle.component.specs.Record.{ownedAs}
-use Rattle.component.specs.Drawing.{outMap}
+use Rattle.component.specs.Drawing.{child, outMap}
 use Rattle.component.proofs.ScanLaws.{tested}
 
 -- One word more of a table is x.
@@ -70,62 +72,40 @@ module _ (t : Record) (form o : ℕ) (h : 1 ≤ form) (r : Reading) (e : said r 
   pub owned-taken : (m : ℕ) (x : Says) (b : Bool) → r ≡ Taken m x → b ≡ eqb (formBy x) form → (b && eqb m o) ≡ ownedAs form o t
   owned-taken m x b k d = rw (d, taken-form t r e m x k, taken-owner t r e m x k)
 
--- The step, by the tests made: of another kind; an owner past the table; no place left for it; put into its place.
-module _ (w form : ℕ) (r : Record) (q : ℕ) (counts t : List ℕ) (o f : ℕ) (eo : o ≡ ownerOf r) (ef : f ≡ formOf r) where
-  pub put-other : (f ≡ form → ⊥) → (t ≡ putWord w form r q counts t) × (counts ≡ putCount form r counts)
-  put-other h = (rw (← ef, ne-eqb f form h), rw (← ef, ne-eqb f form h))
-
-  pub put-far : f ≡ form → 256 ≤ o → (t ≡ putWord w form r q counts t) × (counts ≡ putCount form r counts)
-  put-far h g = (rw (← ef, eq-eqb f form h, ← eo, le-ltb o 256 g), rw (← ef, eq-eqb f form h, ← eo, le-ltb o 256 g))
-
-  pub put-full : f ≡ form → o < 256 → w ≤ getD counts o 0
-      → (t ≡ putWord w form r q counts t) × (set counts o (getD counts o 0 + 1) ≡ putCount form r counts)
-  put-full h g k = (
-    rw (← ef, eq-eqb f form h, ← eo, lt-ltb o 256 g, le-ltb (getD counts o 0) w k),
-    rw (← ef, eq-eqb f form h, ← eo, lt-ltb o 256 g),
-  )
-
-  pub put-placed : f ≡ form → o < 256 → getD counts o 0 < w
-      → (set t (w * o + getD counts o 0) q ≡ putWord w form r q counts t)
-      × (set counts o (getD counts o 0 + 1) ≡ putCount form r counts)
-  put-placed h g k = (
-    rw (← ef, eq-eqb f form h, ← eo, lt-ltb o 256 g, lt-ltb (getD counts o 0) w k),
-    rw (← ef, eq-eqb f form h, ← eo, lt-ltb o 256 g),
-  )
-
--- The same of a record that is read: refused; then taken apart, b saying whether it is of the kind.
+-- The step, by the tests made: the record is refused; of another kind; of an owner past the table; no place is left for it; it is put
+-- into its place. b says whether it is of the kind.
 module _ (w form : ℕ) (r : Reading) (q : ℕ) (counts t : List ℕ) where
   pub put-refused : {k : ℕ} → 1 ≤ form → r ≡ Refused k
       → (t ≡ putWord w form (said r) q counts t) × (counts ≡ putCount form (said r) counts)
   put-refused h k =
-      put-other w form (said r) q counts t (ownerOf (said r)) (formOf (said r)) refl refl
-      (λ z. omega (arith, ap formOf (refused-is (said r) r refl k)))
+      let e = ne-eqb (formOf (said r)) form (λ z. omega (arith, ap formOf (refused-is (said r) r refl k))) in (rw e, rw e)
 
   module _ (o : ℕ) (x : Says) (h : r ≡ Taken o x) (b : Bool) (d : b ≡ eqb (formBy x) form) where
-    eo : o ≡ ownerOf (said r)
-    eo = sym (taken-owner (said r) r refl o x h)
+    put-owner : ownerOf (said r) ≡ o
+    put-owner = taken-owner (said r) r refl o x h
 
-    ef : formBy x ≡ formOf (said r)
-    ef = sym (taken-form (said r) r refl o x h)
-
-    of-kind : not b ≡ false → formBy x ≡ form
-    of-kind k = eqb-true (formBy x) form (sym d ∙ not-false b k)
+    put-kind : eqb (formOf (said r)) form ≡ b
+    put-kind = ap (λ (f : ℕ). eqb f form) (taken-form (said r) r refl o x h) ∙ sym d
 
     pub taken-other : not b ≡ true → (t ≡ putWord w form (said r) q counts t) × (counts ≡ putCount form (said r) counts)
-    taken-other k = put-other w form (said r) q counts t o (formBy x) eo ef (eqb-false (formBy x) form (sym d ∙ not-true b k))
+    taken-other k = let e = put-kind ∙ not-true b k in (rw e, rw e)
 
     module _ (k : not b ≡ false) where
       pub taken-far : 256 ≤ o → (t ≡ putWord w form (said r) q counts t) × (counts ≡ putCount form (said r) counts)
-      taken-far g = put-far w form (said r) q counts t o (formBy x) eo ef (of-kind k) g
+      taken-far g = let e = put-kind ∙ not-false b k in (rw (e, put-owner, le-ltb o 256 g), rw (e, put-owner, le-ltb o 256 g))
 
       pub taken-full : o < 256 → w ≤ getD counts o 0
           → (t ≡ putWord w form (said r) q counts t) × (set counts o (getD counts o 0 + 1) ≡ putCount form (said r) counts)
-      taken-full g l = put-full w form (said r) q counts t o (formBy x) eo ef (of-kind k) g l
+      taken-full g l =
+          let e = put-kind ∙ not-false b k in
+          (rw (e, put-owner, lt-ltb o 256 g, le-ltb (getD counts o 0) w l), rw (e, put-owner, lt-ltb o 256 g))
 
       pub taken-placed : o < 256 → getD counts o 0 < w
           → (set t (w * o + getD counts o 0) q ≡ putWord w form (said r) q counts t)
           × (set counts o (getD counts o 0 + 1) ≡ putCount form (said r) counts)
-      taken-placed g l = put-placed w form (said r) q counts t o (formBy x) eo ef (of-kind k) g l
+      taken-placed g l =
+          let e = put-kind ∙ not-false b k in
+          (rw (e, put-owner, lt-ltb o 256 g, lt-ltb (getD counts o 0) w l), rw (e, put-owner, lt-ltb o 256 g))
 
 both-true : (a b : Bool) → a ≡ true → b ≡ true → (a && b) ≡ true
 both-true a b e d = rw (e, d)
@@ -333,110 +313,108 @@ outMap-table s n t h = record {
   word = λ c i a b. h .word c i a b ∙ outMap-nth s n c i;
 }
 
--- A step of the ranges, by the tests made: no input map; an owner past the tables; one that is not the first; the
--- first.
-module _ (r : Record) (q : ℕ) (lo hi : List ℕ) (c f : ℕ) (ec : c ≡ ownerOf r) (ef : f ≡ formOf r) where
-  pub widen-other : (f ≡ 3 → ⊥) → (lo ≡ widenLow r q lo) × (hi ≡ widenHigh r q hi)
-  widen-other h = (rw (← ef, ne-eqb f 3 h), rw (← ef, ne-eqb f 3 h))
+-- A step of the stretches, by the tests made: the record is refused; no input map; of an owner past the index; not the first of its
+-- owner; the first.
+module _ (r : Reading) (q : ℕ) (t : List ℕ) where
+  abbrev widened : List ℕ
+  widened = widenLow (said r) q (widenHigh (said r) q t)
 
-  pub widen-far : f ≡ 3 → 256 ≤ c → (lo ≡ widenLow r q lo) × (hi ≡ widenHigh r q hi)
-  widen-far h g = (rw (← ef, eq-eqb f 3 h, ← ec, le-ltb c 256 g), rw (← ef, eq-eqb f 3 h, ← ec, le-ltb c 256 g))
-
-  pub widen-later : f ≡ 3 → c < 256 → getD lo c 0 ≤ q → (lo ≡ widenLow r q lo) × (set hi c (q + 1) ≡ widenHigh r q hi)
-  widen-later h g k = (
-    rw (← ef, eq-eqb f 3 h, ← ec, lt-ltb c 256 g, le-ltb q (getD lo c 0) k),
-    rw (← ef, eq-eqb f 3 h, ← ec, lt-ltb c 256 g),
-  )
-
-  pub widen-first : f ≡ 3 → c < 256 → q < getD lo c 0
-      → (set lo c q ≡ widenLow r q lo) × (set hi c (q + 1) ≡ widenHigh r q hi)
-  widen-first h g k = (
-    rw (← ef, eq-eqb f 3 h, ← ec, lt-ltb c 256 g, lt-ltb q (getD lo c 0) k),
-    rw (← ef, eq-eqb f 3 h, ← ec, lt-ltb c 256 g),
-  )
-
--- The same of a record that is read: refused; no input map; then an input map.
-module _ (r : Reading) (q : ℕ) (lo hi : List ℕ) where
-  pub widen-refused : {k : ℕ} → r ≡ Refused k → (lo ≡ widenLow (said r) q lo) × (hi ≡ widenHigh (said r) q hi)
-  widen-refused k =
-      widen-other (said r) q lo hi (ownerOf (said r)) (formOf (said r)) refl refl
-      (λ z. omega (arith, ap formOf (refused-is (said r) r refl k)))
+  pub widen-refused : {k : ℕ} → r ≡ Refused k → t ≡ widened
+  widen-refused k = rw (ne-eqb (formOf (said r)) 3 (λ z. omega (arith, ap formOf (refused-is (said r) r refl k))))
 
   module _ (o : ℕ) (x : Says) (h : r ≡ Taken o x) where
-    io : o ≡ ownerOf (said r)
-    io = sym (taken-owner (said r) r refl o x h)
+    pub widen-other : OneOf (0 ∷ 1 ∷ 3 ∷ []) (tagOf the-type x) → t ≡ widened
+    widen-other k = rw (ne-eqb (formOf (said r)) 3 (λ z. no-input-map x k (sym (taken-form (said r) r refl o x h) ∙ z)))
 
-    kf : formBy x ≡ formOf (said r)
-    kf = sym (taken-form (said r) r refl o x h)
+    module _ {a d : ℕ} {c : ChildNo} (k : x ≡ InputMap a c d) where
+      map-is : said r ≡ apart o (InputMap a c d)
+      map-is = ap said h ∙ ap (apart o) k
 
-    pub map-other : OneOf (0 ∷ 1 ∷ 3 ∷ []) (tagOf the-type x) → (lo ≡ widenLow (said r) q lo) × (hi ≡ widenHigh (said r) q hi)
-    map-other k = widen-other (said r) q lo hi o (formBy x) io kf (no-input-map x k)
+      pub widen-far : 256 ≤ o → t ≡ widened
+      widen-far g = rw (map-is, le-ltb o 256 g)
 
-    module _ {a d : ℕ} {t : ChildNo} (k : x ≡ InputMap a t d) where
-      pub map-far : 256 ≤ o → (lo ≡ widenLow (said r) q lo) × (hi ≡ widenHigh (said r) q hi)
-      map-far g = widen-far (said r) q lo hi o (formBy x) io kf (ap formBy k) g
+      pub widen-later : o < 256 → getD (set t (256 + o) (q + 1)) o 0 ≤ q → set t (256 + o) (q + 1) ≡ widened
+      widen-later g l = rw (map-is, lt-ltb o 256 g, le-ltb q (getD (set t (256 + o) (q + 1)) o 0) l)
 
-      pub map-later : o < 256 → getD lo o 0 ≤ q → (lo ≡ widenLow (said r) q lo) × (set hi o (q + 1) ≡ widenHigh (said r) q hi)
-      map-later g l = widen-later (said r) q lo hi o (formBy x) io kf (ap formBy k) g l
+      pub widen-first : o < 256 → q < getD (set t (256 + o) (q + 1)) o 0 → set (set t (256 + o) (q + 1)) o q ≡ widened
+      widen-first g l = rw (map-is, lt-ltb o 256 g, lt-ltb q (getD (set t (256 + o) (q + 1)) o 0) l)
 
-      pub map-first : o < 256 → q < getD lo o 0 → (set lo o q ≡ widenLow (said r) q lo) × (set hi o (q + 1) ≡ widenHigh (said r) q hi)
-      map-first g l = widen-first (said r) q lo hi o (formBy x) io kf (ap formBy k) g l
+-- What a step does to the stretch of composite c: its low end never rises, its high end never falls, and they take in a map of c's own;
+-- each end is kept by the step of the other.
+abbrev mapping : Record → Bool
+mapping r = eqb (formOf r) 3 && ltb (ownerOf r) 256
 
--- What a step does to the range of composite c: its low end never rises, its high end never falls, and they take in a
--- map of c's own.
-module _ (r : Record) (q : ℕ) (t : List ℕ) (size : length t ≡ 256) (c : ℕ) (g : c < 256) where
-  abbrev mapping : Bool
-  mapping = eqb (formOf r) 3 && ltb (ownerOf r) 256
-
-  set-at : (m x : ℕ) → getD (set t m x) c 0 ≡ cond (eqb c m) x (getD t c 0)
-  set-at m x = by-place (eqb c m) refl
+module _ (r : Record) (q : ℕ) (t : List ℕ) (size : length t ≡ 512) (c : ℕ) (g : c < 256) where
+  set-at : (b m x : ℕ) → b ≤ 256 → getD (set t (b + m) x) (b + c) 0 ≡ cond (eqb c m) x (getD t (b + c) 0)
+  set-at b m x l = by-place (eqb c m) refl
     where
-      by-place : (b : Bool) → eqb c m ≡ b → getD (set t m x) c 0 ≡ cond b x (getD t c 0)
-      by-place true e = let z : c ≡ m = eqb-true c m e in rw (← z) (getD-set-same t c x 0 (omega arith))
-      by-place false e = getD-set-other t m c x 0 (eqb-false c m e)
+      by-place : (d : Bool) → eqb c m ≡ d → getD (set t (b + m) x) (b + c) 0 ≡ cond d x (getD t (b + c) 0)
+      by-place true e = let z : c ≡ m = eqb-true c m e in rw (← z) (getD-set-same t (b + c) x 0 (omega arith))
+      by-place false e = getD-set-other t (b + m) (b + c) x 0 (λ z. eqb-false c m e (omega arith))
+
+  set-low : (m x : ℕ) → getD (set t m x) c 0 ≡ cond (eqb c m) x (getD t c 0)
+  set-low m x = simp zero-add at (set-at 0 m x (omega arith))
 
   widenLow-le : getD (widenLow r q t) c 0 ≤ getD t c 0
-  widenLow-le = by-test (mapping && ltb q (getD t (ownerOf r) 0)) refl
+  widenLow-le = by-test (mapping r && ltb q (getD t (ownerOf r) 0)) refl
     where
       by-place : (b : Bool) → eqb c (ownerOf r) ≡ b → q < getD t (ownerOf r) 0 → cond b q (getD t c 0) ≤ getD t c 0
       by-place true e l = omega (arith, ap (λ (x : ℕ). getD t x 0) (eqb-true c (ownerOf r) e))
       by-place false e l = omega arith
 
-      by-test : (b : Bool) → (mapping && ltb q (getD t (ownerOf r) 0)) ≡ b
+      by-test : (b : Bool) → (mapping r && ltb q (getD t (ownerOf r) 0)) ≡ b
           → getD (cond b (set t (ownerOf r) q) t) c 0 ≤ getD t c 0
       by-test true e =
-          let d : ltb q (getD t (ownerOf r) 0) ≡ true = and-right mapping (ltb q (getD t (ownerOf r) 0)) e in
+          let d : ltb q (getD t (ownerOf r) 0) ≡ true = and-right (mapping r) (ltb q (getD t (ownerOf r) 0)) e in
           let l : q < getD t (ownerOf r) 0 = ltb-true q (getD t (ownerOf r) 0) d in
-          rw (set-at (ownerOf r) q) (by-place (eqb c (ownerOf r)) refl l)
+          rw (set-low (ownerOf r) q) (by-place (eqb c (ownerOf r)) refl l)
       by-test false e = omega arith
 
-  widenHigh-le : getD t c 0 ≤ q → getD (widenHigh r q t) c 0 ≤ q + 1
-  widenHigh-le h = by-test mapping
+  widenLow-high : getD (widenLow r q t) (256 + c) 0 ≡ getD t (256 + c) 0
+  widenLow-high = by-test (mapping r && ltb q (getD t (ownerOf r) 0)) refl
     where
-      by-place : (b : Bool) → cond b (q + 1) (getD t c 0) ≤ q + 1
+      by-test : (b : Bool) → (mapping r && ltb q (getD t (ownerOf r) 0)) ≡ b
+          → getD (cond b (set t (ownerOf r) q) t) (256 + c) 0 ≡ getD t (256 + c) 0
+      by-test true e =
+          let d : ltb (ownerOf r) 256 ≡ true =
+          and-right (eqb (formOf r) 3) (ltb (ownerOf r) 256) (and-left (mapping r) (ltb q (getD t (ownerOf r) 0)) e) in
+          getD-set-other t (ownerOf r) (256 + c) q 0 (λ z. omega (arith, ltb-true (ownerOf r) 256 d))
+      by-test false e = refl
+
+  widenHigh-low : getD (widenHigh r q t) c 0 ≡ getD t c 0
+  widenHigh-low = by-test (mapping r)
+    where
+      by-test : (b : Bool) → getD (cond b (set t (256 + ownerOf r) (q + 1)) t) c 0 ≡ getD t c 0
+      by-test true = getD-set-other t (256 + ownerOf r) c (q + 1) 0 (λ z. omega arith)
+      by-test false = refl
+
+  widenHigh-le : getD t (256 + c) 0 ≤ q → getD (widenHigh r q t) (256 + c) 0 ≤ q + 1
+  widenHigh-le h = by-test (mapping r)
+    where
+      by-place : (b : Bool) → cond b (q + 1) (getD t (256 + c) 0) ≤ q + 1
       by-place true = omega arith
       by-place false = omega arith
 
-      by-test : (b : Bool) → getD (cond b (set t (ownerOf r) (q + 1)) t) c 0 ≤ q + 1
-      by-test true = rw (set-at (ownerOf r) (q + 1)) (by-place (eqb c (ownerOf r)))
+      by-test : (b : Bool) → getD (cond b (set t (256 + ownerOf r) (q + 1)) t) (256 + c) 0 ≤ q + 1
+      by-test true = rw (set-at 256 (ownerOf r) (q + 1) (omega arith)) (by-place (eqb c (ownerOf r)))
       by-test false = omega arith
 
-  widenHigh-ge : getD t c 0 ≤ q → getD t c 0 ≤ getD (widenHigh r q t) c 0
-  widenHigh-ge h = by-test mapping
+  widenHigh-ge : getD t (256 + c) 0 ≤ q → getD t (256 + c) 0 ≤ getD (widenHigh r q t) (256 + c) 0
+  widenHigh-ge h = by-test (mapping r)
     where
-      by-place : (b : Bool) → getD t c 0 ≤ cond b (q + 1) (getD t c 0)
+      by-place : (b : Bool) → getD t (256 + c) 0 ≤ cond b (q + 1) (getD t (256 + c) 0)
       by-place true = omega arith
       by-place false = omega arith
 
-      by-test : (b : Bool) → getD t c 0 ≤ getD (cond b (set t (ownerOf r) (q + 1)) t) c 0
-      by-test true = rw (set-at (ownerOf r) (q + 1)) (by-place (eqb c (ownerOf r)))
+      by-test : (b : Bool) → getD t (256 + c) 0 ≤ getD (cond b (set t (256 + ownerOf r) (q + 1)) t) (256 + c) 0
+      by-test true = rw (set-at 256 (ownerOf r) (q + 1) (omega arith)) (by-place (eqb c (ownerOf r)))
       by-test false = omega arith
 
   module _ (e : ownedAs 3 c r ≡ true) where
     mapper-is : ownerOf r ≡ c
     mapper-is = eqb-true (ownerOf r) c (and-right (eqb (formOf r) 3) (eqb (ownerOf r) c) e)
 
-    mapping-is : mapping ≡ true
+    mapping-is : mapping r ≡ true
     mapping-is =
         both-true (eqb (formOf r) 3) (ltb (ownerOf r) 256) (and-left (eqb (formOf r) 3) (eqb (ownerOf r) c) e)
         (lt-ltb (ownerOf r) 256 (omega (arith, mapper-is)))
@@ -448,81 +426,163 @@ module _ (r : Record) (q : ℕ) (t : List ℕ) (size : length t ≡ 256) (c : �
         by-test true d = rw (getD-set-same t c q 0 (omega arith)) (omega arith)
         by-test false d = ltb-false q (getD t c 0) d
 
-    widenHigh-own : q < getD (widenHigh r q t) c 0
-    widenHigh-own = rw (mapping-is, mapper-is, getD-set-same t c (q + 1) 0 (omega arith)) (omega arith)
+    widenHigh-own : q < getD (widenHigh r q t) (256 + c) 0
+    widenHigh-own = rw (mapping-is, mapper-is, getD-set-same t (256 + c) (q + 1) 0 (omega arith)) (omega arith)
 
-  widenLow-length : length (widenLow r q t) ≡ 256
-  widenLow-length = by-test (mapping && ltb q (getD t (ownerOf r) 0)) ∙ size
-    where
-      by-test : (b : Bool) → length (cond b (set t (ownerOf r) q) t) ≡ length t
-      by-test true = length-set t (ownerOf r) q
-      by-test false = refl
+widen-length : (b : Bool) (t : List ℕ) (i x : ℕ) → length (cond b (set t i x) t) ≡ length t
+widen-length true t i x = length-set t i x
+widen-length false t i x = refl
 
-  widenHigh-length : length (widenHigh r q t) ≡ 256
-  widenHigh-length = by-test mapping ∙ size
-    where
-      by-test : (b : Bool) → length (cond b (set t (ownerOf r) (q + 1)) t) ≡ length t
-      by-test true = length-set t (ownerOf r) (q + 1)
-      by-test false = refl
+midOf-length : (a k : ℕ) (xs : List ℕ) → a + k ≤ length xs → length (midOf a k xs) ≡ k
+midOf-length a k xs h = length-take-le k (drop a xs) (omega (arith, length-drop a xs))
 
--- The invariant of the pass over the ranges: they hold the input maps before q.
-pub record Widening (s : List ℕ) (n q : ℕ) (lo hi : List ℕ) : Type 0 where
-  pub lo-size : length lo ≡ 256
-  pub hi-size : length hi ≡ 256
+-- A table whose k words from a on are ys: one of them; one before them; its length.
+module _ (a k : ℕ) (xs ys : List ℕ) where
+  pub putMid-in : (j : ℕ) → a ≤ length xs → j < length ys → getD (putMid a k xs ys) (a + j) 0 ≡ getD ys j 0
+  putMid-in j h l =
+      let z : length (take a xs) ≡ a = length-take-le a xs h in
+      ap (λ (m : ℕ). getD (putMid a k xs ys) (m + j) 0) (sym z) ∙ getD-append-add (take a xs) (ys ++ postOf a k xs) j 0
+      ∙ List·getD-append ys (postOf a k xs) 0 j l
+
+  pub putMid-before : (i : ℕ) → a ≤ length xs → i < a → getD (putMid a k xs ys) i 0 ≡ getD xs i 0
+  putMid-before i h l =
+      let z : length (take a xs) ≡ a = length-take-le a xs h in
+      List·getD-append (take a xs) (ys ++ postOf a k xs) 0 i (omega arith) ∙ getD-take a xs i 0 l
+
+  pub putMid-length : a + k ≤ length xs → length ys ≡ k → length (putMid a k xs ys) ≡ length xs
+  putMid-length h e = same-len-mid a k xs ys (e ∙ sym (midOf-length a k xs h))
+
+-- The invariant of the pass over the input maps: the stretches hold those before q.
+pub record Widening (s : List ℕ) (n q : ℕ) (t : List ℕ) : Type 0 where
+  pub size : length t ≡ 512
   pub reached : q ≤ n
-  pub within : (c : ℕ) → c < 256 → getD hi c 0 ≤ q
-  pub starts : (p c : ℕ) → p < q → c < 256 → ownedAs 3 c (recordAt s p) ≡ true → getD lo c 0 ≤ p
-  pub ends : (p c : ℕ) → p < q → c < 256 → ownedAs 3 c (recordAt s p) ≡ true → p < getD hi c 0
+  pub within : (c : ℕ) → c < 256 → getD t (256 + c) 0 ≤ q
+  pub starts : (p c : ℕ) → p < q → c < 256 → ownedAs 3 c (recordAt s p) ≡ true → getD t c 0 ≤ p
+  pub ends : (p c : ℕ) → p < q → c < 256 → ownedAs 3 c (recordAt s p) ≡ true → p < getD t (256 + c) 0
 
 module _ (s : List ℕ) (n : ℕ) where
-  pub widening-start : (lo hi : List ℕ) → length lo ≡ 256 → length hi ≡ 256
-      → ((c : ℕ) → c < length hi → getD hi c 0 ≡ 0) → Widening s n 0 lo hi
-  widening-start lo hi e d h = record {
-    lo-size = e;
-    hi-size = d;
+  pub widening-start : (t : List ℕ) → length t ≡ 512 → ((c : ℕ) → c < 256 → getD t (256 + c) 0 ≡ 0) → Widening s n 0 t
+  widening-start t e h = record {
+    size = e;
     reached = omega arith;
-    within = λ c g. omega (arith, h c (omega arith));
+    within = λ c g. omega (arith, h c g);
     starts = λ p c l g o. absurd (omega arith);
     ends = λ p c l g o. absurd (omega arith);
   }
 
-  pub widening-end : (q : ℕ) (lo hi : List ℕ) → Widening s n q lo hi → n ≤ q → IsRange s n lo hi
-  widening-end q lo hi h e = record {
-    lo-size = h .lo-size;
-    hi-size = h .hi-size;
+  -- both parts cleared, the high ends to 0
+  pub widening-cleared : (xs ls hs : List ℕ) → length xs ≡ 512 → length ls ≡ length (midOf 0 256 xs)
+      → length hs ≡ length (midOf 256 256 (putMid 0 256 xs ls)) → ((c : ℕ) → c < length hs → getD hs c 0 ≡ 0)
+      → Widening s n 0 (putMid 256 256 (putMid 0 256 xs ls) hs)
+  widening-cleared xs ls hs h el eh e =
+      let ml : length ls ≡ 256 = el ∙ midOf-length 0 256 xs (omega arith) in
+      let h1 : length (putMid 0 256 xs ls) ≡ 512 = putMid-length 0 256 xs ls (omega arith) ml ∙ h in
+      let mh : length hs ≡ 256 = eh ∙ midOf-length 256 256 (putMid 0 256 xs ls) (omega arith) in
+      widening-start (putMid 256 256 (putMid 0 256 xs ls) hs) (putMid-length 256 256 (putMid 0 256 xs ls) hs (omega arith) mh ∙ h1)
+      (λ c l. putMid-in 256 256 (putMid 0 256 xs ls) hs c (omega arith) (omega arith) ∙ e c (omega arith))
+
+  pub widening-end : (q : ℕ) (t : List ℕ) → Widening s n q t → n ≤ q → IsRange s n t
+  widening-end q t h e = record {
+    size = h .size;
     within = λ c g. omega (arith, h .within c g, h .reached);
     starts = λ p c l g o. h .starts p c (omega arith) g o;
     ends = λ p c l g o. h .ends p c (omega arith) g o;
   }
 
-  module _ (q : ℕ) (lo hi : List ℕ) (h : Widening s n q lo hi) (r : Record) (er : r ≡ recordAt s q) where
+  module _ (q : ℕ) (t : List ℕ) (h : Widening s n q t) (r : Record) (er : r ≡ recordAt s q) where
+    high-size : length (widenHigh r q t) ≡ 512
+    high-size = widen-length (mapping r) t (256 + ownerOf r) (q + 1) ∙ h .size
+
     last-own : (p c : ℕ) → p < q + 1 → (p < q → ⊥) → ownedAs 3 c (recordAt s p) ≡ true → ownedAs 3 c r ≡ true
     last-own p c l k o =
         let z : q ≡ p = omega arith in
         ap (ownedAs 3 c) (er ∙ ap (recordAt s) z) ∙ o
 
-    step-least : (p c : ℕ) → p < q + 1 → c < 256 → ownedAs 3 c (recordAt s p) ≡ true → getD (widenLow r q lo) c 0 ≤ p
+    step-least : (p c : ℕ) → p < q + 1 → c < 256 → ownedAs 3 c (recordAt s p) ≡ true
+        → getD (widenLow r q (widenHigh r q t)) c 0 ≤ p
     step-least p c l g o = by-place (decLt p q)
       where
-        by-place : Dec (p < q) → getD (widenLow r q lo) c 0 ≤ p
-        by-place (yes a) = omega (arith, widenLow-le r q lo (h .lo-size) c g, h .starts p c a g o)
-        by-place (no a) = omega (arith, widenLow-own r q lo (h .lo-size) c g (last-own p c l a o))
+        by-place : Dec (p < q) → getD (widenLow r q (widenHigh r q t)) c 0 ≤ p
+        by-place (yes a) =
+            omega (arith, widenLow-le r q (widenHigh r q t) high-size c g, widenHigh-low r q t (h .size) c g, h .starts p c a g o)
+        by-place (no a) = omega (arith, widenLow-own r q (widenHigh r q t) high-size c g (last-own p c l a o))
 
-    step-most : (p c : ℕ) → p < q + 1 → c < 256 → ownedAs 3 c (recordAt s p) ≡ true → p < getD (widenHigh r q hi) c 0
-    step-most p c l g o = by-place (decLt p q)
+    step-most : (p c : ℕ) → p < q + 1 → c < 256 → ownedAs 3 c (recordAt s p) ≡ true
+        → p < getD (widenLow r q (widenHigh r q t)) (256 + c) 0
+    step-most p c l g o = rw (widenLow-high r q (widenHigh r q t) high-size c g) (by-place (decLt p q))
       where
-        by-place : Dec (p < q) → p < getD (widenHigh r q hi) c 0
-        by-place (yes a) = omega (arith, widenHigh-ge r q hi (h .hi-size) c g (h .within c g), h .ends p c a g o)
-        by-place (no a) = omega (arith, widenHigh-own r q hi (h .hi-size) c g (last-own p c l a o))
+        by-place : Dec (p < q) → p < getD (widenHigh r q t) (256 + c) 0
+        by-place (yes a) = omega (arith, widenHigh-ge r q t (h .size) c g (h .within c g), h .ends p c a g o)
+        by-place (no a) = omega (arith, widenHigh-own r q t (h .size) c g (last-own p c l a o))
 
-    pub widening-step : (lo' hi' : List ℕ) → q < n → lo' ≡ widenLow r q lo → hi' ≡ widenHigh r q hi
-        → Widening s n (q + 1) lo' hi'
-    widening-step lo' hi' l el eh =
-        rw (el, eh) (record {
-          lo-size = widenLow-length r q lo (h .lo-size) 0 (omega arith);
-          hi-size = widenHigh-length r q hi (h .hi-size) 0 (omega arith);
+    pub widening-step : (t' : List ℕ) → q < n → t' ≡ widenLow r q (widenHigh r q t) → Widening s n (q + 1) t'
+    widening-step t' l e =
+        rw e (record {
+          size = widen-length (mapping r && ltb q (getD (widenHigh r q t) (ownerOf r) 0)) (widenHigh r q t) (ownerOf r) q ∙ high-size;
           reached = omega arith;
-          within = λ c g. widenHigh-le r q hi (h .hi-size) c g (h .within c g);
+          within = λ c g. rw (widenLow-high r q (widenHigh r q t) high-size c g) (widenHigh-le r q t (h .size) c g (h .within c g));
           starts = step-least;
           ends = step-most;
         })
+
+-- The index from its three parts.
+module _ (s xs cs os es : List ℕ) (h : length xs ≡ 82432)
+    (hc : IsTable 256 (child (recordAt s) (length s / 24)) cs) (ho : IsTable 64 (outMap (recordAt s) (length s / 24)) os)
+    (he : IsRange s (length s / 24) es) where
+  abbrev index1 : List ℕ
+  index1 = putMid 0 65536 xs cs
+
+  abbrev index2 : List ℕ
+  index2 = putMid 65536 16384 index1 os
+
+  abbrev index3 : List ℕ
+  index3 = putMid 81920 512 index2 es
+
+  index1-size : length index1 ≡ 82432
+  index1-size = putMid-length 0 65536 xs cs (omega arith) (hc .size) ∙ h
+
+  index2-size : length index2 ≡ 82432
+  index2-size = putMid-length 65536 16384 index1 os (omega (arith, index1-size)) (ho .size) ∙ index1-size
+
+  index-child : (o k : ℕ) → o < 256 → k < 256 → getD index3 (256 * o + k) 0 ≡ child (recordAt s) (length s / 24) o k
+  index-child o k a b =
+      putMid-before 81920 512 index2 es (256 * o + k) (omega (arith, index2-size)) (omega arith)
+      ∙ putMid-before 65536 16384 index1 os (256 * o + k) (omega (arith, index1-size)) (omega arith)
+      ∙ List·getD-append cs (postOf 0 65536 xs) 0 (256 * o + k) (omega (arith, hc .size)) ∙ hc .word o k a b
+
+  index-out : (c i : ℕ) → c < 256 → i < 64 → getD index3 (65536 + 64 * c + i) 0 ≡ outMap (recordAt s) (length s / 24) c i
+  index-out c i a b =
+      let z : 65536 + 64 * c + i ≡ 65536 + (64 * c + i) = omega arith in
+      putMid-before 81920 512 index2 es (65536 + 64 * c + i) (omega (arith, index2-size)) (omega arith)
+      ∙ ap (λ (j : ℕ). getD index2 j 0) z
+      ∙ putMid-in 65536 16384 index1 os (64 * c + i) (omega (arith, index1-size)) (omega (arith, ho .size)) ∙ ho .word c i a b
+
+  index-low : (c : ℕ) → c < 512 → getD index3 (81920 + c) 0 ≡ getD es c 0
+  index-low c l = putMid-in 81920 512 index2 es c (omega (arith, index2-size)) (omega (arith, he .size))
+
+  index-high : (c : ℕ) → c < 256 → getD index3 (82176 + c) 0 ≡ getD es (256 + c) 0
+  index-high c l =
+      let z : 82176 + c ≡ 81920 + (256 + c) = omega arith in
+      ap (λ (j : ℕ). getD index3 j 0) z ∙ index-low (256 + c) (omega arith)
+
+  pub index-filled : IsIndex s index3
+  index-filled = record {
+    size = putMid-length 81920 512 index2 es (omega (arith, index2-size)) (he .size) ∙ index2-size;
+    children = index-child;
+    outs = index-out;
+    within = λ c. by-end c (decLt c 256);
+    starts = λ q c l o. by-start q c (decLt c 256) l o;
+    ends = λ q c l o. by-last q c (decLt c 256) l o;
+  }
+    where
+      by-end : (c : ℕ) → Dec (c < 256) → stretchEnd index3 (length s / 24) c ≤ length s / 24
+      by-end c (yes l) = rw (lt-ltb c 256 l) (omega (arith, index-high c l, he .within c l))
+      by-end c (no l) = rw (le-ltb c 256 (omega arith)) (omega arith)
+
+      by-start : (q c : ℕ) → Dec (c < 256) → q < length s / 24 → ownedAs 3 c (recordAt s q) ≡ true → stretchFirst index3 c ≤ q
+      by-start q c (yes l) k o = rw (lt-ltb c 256 l) (omega (arith, index-low c (omega arith), he .starts q c k l o))
+      by-start q c (no l) k o = rw (le-ltb c 256 (omega arith)) (omega arith)
+
+      by-last : (q c : ℕ) → Dec (c < 256) → q < length s / 24 → ownedAs 3 c (recordAt s q) ≡ true → q < stretchEnd index3 (length s / 24) c
+      by-last q c (yes l) k o = rw (lt-ltb c 256 l) (omega (arith, index-high c l, he .ends q c k l o))
+      by-last q c (no l) k o = rw (le-ltb c 256 (omega arith)) k

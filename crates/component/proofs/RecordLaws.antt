@@ -1,13 +1,13 @@
 -- Laws of a record taken apart: what the else of a `let .. else` knows, by the variant that its pattern names, and what a pattern that fits knows.
 -- Assumes nothing.
 use mathlib.Core.Path.{_≡_, refl, sym, ap, _∙_}
-use mathlib.Core.Bool.{Bool, true, false, cond, not, _&&_, _||_}
+use mathlib.Core.Bool.{Bool, true, false, not, _&&_, _||_}
 use mathlib.Core.Logic.{_⊎_, inl, inr, ⊎-elim}
 use mathlib.Core.List.{List, [], _∷_}
 use Prim.Native.Nat.{ℕ, _+_, _-_, _*_, _/_, _≤_, _<_}
 use native.Mathlib.Omega.{arith}
-use borrow.Author.Tests.{eqb-true, eqb-false, eq-eqb, ne-eqb, lt-ltb, le-ltb, lt-leb, le-leb, not-true, not-false}
-use lib.Dec.{eqb, leb, ltb}
+use borrow.Author.Tests.{eqb-true, ne-eqb, lt-ltb, le-ltb, not-true, not-false}
+use lib.Dec.{eqb}
 use lib.ListN.{length, getD, take, drop}
 use types.Run.{OneOf}
 use denote.Enum.Declared.{tagOf}
@@ -19,7 +19,6 @@ use Rattle.component.specs.Checks.{given}
 use Rattle.component.specs.Record.{isPrimitive}
 use Rattle.primitive.specs.Kinds.{primitive}
 use Rattle.component.specs.declared.Record.{Record}
-use Rattle.component.specs.declared.ChildNo.{ChildNo}
 use Rattle.primitive.specs.declared.Id.{Id}
 use Rattle.component.specs.declared.Says.{Says}
 use Rattle.component.specs.declared.Says.the-variants.{Component, Connection, InputMap, OutputMap}

@@ -5,13 +5,13 @@ ghost use Prim.Native.Nat.{_≤_, _<_};
 ghost use lib.ListN.{length};
 ghost use lib.Dec.{eqb, leb, ltb};
 ghost use Rattle.lists.specs.Lists.{from, any};
-ghost use Rattle.component.specs.Record.{recordAt};
+ghost use Rattle.component.specs.Record.{recordAt, recordCount};
 ghost use Rattle.component.specs.Reading.{formBy};
-ghost use Rattle.component.specs.Index.{IsTable};
+ghost use Rattle.component.specs.Index.{IsIndex};
 ghost use Rattle.component.specs.Checks.{given, failsBy};
 ghost use Rattle.component.specs.Record.{inputsOf, outputsOf, isPrimitive, composite, hasId, enters};
 ghost use Rattle.component.specs.Reading.{EntryAs};
-ghost use Rattle.component.specs.Drawing.{child, deepest, holds, deeper, outMaps, inputsBefore, outputsBefore};
+ghost use Rattle.component.specs.Drawing.{deepest, holds, deeper, outMaps, inputsBefore, outputsBefore};
 ghost use Rattle.component.specs.Drawing.{fails3, fails4, fails5, fails6, fails7, fails8, fails9};
 ghost use Rattle.component.specs.Drawing.{fails10, fails11, fails12, fails13, fails14};
 use crate::ChildNo;
@@ -330,9 +330,9 @@ fn has_output(file: &[u8], c: usize, i: u16) -> bool
 }
 
 // 12: a child or port in kinds 2 to 4 does not exist.
-fn check12(file: &[u8], n: usize, children: &[u16], p: usize) -> u32
-    requires { ⌜ IsTable 256 (child (recordAt (now file)) n) (now children) ⌝ }
-    ensures { λ r. ⌜ r ≡ given 12 (fails12 (recordAt (now (file .entry))) n p) ⌝ }
+fn check12(file: &[u8], index: &[u16], p: usize) -> u32
+    requires { ⌜ IsIndex (now file) (now index) ⌝ }
+    ensures { λ r. ⌜ r ≡ given 12 (fails12 (recordAt (now (file .entry))) (recordCount (now (file .entry))) p) ⌝ }
 {
     let Reading::Taken { owner, says } = record_at(file, p) else {
         return 0;
@@ -346,16 +346,16 @@ fn check12(file: &[u8], n: usize, children: &[u16], p: usize) -> u32
             to,
             input,
         } => {
-            let from_there = has_output(file, child_of(file, n, children, o, from), output);
-            let to_there = has_input(file, child_of(file, n, children, o, to), input);
+            let from_there = has_output(file, child_of(file, index, o, from), output);
+            let to_there = has_input(file, child_of(file, index, o, to), input);
             given(12, !(from_there & to_there))
         }
         Says::InputMap { port, to, input } => {
-            let to_there = has_input(file, child_of(file, n, children, o, to), input);
+            let to_there = has_input(file, child_of(file, index, o, to), input);
             given(12, !(has_input(file, o, port) & to_there))
         }
         Says::OutputMap { from, output } => {
-            let from_there = has_output(file, child_of(file, n, children, o, from), output);
+            let from_there = has_output(file, child_of(file, index, o, from), output);
             given(12, !from_there)
         }
     }
@@ -430,8 +430,8 @@ fn out_map_count(file: &[u8], n: usize, c: usize) -> usize
 }
 
 // 14: a composite's output maps differ in number from its outputs.
-fn check14(file: &[u8], n: usize, p: usize) -> u32
-    ensures { λ r. ⌜ r ≡ given 14 (fails14 (recordAt (now (file .entry))) n p) ⌝ }
+fn check14(file: &[u8], p: usize) -> u32
+    ensures { λ r. ⌜ r ≡ given 14 (fails14 (recordAt (now (file .entry))) (recordCount (now (file .entry))) p) ⌝ }
 {
     let Stands::Component { fields, .. } = component_at(file, p) else {
         return 0;
@@ -439,14 +439,17 @@ fn check14(file: &[u8], n: usize, p: usize) -> u32
     if fields.kind != 0 {
         return 0;
     }
-    given(14, fields.outputs as usize != out_map_count(file, n, p))
+    given(
+        14,
+        fields.outputs as usize != out_map_count(file, file.len() / 24, p),
+    )
 }
 
 // What check k, of 3 to 14, gives of the record at p. Crate flatten calls it over all records of a file, in number order, with the
-// table that `index_children` has filled.
-pub fn check(file: &[u8], n: usize, children: &[u16], k: u32, p: usize) -> u32
-    requires { ⌜ IsTable 256 (child (recordAt (now file)) n) (now children) ⌝ }
-    ensures { λ r. ⌜ r ≡ given k (failsBy (recordAt (now (file .entry))) n k p) ⌝ }
+// index filled.
+pub fn check(file: &[u8], index: &[u16], k: u32, p: usize) -> u32
+    requires { ⌜ IsIndex (now file) (now index) ⌝ }
+    ensures { λ r. ⌜ r ≡ given k (failsBy (recordAt (now (file .entry))) (recordCount (now (file .entry))) k p) ⌝ }
 {
     match k {
         3 => check3(file, p),
@@ -458,9 +461,9 @@ pub fn check(file: &[u8], n: usize, children: &[u16], k: u32, p: usize) -> u32
         9 => check9(file, p),
         10 => check10(file, p),
         11 => check11(file, p),
-        12 => check12(file, n, children, p),
+        12 => check12(file, index, p),
         13 => check13(file, p),
-        14 => check14(file, n, p),
+        14 => check14(file, p),
         _ => 0,
     }
 }

@@ -1,20 +1,21 @@
-// An index of the records: where child k of a component stands, and output map i of a composite, and between which
-// records its input maps stand. Rule: docs/SPECIFICATION.md, "The drawing file". The tables are filled in one pass
-// each, for the first 256 owners; past them the records are searched one by one.
-// Crates flatten and load call these functions, with the number of records for n.
+// An index of a file's records: where child k of a component stands, and output map i of a composite, and between which records its
+// input maps stand. Rule: docs/SPECIFICATION.md, "The drawing file". It has words for the first 256 owners; past them the records are
+// searched one by one. Its three parts are filled in one pass each: word 256 * o + k is child k of owner o; word 65536 + 64 * c + i the
+// record that maps output i of composite c; the input maps of composite c stand from word 81920 + c to before word 82176 + c.
 ghost use mathlib.Core.Path.{_≡_};
 ghost use Prim.Native.Nat.{ℕ, _*_, _≤_, _<_};
 ghost use lib.ListN.{length, getD};
 ghost use lib.Dec.{eqb};
-ghost use Rattle.component.specs.Record.{recordAt};
+ghost use Rattle.component.specs.Record.{recordAt, recordCount};
 ghost use Rattle.component.specs.Reading.{said, formBy};
 ghost use Rattle.component.specs.Index.{nthOwned, putWord, putCount, widenLow, widenHigh};
 ghost use Rattle.component.specs.Record.{ownedAs};
-ghost use Rattle.component.specs.Index.{IsClear, IsTable, IsRange};
+ghost use Rattle.component.specs.Index.{IsClear, IsTable, IsRange, IsIndex, stretchFirst, stretchEnd};
 ghost use Rattle.component.specs.Drawing.{child, outMap};
 use crate::ChildNo;
 use crate::Reading;
 use crate::Says;
+use crate::Stretch;
 use crate::reader::record_at;
 
 // Whether a record is of a record kind.
@@ -108,58 +109,26 @@ fn fill(file: &[u8], n: usize, form: u8, first: usize, w: usize, table: &mut [u1
     }
 }
 
-// Fills the table of children: word 256 * o + k is child k of owner o. Crates flatten and load call it for a file of at most 1,024
-// records, with a table of that size.
-pub fn index_children(file: &[u8], n: usize, children: &mut [u16])
+// Fills the part of the children.
+fn fill_children(file: &[u8], n: usize, children: &mut [u16])
     requires { ⌜ (n ≤ 1024) × (length (now children) ≡ 65536) ⌝ }
     ensures { λ _. ⌜ IsTable 256 (child (recordAt (now (file .entry))) n) (now (children .exit)) ⌝ }
 {
     fill(file, n, 1, 1, 256, children);
 }
 
-// Fills the table of output maps: word 64 * c + i is the record that maps output i of composite c. Crates flatten and load call it
-// likewise.
-pub fn index_outs(file: &[u8], n: usize, outs: &mut [u16])
+// Fills the part of the output maps.
+fn fill_outs(file: &[u8], n: usize, outs: &mut [u16])
     requires { ⌜ (n ≤ 1024) × (length (now outs) ≡ 16384) ⌝ }
     ensures { λ _. ⌜ IsTable 64 (outMap (recordAt (now (file .entry))) n) (now (outs .exit)) ⌝ }
 {
     fill(file, n, 4, 0, 64, outs);
 }
 
-// Child k of owner o; n where there is none. Crates flatten and load call it with the table that `index_children` has filled.
-pub fn child_of(file: &[u8], n: usize, children: &[u16], o: usize, k: ChildNo) -> usize
-    requires { ⌜ IsTable 256 (child (recordAt (now file)) n) (now children) ⌝ }
-    ensures { λ r. ⌜ r ≡ child (recordAt (now (file .entry))) n o (k .0) ⌝ }
-{
-    let at = k.0 as usize;
-    if o < 256 {
-        if at < 256 {
-            return children[256 * o + at] as usize;
-        }
-    }
-    nth_owned(file, n, 1, 1, o, at)
-}
-
-// The record that maps output i of composite c; n where there is none. Crate flatten calls it with the table that `index_outs` has
-// filled.
-pub fn out_map_of(file: &[u8], n: usize, outs: &[u16], c: usize, i: u16) -> usize
-    requires { ⌜ IsTable 64 (outMap (recordAt (now file)) n) (now outs) ⌝ }
-    ensures { λ r. ⌜ r ≡ outMap (recordAt (now (file .entry))) n c i ⌝ }
-{
-    let at = i as usize;
-    if c < 256 {
-        if at < 64 {
-            return outs[64 * c + at] as usize;
-        }
-    }
-    nth_owned(file, n, 4, 0, c, at)
-}
-
-// Widens the range of an input map's owner to its position.
-fn widen(lo: &mut [u16], hi: &mut [u16], r: Reading, q: u16)
-    requires { ⌜ (length (now lo) ≡ 256) × (length (now hi) ≡ 256) × (q < 1024) ⌝ }
-    ensures { λ _. ⌜ now (lo .exit) ≡ widenLow (said r) q (now (lo .entry)) ⌝ }
-    ensures { λ _. ⌜ now (hi .exit) ≡ widenHigh (said r) q (now (hi .entry)) ⌝ }
+// Widens the stretch of an input map's owner to its position.
+fn widen(ends: &mut [u16], r: Reading, q: u16)
+    requires { ⌜ (length (now ends) ≡ 512) × (q < 1024) ⌝ }
+    ensures { λ _. ⌜ now (ends .exit) ≡ widenLow (said r) q (widenHigh (said r) q (now (ends .entry))) ⌝ }
 {
     let Reading::Taken { owner, says } = r else {
         return;
@@ -171,23 +140,76 @@ fn widen(lo: &mut [u16], hi: &mut [u16], r: Reading, q: u16)
     if 256 <= c {
         return;
     }
-    hi[c] = q + 1;
-    if q < lo[c] {
-        lo[c] = q;
+    ends[256 + c] = q + 1;
+    if q < ends[c] {
+        ends[c] = q;
     }
 }
 
-// Fills the ranges of input maps: those of composite c stand from lo[c] to before hi[c]. Crates flatten and load call it for a file of
-// at most 1,024 records.
-pub fn index_ranges(file: &[u8], n: usize, lo: &mut [u16], hi: &mut [u16])
-    requires { ⌜ (n ≤ 1024) × (length (now lo) ≡ 256) × (length (now hi) ≡ 256) ⌝ }
-    ensures { λ _. ⌜ IsRange (now (file .entry)) n (now (lo .exit)) (now (hi .exit)) ⌝ }
+// Fills the part of the stretches.
+fn fill_ends(file: &[u8], n: usize, ends: &mut [u16])
+    requires { ⌜ (n ≤ 1024) × (length (now ends) ≡ 512) ⌝ }
+    ensures { λ _. ⌜ IsRange (now (file .entry)) n (now (ends .exit)) ⌝ }
 {
-    clear(lo, n as u16);
-    clear(hi, 0);
+    clear(&mut ends[0..256], n as u16);
+    clear(&mut ends[256..512], 0);
     let mut q: usize = 0;
     while q < n {
-        widen(lo, hi, record_at(file, q), q as u16);
+        widen(ends, record_at(file, q), q as u16);
         q += 1;
     }
+}
+
+// Fills the index. Crate flatten calls it for a file of at most 1,024 records, with room for the index.
+pub fn fill_index(file: &[u8], index: &mut [u16])
+    requires { ⌜ (recordCount (now file) ≤ 1024) × (length (now index) ≡ 82432) ⌝ }
+    ensures { λ _. ⌜ IsIndex (now (file .entry)) (now (index .exit)) ⌝ }
+{
+    let n = file.len() / 24;
+    fill_children(file, n, &mut index[0..65536]);
+    fill_outs(file, n, &mut index[65536..81920]);
+    fill_ends(file, n, &mut index[81920..82432]);
+}
+
+// Child k of owner o; the number of records where there is none. Crates flatten and load call it with the index filled.
+pub fn child_of(file: &[u8], index: &[u16], o: usize, k: ChildNo) -> usize
+    requires { ⌜ IsIndex (now file) (now index) ⌝ }
+    ensures { λ r. ⌜ r ≡ child (recordAt (now (file .entry))) (recordCount (now (file .entry))) o (k .0) ⌝ }
+{
+    let at = k.0 as usize;
+    if o < 256 {
+        if at < 256 {
+            return index[256 * o + at] as usize;
+        }
+    }
+    nth_owned(file, file.len() / 24, 1, 1, o, at)
+}
+
+// The record that maps output i of composite c; the number of records where there is none. Crate flatten calls it likewise.
+pub fn out_map_of(file: &[u8], index: &[u16], c: usize, i: u16) -> usize
+    requires { ⌜ IsIndex (now file) (now index) ⌝ }
+    ensures { λ r. ⌜ r ≡ outMap (recordAt (now (file .entry))) (recordCount (now (file .entry))) c i ⌝ }
+{
+    let at = i as usize;
+    if c < 256 {
+        if at < 64 {
+            return index[65536 + 64 * c + at] as usize;
+        }
+    }
+    nth_owned(file, file.len() / 24, 4, 0, c, at)
+}
+
+// The positions at which the input maps of composite c stand, of n records: those of the index, and all where it has no word of c.
+// Crate flatten calls it likewise.
+pub fn stretch_of(index: &[u16], n: usize, c: usize) -> Stretch
+    requires { ⌜ length (now index) ≡ 82432 ⌝ }
+    ensures { λ r. ⌜ (r .first ≡ stretchFirst (now (index .entry)) c) × (r .end ≡ stretchEnd (now (index .entry)) n c) ⌝ }
+{
+    if c < 256 {
+        return Stretch {
+            first: index[81920 + c] as usize,
+            end: index[82176 + c] as usize,
+        };
+    }
+    Stretch { first: 0, end: n }
 }

@@ -8,10 +8,9 @@ pub use checks::check;
 pub use checks::deepest;
 pub use checks::given;
 pub use index::child_of;
-pub use index::index_children;
-pub use index::index_outs;
-pub use index::index_ranges;
+pub use index::fill_index;
 pub use index::out_map_of;
+pub use index::stretch_of;
 use primitive::Fields;
 use primitive::Id;
 use primitive::Refusal;
@@ -68,6 +67,12 @@ pub enum Reading {
 pub enum Stands {
     Component { owner: u16, id: Id, fields: Fields },
     Nothing,
+}
+
+// The positions from `first` to before `end`.
+pub struct Stretch {
+    pub first: usize,
+    pub end: usize,
 }
 
 // What a file's bytes are judged to be.

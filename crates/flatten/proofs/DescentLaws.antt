@@ -6,12 +6,12 @@
 use mathlib.Core.Path.{_≡_, refl, sym, ap, _∙_}
 use mathlib.Core.Bool.{Bool, true, false, cond, not, _&&_, _||_}
 use mathlib.Core.List.{List, [], _∷_, _++_, append-assoc, append-nil, map}
-use Prim.Native.Nat.{ℕ, zero, suc, _+_, _-_, _≤_, _<_}
+use Prim.Native.Nat.{ℕ, zero, suc, _+_, _-_, _/_, _≤_, _<_}
 use native.Mathlib.Decide.{decLt}
 use native.Mathlib.Omega.{arith}
 use borrow.Author.Tests.{eq-eqb, ne-eqb}
 use lib.Dec.{eqb}
-use lib.ListN.{getD}
+use lib.ListN.{length}
 use types.Run.{OneOf}
 use denote.Enum.Declared.{tagOf}
 use Rattle.lists.specs.Lists.{from, any, joined}
@@ -31,10 +31,10 @@ use Rattle.primitive.specs.declared.table.Fields.{Fields}
 use Rattle.component.specs.Record.{recordAt, portOf, fieldsOf, fromOf, outputOf, toOf, inputOf, isPrimitive}
 use Rattle.component.specs.Reading.{ownerOf, formOf, apart, said, formBy, StandsAs}
 use Rattle.component.specs.Drawing.{deepest, child, mapsIn, outMap}
-use Rattle.component.specs.Index.{IsRange}
+use Rattle.component.specs.Index.{IsIndex, stretchFirst, stretchEnd}
 use Rattle.component.specs.Record.{ownedAs}
 use Rattle.component.proofs.Says.{the-type}
-use Rattle.component.proofs.RecordLaws.{no-connection, no-input-map, no-output-map, refused-is, taken-is, taken-form, taken-owner, unseen-fields, seen-is}
+use Rattle.component.proofs.RecordLaws.{no-connection, no-input-map, no-output-map, refused-is, taken-is, taken-form, unseen-fields, seen-is}
 use Rattle.flatten.specs.declared.Pin.{Pin}
 use Rattle.flatten.specs.declared.Lead.{Lead}
 use Rattle.flatten.specs.declared.descent.Entered.{Entered}
@@ -193,6 +193,12 @@ module _ (at : ℕ → Record) (n : ℕ) where
       joined-step (given d c i) q e h
       ∙ ap (λ (l : List Pin). l ++ joined (given d c i) (from (q + 1) (e - (q + 1)))) (given-is d c i q Nothing k)
 
+-- The stretch of an index.
+pub stretch-is : (s t : List ℕ) (c a e : ℕ) → IsIndex s t → a ≡ stretchFirst t c → e ≡ stretchEnd t (length s / 24) c
+    → IsStretch (recordAt s) (length s / 24) c a e
+stretch-is s t c a e h ea ee =
+    rw (ea, ee) (record { within = h .within c; starts = λ q u o. h .starts q c u o; ends = λ q u o. h .ends q c u o })
+
 -- In a file: record q is r, and b says whether a test holds of it.
 module _ (s : List ℕ) (n : ℕ) where
   -- the width of a component's ports: no component; a component
@@ -262,17 +268,6 @@ module _ (s : List ℕ) (n : ℕ) where
 
         pub entered-to : (u : ℕ) → o ≡ c → a ≡ i → u ≡ child (recordAt s) n c (t .0) → To u d ≡ entered (recordAt s) n c i q
         entered-to u y g z = rw (z, at-map, eq-eqb o c y, eq-eqb a i g)
-
-  -- the stretch of the index, and all positions
-  pub stretch-index : (lo hi : List ℕ) (c : ℕ) → IsRange s n lo hi → c < 256 → IsStretch (recordAt s) n c (getD lo c 0) (getD hi c 0)
-  stretch-index lo hi c h l = record {
-    within = h .within c l;
-    starts = λ q u o. h .starts q c u l o;
-    ends = λ q u o. h .ends q c u l o;
-  }
-
-  pub stretch-all : (c : ℕ) → IsStretch (recordAt s) n c 0 n
-  stretch-all c = record { within = omega arith; starts = λ q u o. omega arith; ends = λ q u o. u }
 
   -- whether a target has another width: no depth left; a primitive; a composite, whose input maps are to be followed
   pub differs-bottom : (d c i w : ℕ) → d ≡ 0 → false ≡ any (unlike (recordAt s) w) (inputsBelow (recordAt s) n d c i)

@@ -2,7 +2,7 @@
 -- check; the loop over the checks, by the place that a number has in their list; the file's size.
 -- Assumes nothing.
 use mathlib.Core.Path.{_≡_, refl, sym, ap, _∙_}
-use mathlib.Core.Bool.{Bool, true, false, cond, not, _&&_}
+use mathlib.Core.Bool.{Bool, true, false, cond, not, _&&_, false≢true}
 use mathlib.Core.List.{List, [], _∷_, map}
 use mathlib.Core.Option.{Option, none, some}
 use Prim.Native.Nat.{ℕ, zero, suc, _+_, _-_, _/_, _%_, _≤_, _<_}
@@ -126,6 +126,9 @@ module _ (s : List ℕ) (b : Bool) (e : b ≡ sized s) where
   sized-most h =
       leb-true (length s / 24) 1024
       (and-right (not (eqb (length s) 0) && eqb (length s % 24) 0) (leb (length s / 24) 1024) (sym e ∙ not-false b h))
+
+  pub unsized : not b ≡ true → sized s ≡ true → ⊥
+  unsized h z = false≢true (sym (not-true b h) ∙ e ∙ z)
 
   pub verdict-sized : not b ≡ true → Judges s (refused 1 0)
   unfolding verdict

@@ -10,7 +10,7 @@ use native.Mathlib.Omega.{arith}
 use borrow.Author.Tests.{eqb-false, eq-eqb, ltb-false, not-false}
 use lib.ListN.{length, getD, length-append}
 use lib.Seq.{getD-append-seam}
-use lib.Dec.{eqb, ltb}
+use lib.Dec.{ltb}
 use Rattle.lists.specs.Lists.{from, keep, any, total}
 use Rattle.lists.proofs.MembersLaws.{In, Distinct, and-right-false, or-left-false, or-right-false, any-none, keep-sound, keep-complete}
 use Rattle.lists.proofs.MembersLaws.{keep-append, total-append, in-getD, from0-sound, from0-complete, from-append}

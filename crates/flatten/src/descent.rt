@@ -3,12 +3,11 @@
 ghost use mathlib.Core.Path.{_≡_};
 ghost use Rattle.lists.specs.Lists.{any};
 ghost use Rattle.primitive.specs.Kinds.{inputWidth, outputWidth};
-ghost use Rattle.component.specs.Record.{recordAt, fieldsOf};
-ghost use Rattle.component.specs.Drawing.{child, outMap};
-ghost use Rattle.component.specs.Index.{IsTable, IsRange};
+ghost use Rattle.component.specs.Record.{recordAt, recordCount, fieldsOf};
+ghost use Rattle.component.specs.Index.{IsIndex};
 ghost use Rattle.component.specs.Checks.{given};
 ghost use Rattle.flatten.specs.Descent.{outputBelow, inputsBelow, fails15};
-ghost use Rattle.flatten.specs.Searches.{entered, unlike, IsStretch};
+ghost use Rattle.flatten.specs.Searches.{entered, unlike};
 use crate::Pin;
 use component::Reading;
 use component::Says;
@@ -20,17 +19,12 @@ use component::given;
 use component::is_primitive_at;
 use component::out_map_of;
 use component::record_at;
+use component::stretch_of;
 
 // Where a record leads from an input of a composite: to an input of a child, if it is one of that input's maps, or nowhere.
 pub enum Entered {
     To(usize, u16),
     Nothing,
-}
-
-// The positions from `first` to before `end`.
-pub struct Stretch {
-    pub first: usize,
-    pub end: usize,
 }
 
 // The bits of each input of component c; 1 where there is none.
@@ -55,39 +49,31 @@ fn output_width_at(file: &[u8], c: usize) -> u64
 
 // Output i of component c, down through output maps to a primitive's output, with the depth left. Crates flatten and load call
 // it, with the index filled.
-pub fn source_of(
-    file: &[u8],
-    n: usize,
-    children: &[u16],
-    outs: &[u16],
-    depth: u8,
-    c: usize,
-    i: u16,
-) -> Pin
-    requires { ⌜ IsTable 256 (child (recordAt (now file)) n) (now children) ⌝ }
-    requires { ⌜ IsTable 64 (outMap (recordAt (now file)) n) (now outs) ⌝ }
-    ensures { λ r. ⌜ r ≡ outputBelow (recordAt (now (file .entry))) n depth c i ⌝ }
+pub fn source_of(file: &[u8], index: &[u16], depth: u8, c: usize, i: u16) -> Pin
+    requires { ⌜ IsIndex (now file) (now index) ⌝ }
+    ensures { λ r. ⌜ r ≡ outputBelow (recordAt (now (file .entry))) (recordCount (now (file .entry))) depth c i ⌝ }
 {
+    let n = file.len() / 24;
     if depth == 0 {
         return Pin { comp: n, port: 0 };
     }
     if is_primitive_at(file, c) {
         return Pin { comp: c, port: i };
     }
-    let Reading::Taken { says, .. } = record_at(file, out_map_of(file, n, outs, c, i)) else {
+    let Reading::Taken { says, .. } = record_at(file, out_map_of(file, index, c, i)) else {
         return Pin { comp: n, port: 0 };
     };
     let Says::OutputMap { from, output } = says else {
         return Pin { comp: n, port: 0 };
     };
-    let inner = child_of(file, n, children, c, from);
-    source_of(file, n, children, outs, depth - 1, inner, output)
+    let inner = child_of(file, index, c, from);
+    source_of(file, index, depth - 1, inner, output)
 }
 
 // Where the record at q leads, if it maps input i of composite c. Crates flatten and load call it, with the index filled.
-pub fn enter(file: &[u8], n: usize, children: &[u16], c: usize, i: u16, q: usize) -> Entered
-    requires { ⌜ IsTable 256 (child (recordAt (now file)) n) (now children) ⌝ }
-    ensures { λ r. ⌜ r ≡ entered (recordAt (now (file .entry))) n c i q ⌝ }
+pub fn enter(file: &[u8], index: &[u16], c: usize, i: u16, q: usize) -> Entered
+    requires { ⌜ IsIndex (now file) (now index) ⌝ }
+    ensures { λ r. ⌜ r ≡ entered (recordAt (now (file .entry))) (recordCount (now (file .entry))) c i q ⌝ }
 {
     let Reading::Taken { owner, says } = record_at(file, q) else {
         return Entered::Nothing;
@@ -101,39 +87,13 @@ pub fn enter(file: &[u8], n: usize, children: &[u16], c: usize, i: u16, q: usize
     if port != i {
         return Entered::Nothing;
     }
-    Entered::To(child_of(file, n, children, c, to), input)
-}
-
-// The positions at which the input maps of composite c stand: those of the index, and all where the index has no word of c. Crates
-// flatten and load call it, with the index filled.
-pub fn stretch_of(file: &[u8], n: usize, lo: &[u16], hi: &[u16], c: usize) -> Stretch
-    requires { ⌜ IsRange (now file) n (now lo) (now hi) ⌝ }
-    ensures { λ r. ⌜ IsStretch (recordAt (now (file .entry))) n c (r .first) (r .end) ⌝ }
-{
-    if c < 256 {
-        return Stretch {
-            first: lo[c] as usize,
-            end: hi[c] as usize,
-        };
-    }
-    Stretch { first: 0, end: n }
+    Entered::To(child_of(file, index, c, to), input)
 }
 
 // Whether input i of component c leads, through input maps and with the depth left, to an input of another width.
-fn differs(
-    file: &[u8],
-    n: usize,
-    children: &[u16],
-    lo: &[u16],
-    hi: &[u16],
-    depth: u8,
-    c: usize,
-    i: u16,
-    width: u64,
-) -> bool
-    requires { ⌜ IsTable 256 (child (recordAt (now file)) n) (now children) ⌝ }
-    requires { ⌜ IsRange (now file) n (now lo) (now hi) ⌝ }
-    ensures { λ r. ⌜ r ≡ any (unlike (recordAt (now (file .entry))) width) (inputsBelow (recordAt (now (file .entry))) n depth c i) ⌝ }
+fn differs(file: &[u8], index: &[u16], depth: u8, c: usize, i: u16, width: u64) -> bool
+    requires { ⌜ IsIndex (now file) (now index) ⌝ }
+    ensures { λ r. ⌜ r ≡ any (unlike (recordAt (now (file .entry))) width) (inputsBelow (recordAt (now (file .entry))) (recordCount (now (file .entry))) depth c i) ⌝ }
 {
     if depth == 0 {
         return false;
@@ -141,12 +101,12 @@ fn differs(
     if is_primitive_at(file, c) {
         return width != input_width_at(file, c);
     }
-    let maps = stretch_of(file, n, lo, hi, c);
+    let maps = stretch_of(index, file.len() / 24, c);
     let end = maps.end;
     let mut q = maps.first;
     while q < end {
-        if let Entered::To(to, input) = enter(file, n, children, c, i, q) {
-            if differs(file, n, children, lo, hi, depth - 1, to, input, width) {
+        if let Entered::To(to, input) = enter(file, index, c, i, q) {
+            if differs(file, index, depth - 1, to, input, width) {
                 return true;
             }
         }
@@ -156,19 +116,9 @@ fn differs(
 }
 
 // 15: a connection yields a wire whose ends differ in width.
-pub(crate) fn check15(
-    file: &[u8],
-    n: usize,
-    children: &[u16],
-    outs: &[u16],
-    lo: &[u16],
-    hi: &[u16],
-    p: usize,
-) -> u32
-    requires { ⌜ IsTable 256 (child (recordAt (now file)) n) (now children) ⌝ }
-    requires { ⌜ IsTable 64 (outMap (recordAt (now file)) n) (now outs) ⌝ }
-    requires { ⌜ IsRange (now file) n (now lo) (now hi) ⌝ }
-    ensures { λ r. ⌜ r ≡ given 15 (fails15 (recordAt (now (file .entry))) n p) ⌝ }
+pub(crate) fn check15(file: &[u8], index: &[u16], p: usize) -> u32
+    requires { ⌜ IsIndex (now file) (now index) ⌝ }
+    ensures { λ r. ⌜ r ≡ given 15 (fails15 (recordAt (now (file .entry))) (recordCount (now (file .entry))) p) ⌝ }
 {
     let Reading::Taken { owner, says } = record_at(file, p) else {
         return 0;
@@ -182,12 +132,9 @@ pub(crate) fn check15(
     else {
         return 0;
     };
-    let start = child_of(file, n, children, owner as usize, from);
-    let source = source_of(file, n, children, outs, deepest(), start, output);
+    let start = child_of(file, index, owner as usize, from);
+    let source = source_of(file, index, deepest(), start, output);
     let width = output_width_at(file, source.comp);
-    let goal = child_of(file, n, children, owner as usize, to);
-    given(
-        15,
-        differs(file, n, children, lo, hi, deepest(), goal, input, width),
-    )
+    let goal = child_of(file, index, owner as usize, to);
+    given(15, differs(file, index, deepest(), goal, input, width))
 }

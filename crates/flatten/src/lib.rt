@@ -3,12 +3,11 @@ mod descent;
 mod judgement;
 
 pub use descent::Entered;
-pub use descent::Stretch;
 pub use descent::enter;
 pub use descent::source_of;
-pub use descent::stretch_of;
 pub use judgement::is_sized;
 pub use judgement::judge;
+pub use judgement::judge_indexed;
 
 // A port of a component of a drawing, by the component's number.
 pub struct Pin {

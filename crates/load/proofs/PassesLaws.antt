@@ -24,7 +24,6 @@ use Rattle.component.specs.Record.{recordAt, recordCount, inputsOf, outputsOf, 
 use Rattle.component.specs.Drawing.{primitivesBefore}
 use Rattle.component.proofs.RecordLaws.{unseen-primitive, seen-is}
 use Rattle.flatten.specs.Verdict.{verdict}
-use Rattle.flatten.proofs.Components.{primitive-component}
 use Rattle.flatten.proofs.Primitives.{primitivesBefore-append, primitivesBefore-step, primitivesBefore-skip}
 use Rattle.flatten.proofs.Primitives.{portsBefore-step}
 use Rattle.flatten.proofs.WireTheorems.{accepted-primitives-bound, accepted-inputs-bound, accepted-outputs-bound}

@@ -6,19 +6,18 @@
 -- Not here: laws of the source and the targets (DescentLaws of crate flatten).
 -- Assumes nothing.
 use mathlib.Core.Path.{_≡_, refl, sym, ap, _∙_, subst}
-use mathlib.Core.Bool.{Bool, true, false, cond, not, _&&_}
+use mathlib.Core.Bool.{Bool, true, false, cond}
 use mathlib.Core.List.{List, [], _∷_, _++_, map}
-use Prim.Native.Nat.{ℕ, _+_, _-_, _%_, _≤_, _<_}
+use Prim.Native.Nat.{ℕ, _+_, _-_, _*_, _%_, _≤_, _<_}
 use native.Mathlib.Nat.{zero-add}
 use native.Mathlib.Omega.{arith}
-use borrow.Author.Tests.{eq-eqb, ne-eqb, leb-true}
+use borrow.Author.Tests.{eq-eqb, ne-eqb}
 use types.Run.{OneOf}
 use denote.Enum.Declared.{tagOf}
 use lib.ListN.{length, length-append}
 use lib.Seq.{sets, length-sets}
-use lib.Dec.{eqb, leb}
+use lib.Dec.{eqb}
 use Rattle.lists.specs.Lists.{from, joined, overlay}
-use Rattle.lists.proofs.ListsLaws.{and-right}
 use Rattle.lists.proofs.OverlayLaws.{joined-append, joined-width}
 use Rattle.component.specs.declared.ChildNo.{ChildNo}
 use Rattle.component.specs.declared.Record.{Record}
@@ -28,7 +27,6 @@ use Rattle.component.specs.declared.Reading.{Reading}
 use Rattle.component.specs.declared.Reading.the-variants.{Taken, Refused}
 use Rattle.component.specs.Reading.{said, formOf, ownerOf}
 use Rattle.component.specs.Record.{recordAt, recordCount, fromOf, outputOf, isPrimitive}
-use Rattle.component.specs.declared.Verdict.the-variants.{Accepted}
 use Rattle.component.specs.Drawing.{deepest, child}
 use Rattle.component.proofs.Says.{the-type}
 use Rattle.component.proofs.RecordLaws.{no-connection, refused-is, taken-form}
@@ -38,10 +36,9 @@ use Rattle.flatten.specs.declared.descent.Entered.{Entered}
 use Rattle.flatten.specs.declared.descent.Entered.the-variants.{To, Nothing}
 use Rattle.flatten.specs.Descent.{outputBelow, inputsBelow, comesFrom, goesTo, wiresAt, wires, flat}
 use Rattle.flatten.specs.Searches.{entered, IsStretch}
-use Rattle.flatten.specs.Verdict.{verdict}
 use Rattle.flatten.proofs.DescentLaws.{given, targets-bottom, targets-ends, targets-stretch, given-to, given-nothing}
 use Rattle.flatten.proofs.DescentLaws.{joined-end, source-is, targets-are, form-is}
-use Rattle.flatten.proofs.Accepted.{Passed, accepted-sized, accepted-passed}
+use Rattle.flatten.proofs.Accepted.{Passed, accepted-passed}
 use Rattle.flatten.proofs.Components.{primitive-component, component-number}
 use Rattle.flatten.proofs.DescentLeads.{source-sound}
 use Rattle.flatten.proofs.Wires.{connection-ends}
@@ -161,16 +158,10 @@ module _ (s : List ℕ) (n d c i : ℕ) (f : End) (t : List ℕ) (k : ℕ) where
           place = omega (arith, inv .place, ap (λ (z : List ℕ). length z) y);
         }
 
--- An accepted file has at most 1,024 records.
-pub accepted-most : (s : List ℕ) → verdict s ≡ Accepted → recordCount s ≤ 1024
-accepted-most s accepted =
-    leb-true (recordCount s) 1024
-    (and-right (not (eqb (length s) 0) && eqb (length s % 24) 0) (leb (recordCount s) 1024) (accepted-sized s accepted))
-
 -- A primitive of an accepted file has a number below 256.
-pub primitive-number : (s : List ℕ) (n c : ℕ) (cs lo hi fs : List ℕ) (b : Bool) → Ready s n cs lo hi fs
+pub primitive-number : (s : List ℕ) (c : ℕ) (ix fs : List ℕ) (b : Bool) → Ready s ix fs
     → b ≡ isPrimitive (recordAt s c) → b ≡ true → c < 256
-primitive-number s n c cs lo hi fs b h eb p =
+primitive-number s c ix fs b h eb p =
     component-number (recordAt s) _ (accepted-passed s (h .accepted)) c
     (primitive-component (recordAt s c) (sym eb ∙ p))
 
@@ -198,10 +189,10 @@ module _ (s : List ℕ) (n : ℕ) where
       from-source = source-is s n p v e w a b f g r h y m c x em ec ex
 
       -- The source is a primitive's, and its number is below 256.
-      pub source-number : (cs lo hi fs : List ℕ) → Ready s n cs lo hi fs → p < n → x .comp < 256
+      pub source-number : (ix fs : List ℕ) → Ready s ix fs → n ≡ recordCount s → p < n → x .comp < 256
       unfolding comesFrom
-      source-number cs lo hi fs ready l =
-          let d = subst (Passed (recordAt s)) (sym (ready .count)) (accepted-passed s (ready .accepted)) in
+      source-number ix fs ready count l =
+          let d = subst (Passed (recordAt s)) (sym count) (accepted-passed s (ready .accepted)) in
           let there = connection-ends (recordAt s) n d p l (form-is s n p v e w a b f g r h y) .0 in
           let comes = source-sound (recordAt s) n d 0 deepest
           (child (recordAt s) n (ownerOf (recordAt s p)) (fromOf (recordAt s p)))
@@ -262,15 +253,17 @@ module _ (at : ℕ → Record) (n : ℕ) where
       ap (λ (l : List ℕ). length l) (sym wires-joined) ∙ joined-width wireWords 4 (λ w. refl) (flatWires at n)
 
 -- Laying the wires of an accepted file, in a table t of full size.
-module _ (s : List ℕ) (n : ℕ) (cs lo hi fs : List ℕ) (h : Ready s n cs lo hi fs) (t : List ℕ)
-    (full : 4096 ≤ length t) where
+module _ (s ix fs : List ℕ) (h : Ready s ix fs) (t : List ℕ) (full : 4096 ≤ length t) where
+  abbrev n : ℕ
+  n = recordCount s
+
   wires-all : length (joined (wiresGiven (recordAt s) n) (from 0 n)) ≤ length t
   wires-all =
       omega (
         arith,
         wires-length (recordAt s) n,
         flatWires-bound (recordAt s) n
-            (subst (Passed (recordAt s)) (sym (h .count)) (accepted-passed s (h .accepted))),
+            (accepted-passed s (h .accepted)),
       )
 
   module _ (p : ℕ) (u : List ℕ) (k : ℕ) (laid : Laid (wiresGiven (recordAt s) n) p t u (wirePlace k)) where

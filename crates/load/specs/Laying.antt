@@ -18,8 +18,8 @@ use Rattle.primitive.specs.declared.Id.{Id}
 use Rattle.component.specs.declared.Record.{Record}
 use Rattle.component.specs.Record.{recordAt, recordCount, fieldsOf, isPrimitive}
 use Rattle.component.specs.Reading.{idOf, formOf}
-use Rattle.component.specs.Drawing.{child, primitivesBefore, inputsBefore, outputsBefore}
-use Rattle.component.specs.Index.{IsTable, IsRange}
+use Rattle.component.specs.Drawing.{primitivesBefore, inputsBefore, outputsBefore}
+use Rattle.component.specs.Index.{IsIndex}
 use Rattle.component.specs.declared.Verdict.the-variants.{Accepted}
 use Rattle.flatten.specs.declared.Pin.{Pin}
 use Rattle.flatten.specs.Descent.{inputsBelow, comesFrom, goesTo, flat}
@@ -103,9 +103,7 @@ module _ (at : ℕ → Record) (n : ℕ) where
   wiresGiven p =
       cond (eqb (formOf (at p)) 2) (joined (leadWords (flatPin at n (comesFrom at n p))) (goesTo at n p)) []
 
-pub record Ready (s : List ℕ) (n : ℕ) (cs lo hi fs : List ℕ) : Type 0 where
+pub record Ready (s index fs : List ℕ) : Type 0 where
   pub accepted : verdict s ≡ Accepted
-  pub count : n ≡ recordCount s
-  pub children : IsTable 256 (child (recordAt s) n) cs
-  pub ranges : IsRange s n lo hi
-  pub indexes : IsFlat (recordAt s) n fs
+  pub indexed : IsIndex s index
+  pub indexes : IsFlat (recordAt s) (recordCount s) fs

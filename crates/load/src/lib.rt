@@ -8,6 +8,7 @@ ghost use mathlib.Core.Path.{_≡_};
 ghost use Prim.Native.Nat.{_≤_};
 ghost use lib.ListN.{length};
 ghost use Rattle.component.specs.Record.{recordAt, recordCount};
+ghost use Rattle.component.specs.Index.{IsIndex};
 ghost use Rattle.component.specs.declared.Verdict.the-variants.{Accepted};
 ghost use Rattle.flatten.specs.Verdict.{verdict};
 ghost use Rattle.tables.specs.declared.Counts.{Counts};
@@ -24,10 +25,11 @@ use tables::Answer;
 use tables::Counts;
 use wires::lay_wires;
 
-// Writes the tables of an accepted drawing: all ports 0, a Const's output its value; standing every Const and Clock, following a copy
+// Writes the tables of an accepted drawing, with its index filled: all ports 0, a Const's output its value; standing every Const and Clock, following a copy
 // of it; current all components. The answer is how many entries of each table are in use.
 fn fill(
     file: &[u8],
+    index: &[u16],
     components: &mut [u64],
     inputs: &mut [u64],
     outputs: &mut [u64],
@@ -36,6 +38,7 @@ fn fill(
     following: &mut [u16],
     standing: &mut [u16],
 ) -> Counts
+    requires { ⌜ IsIndex (now file) (now index) ⌝ }
     requires { ⌜ (verdict (now file) ≡ Accepted) × (2048 ≤ length (now components)) × (1024 ≤ length (now inputs)) × (1024 ≤ length (now outputs))
         × (4096 ≤ length (now wires)) × (256 ≤ length (now current)) × (256 ≤ length (now following)) × (256 ≤ length (now standing)) ⌝ }
     ensures { λ r. ⌜ tablesOf (now (components .exit)) (now (inputs .exit)) (now (outputs .exit)) (now (wires .exit)) (now (current .exit))
@@ -46,7 +49,7 @@ fn fill(
     let all = lay_components(file, components);
     zeros(inputs, 0, all.inputs);
     lay_outputs(file, outputs);
-    let wire_count = lay_wires(file, wires);
+    let wire_count = lay_wires(file, index, wires);
     count_up(current, all.components);
     let standing_count = lay_standing(file, standing);
     tables::copy(standing, standing_count, following);
@@ -61,7 +64,7 @@ fn fill(
     }
 }
 
-// The verdict of a load: check 1, check 2, then the checks 3 to 15.
+// The verdict of a load: check 1, check 2, then the checks 3 to 15; the lent index, of 82,432 words, is filled where it is accepted.
 fn judge_load(
     file: &[u8],
     components: &[u64],
@@ -71,10 +74,13 @@ fn judge_load(
     current: &[u16],
     following: &[u16],
     standing: &[u16],
+    index: &mut [u16],
 ) -> Verdict
+    requires { ⌜ length (now index) ≡ 82432 ⌝ }
     ensures { λ r. ⌜ ((m : Counts) → r ≡ loadVerdict (now (file .entry))
         (tablesOf (now (components .entry)) (now (inputs .entry)) (now (outputs .entry)) (now (wires .entry)) (now (current .entry))
         (now (following .entry)) (now (standing .entry)) m)) ⌝ }
+    ensures { λ r. ⌜ (r ≡ Accepted → IsIndex (now (file .entry)) (now (index .exit))) ⌝ }
 {
     if !flatten::is_sized(file) {
         return Verdict::Refused(Refusal {
@@ -96,7 +102,7 @@ fn judge_load(
             position: 0,
         });
     }
-    flatten::judge(file)
+    flatten::judge_indexed(file, index)
 }
 
 // Loads a drawing file into the tables: judges the load, and writes the tables of an accepted drawing. Counts are not handed in: a
@@ -118,6 +124,7 @@ pub fn load(
         (now (current .exit)) (now (following .exit)) (now (standing .exit)) in
         ⌜ ((m : Counts) → Loads (now (file .entry)) (before m) r (after (countsAfter r m))) ⌝ }
 {
+    let mut index = [0u16; 82432];
     if let Verdict::Refused(refusal) = judge_load(
         file,
         components,
@@ -127,11 +134,13 @@ pub fn load(
         current,
         following,
         standing,
+        &mut index,
     ) {
         return Answer::Refused(refusal);
     }
     Answer::Done(fill(
         file,
+        &index,
         components,
         inputs,
         outputs,

@@ -12,8 +12,8 @@ lay-components-requires c κs = search needs
 zeros-requires : tie.Need-zeros-requires
 zeros-requires c κs =
     let r = c .before .before .before in
-    let s = r .before .before .before .before .before .before .before .before .before .before in
-    inputs-room (s .args .file .now) (s .pre .0) (s .args .inputs .now) _ (r .lay-components .ensures .1) (s .pre .2)
+    let s = r .before .before .before .before .before .before .before .before .before .before .before in
+    inputs-room (s .args .file .now) (s .pre .1 .0) (s .args .inputs .now) _ (r .lay-components .ensures .1) (s .pre .1 .2)
 
 lay-outputs-requires : tie.Need-lay-outputs-requires
 lay-outputs-requires c κs = search needs
@@ -25,8 +25,8 @@ count-up-requires : tie.Need-count-up-requires
 count-up-requires c κs =
     let d = c .before .before .before .before .before .before .before .before in
     let r = d .before .before .before .before .before .before .before in
-    let s = r .before .before .before .before .before .before .before .before .before .before in
-    current-room (s .args .file .now) (s .pre .0) (s .args .current .now) _ (r .lay-components .ensures .1) (s .pre .5)
+    let s = r .before .before .before .before .before .before .before .before .before .before .before in
+    current-room (s .args .file .now) (s .pre .1 .0) (s .args .current .now) _ (r .lay-components .ensures .1) (s .pre .1 .5)
 
 lay-standing-requires : tie.Need-lay-standing-requires
 lay-standing-requires c κs = search needs
@@ -36,9 +36,9 @@ copy-requires c κs =
     let l = c .before .before .before .before in
     let d = l .before .before .before .before .before .before .before .before .before .before in
     let r = d .before .before .before .before .before .before .before .before .before .before in
-    let s = r .before .before .before .before .before .before .before .before .before .before in
-    copy-room (s .args .file .now) (s .pre .0) (s .args .following .now) _ _ _ (l .lay-standing .ensures .0)
-    (l .lay-standing .ensures .1) (s .pre .6)
+    let s = r .before .before .before .before .before .before .before .before .before .before .before in
+    copy-room (s .args .file .now) (s .pre .1 .0) (s .args .following .now) _ _ _ (l .lay-standing .ensures .0)
+    (l .lay-standing .ensures .1) (s .pre .1 .6)
 
 same-length : tie.Need-same-length
 same-length c = search needs
@@ -70,13 +70,13 @@ returns c =
     let outs = wire .before .before .before .before in
     let zero = outs .before .before .before .before in
     let row = zero .before .before .before .before in
-    let s = row .before .before .before .before .before .before .before .before .before .before in
+    let s = row .before .before .before .before .before .before .before .before .before .before .before in
     let a = s .args in
-    filled (a .file .now) (s .pre .0)
+    filled (a .file .now) (s .pre .1 .0)
     (tablesOf (a .components .now) (a .inputs .now) (a .outputs .now) (a .wires .now) (a .current .now)
     (a .following .now)
     (a .standing .now) _)
-    (s .pre .2) (s .pre .5) (row .lay-components .result) (row .lay-components .ensures .1) _ _ _ _ _ _ _
+    (s .pre .1 .2) (s .pre .1 .5) (row .lay-components .result) (row .lay-components .ensures .1) _ _ _ _ _ _ _
     (wire .lay-wires .result) (stand .lay-standing .result) (row .lay-components .ensures .0) (zero .zeros .ensures)
     (outs .lay-outputs .ensures) (wire .lay-wires .ensures .0) (wire .lay-wires .ensures .1) (up .count-up .ensures)
     (stand .lay-standing .ensures .0) (stand .lay-standing .ensures .1) (copied .copy .ensures)

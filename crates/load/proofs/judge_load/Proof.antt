@@ -2,6 +2,7 @@
 -- Assumes nothing.
 use mathlib.Core.Path.{sym, _∙_}
 use borrow.Author.Tests.{not-true, not-false}
+use Rattle.flatten.proofs.Accepted.{refused-not}
 use Rattle.flatten.proofs.JudgementLaws.{judges-verdict}
 use Rattle.load.proofs.LoadLaws.{judge-unsized, judge-short, judge-file}
 use borrow.Author.Needs.{needs}
@@ -13,10 +14,12 @@ is-sized-requires c κs = search needs
 
 returns : tie.Need-returns
 returns c =
-    let a = c .before .before .before .before .before .before .before .before .before .before .args in
-    judge-unsized (a .file .now) (a .components .now) (a .inputs .now) (a .outputs .now) (a .wires .now)
-    (a .current .now) (a .following .now)
-    (a .standing .now) (sym (c .before .is-sized .ensures) ∙ not-true _ (c .if1 .taken))
+    let a = c .before .before .before .before .before .before .before .before .before .before .before .args in (
+      judge-unsized (a .file .now) (a .components .now) (a .inputs .now) (a .outputs .now) (a .wires .now) (a .current .now)
+          (a .following .now) (a .standing .now)
+          (sym (c .before .is-sized .ensures) ∙ not-true _ (c .if1 .taken)),
+      λ y. absurd (refused-not 1 0 y),
+    )
 
 full-size-requires : tie.Need-full-size-requires
 full-size-requires c κs = search needs
@@ -24,23 +27,32 @@ full-size-requires c κs = search needs
 returns-2 : tie.Need-returns-2
 returns-2 c =
     let d = c .before .before in
-    let a = d .before .before .before .before .before .before .before .before .before .before .args in
-    judge-short (a .file .now) (a .components .now) (a .inputs .now) (a .outputs .now) (a .wires .now) (a .current .now)
-    (a .following .now)
-    (a .standing .now) (sym (d .before .is-sized .ensures) ∙ not-false _ (d .if1 .left))
-    (λ m. sym (c .before .full-size .ensures m) ∙ not-true _ (c .if2 .taken))
+    let a = d .before .before .before .before .before .before .before .before .before .before .before .args in (
+      judge-short (a .file .now) (a .components .now) (a .inputs .now) (a .outputs .now) (a .wires .now) (a .current .now)
+          (a .following .now) (a .standing .now)
+          (sym (d .before .is-sized .ensures) ∙ not-false _ (d .if1 .left))
+          (λ m. sym (c .before .full-size .ensures m) ∙ not-true _ (c .if2 .taken)),
+      λ y. absurd (refused-not 2 0 y),
+    )
 
-judge-requires : tie.Need-judge-requires
-judge-requires c κs = search needs
+judge-indexed-requires : tie.Need-judge-indexed-requires
+judge-indexed-requires c κs = search needs
+
+same-length : tie.Need-same-length
+same-length c = search needs
 
 returns-3 : tie.Need-returns-3
 returns-3 c =
-    let d = c .before .before .before in
-    let a = d .before .before .before .before .before .before .before .before .before .before .args in
-    judge-file (a .file .now) (a .components .now) (a .inputs .now) (a .outputs .now) (a .wires .now) (a .current .now)
-    (a .following .now)
-    (a .standing .now) (sym (d .before .is-sized .ensures) ∙ not-false _ (d .if1 .left))
-    (λ m. sym (c .before .before .full-size .ensures m) ∙ not-false _ (c .before .if2 .left)) _ (judges-verdict _ _ (c .judge .ensures))
+    let j = c .before .before in
+    let e = j .before .before in
+    let d = e .before .before in
+    let a = d .before .before .before .before .before .before .before .before .before .before .before .args in
+    let z = sym (d .before .is-sized .ensures) ∙ not-false _ (d .if1 .left) in (
+      judge-file (a .file .now) (a .components .now) (a .inputs .now) (a .outputs .now) (a .wires .now) (a .current .now)
+          (a .following .now) (a .standing .now) z
+          (λ m. sym (e .before .full-size .ensures m) ∙ not-false _ (e .if2 .left)) _ (judges-verdict _ _ (j .judge-indexed .ensures .0)),
+      λ y. j .judge-indexed .ensures .1 z,
+    )
 
 pub judge-load-spec : {M : Type 1} → statement M
 judge-load-spec =
@@ -50,5 +62,6 @@ judge-load-spec =
     returns
     full-size-requires
     returns-2
-    judge-requires
+    judge-indexed-requires
+    same-length
     returns-3)

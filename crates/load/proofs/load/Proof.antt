@@ -5,6 +5,9 @@ use borrow.Author.Needs.{needs}
 use Rattle.load.proofs.load.Statement.{statement}
 use Rattle.load.proofs.load.Tie as tie
 
+slice-aggregate-judge-load : tie.Need-slice-aggregate-judge-load
+slice-aggregate-judge-load c = search needs
+
 judge-load-requires : tie.Need-judge-load-requires
 judge-load-requires c κs = search needs
 
@@ -38,14 +41,18 @@ returns c = search (load-refused)
 enum-told : tie.Need-enum-told
 enum-told c = search needs
 
+slice-aggregate-fill : tie.Need-slice-aggregate-fill
+slice-aggregate-fill c = search needs
+
 fill-requires : tie.Need-fill-requires
 fill-requires c κs =
-    let told = c .before .before .before .before .before .before .before in
-    let j = told .before .before in
-    let d = j .before .before .before .before .before .before .before .before in
-    let a = d .before .before .before .before .before .before .before .before .args in
-    load-ready (a .file .now) (a .components .now) (a .inputs .now) (a .outputs .now) (a .wires .now) (a .current .now)
-    (a .following .now) (a .standing .now) _ (j .judge-load .ensures) (told .enum-told .given .1)
+    let told = c .before .before .before .before .before .before .before .before in
+    let j = told .before .before .before in
+    let a = j .before .before .before .before .before .before .before .before .before .before .before .before .before .before .before .before .before .args in (
+      j .judge-load .ensures .1 (told .enum-told .given .1),
+      load-ready (a .file .now) (a .components .now) (a .inputs .now) (a .outputs .now) (a .wires .now) (a .current .now)
+          (a .following .now) (a .standing .now) _ (j .judge-load .ensures .0) (told .enum-told .given .1),
+    )
 
 same-length-8 : tie.Need-same-length-8
 same-length-8 c = search needs
@@ -75,6 +82,7 @@ pub load-spec : {M : Type 1} → statement M
 load-spec =
     tie.close
     (tie.spec
+    slice-aggregate-judge-load
     judge-load-requires
     enum-known-refusal
     same-length
@@ -86,6 +94,7 @@ load-spec =
     same-length-7
     returns
     enum-told
+    slice-aggregate-fill
     fill-requires
     same-length-8
     same-length-9

@@ -1,4 +1,4 @@
--- `child_of`: the table says it of the first 256 owners and children, and the records of all others.
+-- `child_of`: the index says it of the first 256 owners and children, and the records of all others.
 -- Assumes nothing.
 use Prim.Native.Nat.{_+_, _*_}
 use native.Mathlib.Omega.{arith}
@@ -30,7 +30,7 @@ cast-result c =
 returns : tie.Need-returns
 returns c =
     let a = c .before .before .before .before .before .before in
-    a .pre .word (a .args .o) (a .args .k .0) (c .before .before .if1 .taken) (c .before .if2 .taken)
+    a .pre .children (a .args .o) (a .args .k .0) (c .before .before .if1 .taken) (c .before .if2 .taken)
 
 nth-owned-requires : tie.Need-nth-owned-requires
 nth-owned-requires c κs = search needs

@@ -3,13 +3,14 @@
 -- Assumes nothing.
 use mathlib.Core.Path.{_≡_}
 use mathlib.Core.Logic.{⊎-elim}
-use Prim.Native.Nat.{_-_, _<_}
+use Prim.Native.Nat.{_-_, _/_, _<_}
 use native.Mathlib.Omega.{arith}
+use lib.ListN.{length}
 use Rattle.lists.specs.Lists.{from, any, joined}
 use Rattle.component.specs.Record.{recordAt}
 use Rattle.flatten.specs.Descent.{inputsBelow}
 use Rattle.flatten.specs.Searches.{unlike}
-use Rattle.flatten.proofs.DescentLaws.{given, differs-bottom, differs-here, differs-start}
+use Rattle.flatten.proofs.DescentLaws.{given, stretch-is, differs-bottom, differs-here, differs-start}
 use Rattle.flatten.proofs.DescentLaws.{differs-found, differs-next, differs-nothing, differs-end}
 use borrow.Author.Needs.{needs}
 use Prim.Native.Nat.{ℕ}
@@ -21,18 +22,18 @@ use Rattle.flatten.proofs.descent.+differs.Lts-differs as differs-lts
 use Rattle.component.proofs.is_primitive_at.Reads as is-primitive-at-reads
 use Rattle.flatten.proofs.descent.enter.Reads as enter-reads
 use Rattle.flatten.proofs.descent.input_width_at.Reads as input-width-at-reads
-use Rattle.flatten.proofs.descent.stretch_of.Reads as stretch-of-reads
+use Rattle.component.proofs.stretch_of.Reads as stretch-of-reads
 use Rattle.flatten.proofs.descent.+differs.{statement}
 use Rattle.flatten.proofs.descent.+differs.Tie.{close}
 
-abbrev μ-differs : Measures 4 differs-kinds.ps ℕ
-μ-differs κs a = a .1 .1 .1 .1 .1 .0
+abbrev μ-differs : Measures 2 differs-kinds.ps ℕ
+μ-differs κs a = a .1 .1 .0
 
-abbrev differs-at : ℕ → In 4 differs-kinds.ps
-differs-at t = and 4 differs-kinds.ps (is 4 differs-kinds.ps μ-differs t) differs.Pre
+abbrev differs-at : ℕ → In 2 differs-kinds.ps
+differs-at t = and 2 differs-kinds.ps (is 2 differs-kinds.ps μ-differs t) differs.Pre
 
-abbrev differs-below : ℕ → In 4 differs-kinds.ps
-differs-below t = and 4 differs-kinds.ps (falls 4 differs-kinds.ps _<_ μ-differs t) differs.Pre
+abbrev differs-below : ℕ → In 2 differs-kinds.ps
+differs-below t = and 2 differs-kinds.ps (falls 2 differs-kinds.ps _<_ μ-differs t) differs.Pre
 
 abbrev differs-claims : ℕ → differs-lts.Claims
 differs-claims t = (
@@ -49,12 +50,12 @@ differs-claims t = (
 )
 
 abbrev differs-Inv-loop : differs-lts.InvT-loop
-differs-Inv-loop file n children lo hi depth c i width end q₀ q =
-    any (unlike (recordAt file) width) (joined (given (recordAt file) n (depth - 1) c i) (from q (end - q)))
-    ≡ any (unlike (recordAt file) width) (inputsBelow (recordAt file) n depth c i)
+differs-Inv-loop file index depth c i width end q₀ q =
+    any (unlike (recordAt file) width) (joined (given (recordAt file) (length file / 24) (depth - 1) c i) (from q (end - q)))
+    ≡ any (unlike (recordAt file) width) (inputsBelow (recordAt file) (length file / 24) depth c i)
 
 abbrev differs-μ-loop : differs-lts.MeasureT-loop
-differs-μ-loop file n children lo hi depth c i width end q₀ q = end - q
+differs-μ-loop file index depth c i width end q₀ q = end - q
 
 differs-returns : (t : ℕ) → differs-lts.Need-returns (differs-claims t) (differs-at t) differs.Post differs-Inv-loop differs-μ-loop
 differs-returns t c = search (differs-bottom)
@@ -72,7 +73,7 @@ differs-stretch-of-requires : (t : ℕ) → differs-lts.Need-stretch-of-requires
 differs-stretch-of-requires t c κs = search needs
 
 differs-loop-holds : (t : ℕ) → differs-lts.Need-loop-holds (differs-claims t) (differs-at t) differs.Post differs-Inv-loop differs-μ-loop
-differs-loop-holds t c = search (differs-start)
+differs-loop-holds t c = search (differs-start, stretch-is)
 
 differs-enter-requires : (t : ℕ) → differs-lts.Need-enter-requires (differs-claims t) (differs-at t) differs.Post differs-Inv-loop differs-μ-loop
 differs-enter-requires t c κs = search needs
@@ -86,7 +87,7 @@ differs-sub-differs t c = search needs
 differs-differs-requires : (t : ℕ) → differs-lts.Need-differs-requires (differs-claims t) (differs-at t) differs.Post differs-Inv-loop differs-μ-loop
 differs-differs-requires t c κs =
     let e = c .before .before .before .before .before .before .before .before .before in
-    let s = e .before .before .before .before .before in
+    let s = e .before .before .before in
     (omega (arith, s .pre .0, e .if1 .left), s .pre .1)
 
 differs-returns-3 : (t : ℕ) → differs-lts.Need-returns-3 (differs-claims t) (differs-at t) differs.Post differs-Inv-loop differs-μ-loop

@@ -16,15 +16,15 @@ use Rattle.component.proofs.record_at.Reads as record-at-reads
 use Rattle.flatten.proofs.descent.+source_of.{statement}
 use Rattle.flatten.proofs.descent.+source_of.Tie.{close}
 
-abbrev μ-source-of : Measures 3 source-of-kinds.ps ℕ
-μ-source-of κs a = a .1 .1 .1 .1 .0
+abbrev μ-source-of : Measures 2 source-of-kinds.ps ℕ
+μ-source-of κs a = a .1 .1 .0
 
-abbrev source-of-at : ℕ → In 3 source-of-kinds.ps
-source-of-at t = and 3 source-of-kinds.ps (is 3 source-of-kinds.ps μ-source-of t) source-of.Pre
+abbrev source-of-at : ℕ → In 2 source-of-kinds.ps
+source-of-at t = and 2 source-of-kinds.ps (is 2 source-of-kinds.ps μ-source-of t) source-of.Pre
 
-abbrev source-of-below : ℕ → In 3 source-of-kinds.ps
+abbrev source-of-below : ℕ → In 2 source-of-kinds.ps
 source-of-below t =
-    and 3 source-of-kinds.ps (falls 3 source-of-kinds.ps _<_ μ-source-of t) source-of.Pre
+    and 2 source-of-kinds.ps (falls 2 source-of-kinds.ps _<_ μ-source-of t) source-of.Pre
 
 abbrev source-of-claims : ℕ → source-of-lts.Claims
 source-of-claims t = (
@@ -79,7 +79,7 @@ source-of-sub-source-of t c = search needs
 source-of-source-of-requires : (t : ℕ) → source-of-lts.Need-source-of-requires (source-of-claims t) (source-of-at t) source-of.Post
 source-of-source-of-requires t c κs =
     let e = c .before .before .before .before .before .before .before .before .before .before .before in
-    let s = e .before .before .before .before in
+    let s = e .before .before .before in
     (omega (arith, s .pre .0, e .if1 .left), s .pre .1)
 
 source-of-returns-5 : (t : ℕ) → source-of-lts.Need-returns-5 (source-of-claims t) (source-of-at t) source-of.Post

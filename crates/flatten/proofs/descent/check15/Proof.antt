@@ -2,6 +2,8 @@
 -- Assumes nothing.
 use Rattle.component.proofs.ChecksLaws.{given-passes, given-by}
 use Rattle.flatten.proofs.DescentLaws.{fails15-refused, fails15-other, fails15-connection}
+use Prim.Native.Nat.{_/_}
+use lib.ListN.{length}
 use borrow.Author.Needs.{needs}
 use Rattle.flatten.proofs.descent.check15.Statement.{statement}
 use Rattle.flatten.proofs.descent.check15.Tie as tie
@@ -52,8 +54,7 @@ deepest-requires-2 c κs = search needs
 
 differs-requires : tie.Need-differs-requires
 differs-requires c κs =
-    let s = c .before .before .before .before .before .before .before .before .before .before .before .before .before .before .before .before .before .before in
-    (s .pre .0, s .pre .1 .1)
+    c .before .before .before .before .before .before .before .before .before .before .before .before .before .before .before .pre
 
 given-requires : tie.Need-given-requires
 given-requires c κs = search needs
@@ -62,10 +63,10 @@ given-requires c κs = search needs
 returns-3 : tie.Need-returns-3
 returns-3 c =
     let b = c .before .before .before .before .before .before .before .before .before .before .before .before .before .before in
-    let a = b .before .before .before .before .before .before .args in
+    let a = b .before .before .before .args in
     let d = c .before .before .before .before .before .before .before .before .before .before .before .before .owner .given .1 in
     let e = c .before .before .before .before .before .before .before .before .before .says .given .1 in
-    search (given-by, fails15-connection (a .file .now) (a .n) (a .p) (b .record-at .result) (b .record-at .ensures .0) _ _ _ _ _ _ d e)
+    search (given-by, fails15-connection (a .file .now) (length (a .file .now) / 24) (a .p) (b .record-at .result) (b .record-at .ensures .0) _ _ _ _ _ _ d e)
 
 pub check15-spec : {M : Type 1} → statement M
 check15-spec =

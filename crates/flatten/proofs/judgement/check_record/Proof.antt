@@ -1,6 +1,6 @@
 -- `check_record`: 15, or a check of crate component.
 -- Assumes nothing.
-use borrow.Author.Tests.{eq-eqb, ne-eqb}
+use borrow.Author.Tests.{ne-eqb}
 use borrow.Author.Needs.{needs}
 use Rattle.flatten.specs.Searches.{failsAt}
 use Rattle.flatten.proofs.judgement.check_record.Statement.{statement}

@@ -1,7 +1,8 @@
 -- `check_records`: the invariant: the first of the records to come that fails is the one to refuse.
 -- Assumes nothing.
 use mathlib.Core.Path.{_≡_}
-use Prim.Native.Nat.{_-_}
+use Prim.Native.Nat.{_-_, _/_}
+use lib.ListN.{length}
 use Rattle.lists.specs.Lists.{from, first}
 use Rattle.component.specs.Record.{recordAt}
 use Rattle.flatten.specs.Searches.{failsAt}
@@ -11,22 +12,21 @@ use Rattle.flatten.proofs.judgement.check_records.Statement.{statement}
 use Rattle.flatten.proofs.judgement.check_records.Tie as tie
 
 abbrev Inv-loop : tie.InvT-loop
-Inv-loop file n children outs lo hi k p₀ p =
-    first (failsAt (recordAt file) n k) (from p (n - p)) ≡ first (failsAt (recordAt file) n k) (from 0 n)
+Inv-loop file index k p₀ p =
+    first (failsAt (recordAt file) (length file / 24) k) (from p (length file / 24 - p)) ≡ first (failsAt (recordAt file) (length file / 24) k) (from 0 (length file / 24))
 
 abbrev μ-loop : tie.MeasureT-loop
-μ-loop file n children outs lo hi k p₀ p = n - p
+μ-loop file index k p₀ p = length file / 24 - p
 
 loop-holds : tie.Need-loop-holds Inv-loop μ-loop
 loop-holds c = search (search-start)
 
 check-record-requires : tie.Need-check-record-requires Inv-loop μ-loop
 check-record-requires c κs =
-    let s = c .before .before .before .before .before .before .before in
-    (s .pre .0, (s .pre .1 .0, s .pre .1 .1 .0))
+    c .before .before .before .before .pre .0
 
-cast-t11 : tie.Need-cast-t11 Inv-loop μ-loop
-cast-t11 c = search needs
+cast-t9 : tie.Need-cast-t9 Inv-loop μ-loop
+cast-t9 c = search needs
 
 returns : tie.Need-returns Inv-loop μ-loop
 returns c = search (search-here)
@@ -51,7 +51,7 @@ check-records-spec =
     μ-loop
     loop-holds
     check-record-requires
-    cast-t11
+    cast-t9
     returns
     add-p
     loop-less

@@ -1,9 +1,9 @@
 -- `judge_records`: the invariant: what the checks still to be made say is the answer.
 -- Assumes nothing.
 use mathlib.Core.Path.{_≡_, refl}
-use Prim.Native.Nat.{_-_, _≤_}
+use Prim.Native.Nat.{_-_, _/_, _≤_}
 use native.Mathlib.Omega.{arith}
-use lib.ListN.{drop}
+use lib.ListN.{length, drop}
 use Rattle.component.specs.Record.{recordAt}
 use Rattle.flatten.specs.Verdict.{checks, judged}
 use Rattle.flatten.proofs.JudgementLaws.{judged-here, judged-next, judged-all}
@@ -12,19 +12,19 @@ use Rattle.flatten.proofs.judgement.judge_records.Statement.{statement}
 use Rattle.flatten.proofs.judgement.judge_records.Tie as tie
 
 abbrev Inv-loop : tie.InvT-loop
-Inv-loop file n children outs lo hi k₀ k =
-    (3 ≤ k) × (k ≤ 16) × (judged n (drop (k - 3) (checks (recordAt file) n)) ≡ judged n (checks (recordAt file) n))
+Inv-loop file index k₀ k =
+    (3 ≤ k) × (k ≤ 16) × (judged (length file / 24) (drop (k - 3) (checks (recordAt file) (length file / 24))) ≡ judged (length file / 24) (checks (recordAt file) (length file / 24)))
 
 abbrev μ-loop : tie.MeasureT-loop
-μ-loop file n children outs lo hi k₀ k = 16 - k
+μ-loop file index k₀ k = 16 - k
 
 loop-holds : tie.Need-loop-holds Inv-loop μ-loop
 loop-holds c = (omega arith, omega arith, refl)
 
 check-records-requires : tie.Need-check-records-requires Inv-loop μ-loop
 check-records-requires c κs =
-    let s = c .before .before .before .before .before .before .before in
-    (s .pre .0, (s .pre .1 .0, (s .pre .1 .1 .0, (c .before .loop .inv .0, s .pre .1 .1 .1))))
+    let s = c .before .before .before .before in
+    (s .pre .0, (c .before .loop .inv .0, s .pre .1))
 
 enum-known-refusal : tie.Need-enum-known-refusal Inv-loop μ-loop
 enum-known-refusal c = search needs

@@ -2,6 +2,9 @@
 -- Assumes nothing.
 use Rattle.load.proofs.WiresLaws.{connect-refused, connect-other, source-number, connect-room, connect-written}
 use Rattle.tables.specs.Words.{wirePlace}
+use mathlib.Core.Path.{refl}
+use Prim.Native.Nat.{_/_}
+use lib.ListN.{length}
 use borrow.Author.Needs.{needs}
 use Rattle.load.proofs.wires.connect.Statement.{statement}
 use Rattle.load.proofs.wires.connect.Tie as tie
@@ -39,12 +42,12 @@ source-of-requires c κs = search needs
 flat-pin-requires : tie.Need-flat-pin-requires
 flat-pin-requires c κs =
     let r = c .before .before .before .before .before .before .before .before .before in
-    let s = r .before .before .before .before .before .before .before .before in (
+    let s = r .before .before .before .before .before in (
       s .pre .0 .indexes,
-      source-number (s .args .file .now) (s .args .n) (s .args .p) _ (r .record-at .ensures .0) _ _ _ _ _ _ (c .before .before .before .before .before .before .before .owner .given .1)
+      source-number (s .args .file .now) (length (s .args .file .now) / 24) (s .args .p) _ (r .record-at .ensures .0) _ _ _ _ _ _ (c .before .before .before .before .before .before .before .owner .given .1)
           (c .before .before .before .before .says .given .1)
           _ _ _ (c .before .deepest .ensures) (c .before .before .child-of .ensures) (c .source-of .ensures)
-          _ _ _ _ (s .pre .0) (s .pre .1 .1 .0),
+          _ _ (s .pre .0) refl (s .pre .1 .0),
     )
 
 cast-child-of-2 : tie.Need-cast-child-of-2
@@ -53,7 +56,7 @@ cast-child-of-2 c = search needs
 child-of-requires-2 : tie.Need-child-of-requires-2
 child-of-requires-2 c κs =
     let r = c .before .before .before .before .before .before .before .before .before .before in
-    r .before .before .before .before .before .before .before .before .pre .0 .children
+    r .before .before .before .before .before .pre .0 .indexed
 
 deepest-requires-2 : tie.Need-deepest-requires-2
 deepest-requires-2 c κs = search needs
@@ -62,16 +65,16 @@ lead-requires : tie.Need-lead-requires
 lead-requires c κs =
     let f = c .before .before .before in
     let r = f .before .before .before .before .before .before .before .before .before .before in
-    let s = r .before .before .before .before .before .before .before .before in (
+    let s = r .before .before .before .before .before in (
       s .pre .0,
       (
         f .flat-pin .ensures .1,
-        connect-room (s .args .file .now) (s .args .n) (s .args .p) _ (r .record-at .ensures .0) _ _ _ _ _ _ (f .before .before .before .before .before .before .before .before .owner .given .1)
+        connect-room (s .args .file .now) (length (s .args .file .now) / 24) (s .args .p) _ (r .record-at .ensures .0) _ _ _ _ _ _ (f .before .before .before .before .before .before .before .before .owner .given .1)
             (f .before .before .before .before .before .says .given .1)
             _ _ _ (f .before .before .deepest .ensures) (f .before .before .before .child-of .ensures)
             (f .before .source-of .ensures)
             _ _ _ (c .before .deepest2 .ensures) (c .before .before .child-of2 .ensures) (f .flat-pin .ensures .0)
-            (s .args .wires .now) (wirePlace (s .args .at)) (s .pre .1 .1 .1),
+            (s .args .wires .now) (wirePlace (s .args .at)) (s .pre .1 .1),
       ),
     )
 
@@ -82,8 +85,8 @@ returns-3 : tie.Need-returns-3
 returns-3 c =
     let f = c .before .before .before .before .before .before in
     let r = f .before .before .before .before .before .before .before .before .before .before in
-    let s = r .before .before .before .before .before .before .before .before in
-    connect-written (s .args .file .now) (s .args .n) (s .args .p) _ (r .record-at .ensures .0) _ _ _ _ _ _ (f .before .before .before .before .before .before .before .before .owner .given .1)
+    let s = r .before .before .before .before .before in
+    connect-written (s .args .file .now) (length (s .args .file .now) / 24) (s .args .p) _ (r .record-at .ensures .0) _ _ _ _ _ _ (f .before .before .before .before .before .before .before .before .owner .given .1)
     (f .before .before .before .before .before .says .given .1)
     _ _ _ (f .before .before .deepest .ensures) (f .before .before .before .child-of .ensures)
     (f .before .source-of .ensures)

@@ -1,7 +1,8 @@
 -- `connect_all`: the wires of the records passed so far are laid.
 -- Assumes nothing.
-use Prim.Native.Nat.{_-_, _≤_}
+use Prim.Native.Nat.{_-_, _/_, _≤_}
 use native.Mathlib.Omega.{arith}
+use lib.ListN.{length}
 use Rattle.component.specs.Record.{recordAt}
 use Rattle.load.specs.Laying.{wiresGiven}
 use Rattle.load.proofs.LayingLaws.{Laid, laid-start, laid-length}
@@ -11,12 +12,12 @@ use Rattle.tables.specs.Words.{wirePlace}
 use Rattle.load.proofs.wires.connect_all.Tie as tie
 
 abbrev Inv-loop : tie.InvT-loop
-Inv-loop file n children outs lo hi indexes wires₀ at₀ p₀ wires at p =
-    (p ≤ n) × Laid (wiresGiven (recordAt file) n) p wires₀ wires (wirePlace at)
+Inv-loop file index indexes wires₀ at₀ p₀ wires at p =
+    (p ≤ length file / 24) × Laid (wiresGiven (recordAt file) (length file / 24)) p wires₀ wires (wirePlace at)
 
 abbrev μ-loop : tie.MeasureT-loop
-μ-loop file n children outs lo hi indexes wires₀ at₀ p₀ wires at p =
-    n - p
+μ-loop file index indexes wires₀ at₀ p₀ wires at p =
+    length file / 24 - p
 
 loop-holds : tie.Need-loop-holds Inv-loop μ-loop
 loop-holds c = (omega arith, laid-start _ _)
@@ -24,14 +25,11 @@ loop-holds c = (omega arith, laid-start _ _)
 connect-requires : tie.Need-connect-requires Inv-loop μ-loop
 connect-requires c κs =
     let l = c .before .before .loop in
-    let s = c .before .before .before .before .before .before .before .before .before .before in (
+    let s = c .before .before .before .before .before .before .before in (
       s .pre .0,
-      (
-        s .pre .1 .0,
-        wires-requires (s .args .file .now) (s .args .n) _ _ _ _ (s .pre .0) (s .args .wires .now) (s .pre .1 .1) (l .p)
-            (l .wires) (l .at) (l .inv .1)
-            (c .before .loop-test .taken),
-      ),
+      wires-requires (s .args .file .now) _ _ (s .pre .0) (s .args .wires .now) (s .pre .1) (l .p)
+          (l .wires) (l .at) (l .inv .1)
+          (c .before .loop-test .taken),
     )
 
 add-p : tie.Need-add-p Inv-loop μ-loop
@@ -44,9 +42,9 @@ loop-again : tie.Need-loop-again Inv-loop μ-loop
 loop-again c =
     let b = c .before .before in
     let l = b .before .before .before .loop in
-    let s = b .before .before .before .before .before .before .before .before .before .before .before in (
+    let s = b .before .before .before .before .before .before .before .before in (
       omega (arith, b .before .before .loop-test .taken),
-      wires-step (s .args .file .now) (s .args .n) _ _ _ _ (s .pre .0) (s .args .wires .now) (s .pre .1 .1) (l .p)
+      wires-step (s .args .file .now) _ _ (s .pre .0) (s .args .wires .now) (s .pre .1) (l .p)
           (l .wires) (l .at) (l .inv .1)
           _ _ (b .connect .ensures),
     )
@@ -57,8 +55,8 @@ same-length c = laid-length _ _ _ _ _ (c .before .loop .inv .1)
 returns : tie.Need-returns Inv-loop μ-loop
 returns c =
     let l = c .before .loop in
-    let s = c .before .before .before .before .before .before .before .before .before in
-    wires-end (s .args .file .now) (s .args .n) _ _ _ _ (s .pre .0) (s .args .wires .now) (s .pre .1 .1) (l .p)
+    let s = c .before .before .before .before .before .before in
+    wires-end (s .args .file .now) _ _ (s .pre .0) (s .args .wires .now) (s .pre .1) (l .p)
     (l .wires) (l .at) (l .inv .1) (omega arith)
 
 pub connect-all-spec : {M : Type 1} → statement M

@@ -6,14 +6,14 @@ use borrow.Author.Needs.{needs}
 use Rattle.load.proofs.wires.flat_pin.Statement.{statement}
 use Rattle.load.proofs.wires.flat_pin.Tie as tie
 
-mul-t6 : tie.Need-mul-t6
-mul-t6 c = search needs
+mul-t5 : tie.Need-mul-t5
+mul-t5 c = search needs
 
-shared-slice-read-t8 : tie.Need-shared-slice-read-t8
-shared-slice-read-t8 c = search needs
+shared-slice-read-t7 : tie.Need-shared-slice-read-t7
+shared-slice-read-t7 c = search needs
 
-cast-t9 : tie.Need-cast-t9
-cast-t9 c = omega (arith, c .shared-slice-known .given (c .before .args .comp))
+cast-t8 : tie.Need-cast-t8
+cast-t8 c = omega (arith, c .shared-slice-known .given (c .before .args .comp))
 
 returns : tie.Need-returns
 returns c =
@@ -23,4 +23,4 @@ returns c =
     )
 
 pub flat-pin-spec : {M : Type 1} → statement M
-flat-pin-spec = tie.close (tie.spec mul-t6 shared-slice-read-t8 cast-t9 returns)
+flat-pin-spec = tie.close (tie.spec mul-t5 shared-slice-read-t7 cast-t8 returns)
