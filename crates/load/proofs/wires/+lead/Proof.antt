@@ -3,6 +3,7 @@
 -- Assumes nothing.
 use mathlib.Core.Logic.{⊎-elim}
 use native.Mathlib.Omega.{arith}
+use Rattle.component.specs.Record.{recordAt}
 use Rattle.load.proofs.WiresLaws.{Leading, lead-bottom, lead-room, lead-here, primitive-number}
 use Rattle.load.proofs.WiresLaws.{leading-start, leading-room, leading-to, leading-nothing, leading-end}
 use Rattle.flatten.proofs.DescentLaws.{stretch-is}
@@ -66,7 +67,7 @@ lead-flat-pin-requires : (t : ℕ)
     → lead-lts.Need-flat-pin-requires (lead-claims t) (lead-at t) lead.Post lead-Inv-loop lead-μ-loop
 lead-flat-pin-requires t c κs =
     let s = c .before .before .before .before .before .before .before .before in (
-      s .pre .1 .0 .indexes,
+      s .pre .1 .0 .indexes .size,
       primitive-number _ _ _ _ _ (s .pre .1 .0)
           (c .before .is-primitive-at .ensures)
           (c .if2 .taken),
@@ -106,7 +107,10 @@ lead-same-length : (t : ℕ) → lead-lts.Need-same-length (lead-claims t) (lead
 lead-same-length t c = search needs
 
 lead-returns-2 : (t : ℕ) → lead-lts.Need-returns-2 (lead-claims t) (lead-at t) lead.Post lead-Inv-loop lead-μ-loop
-lead-returns-2 t c = search (lead-here)
+lead-returns-2 t c =
+    let s = c .before .before .before .before .before .before .before .before .before .before .before .before .before in
+    let e = c .before .before .before .before .flat-pin .ensures .0 (recordAt (s .args .file .now)) (length (s .args .file .now) / 24) (s .pre .1 .0 .indexes) in
+    search (lead-here)
 
 lead-stretch-of-requires : (t : ℕ)
     → lead-lts.Need-stretch-of-requires (lead-claims t) (lead-at t) lead.Post lead-Inv-loop lead-μ-loop
