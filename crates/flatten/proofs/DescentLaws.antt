@@ -17,7 +17,7 @@ use denote.Enum.Declared.{tagOf}
 use Rattle.lists.specs.Lists.{from, any, joined}
 use Rattle.lists.proofs.ListsLaws.{from-step, from-end}
 use Rattle.lists.proofs.MembersLaws.{any-append, any-map, from-append}
-use Rattle.primitive.specs.Kinds.{inputWidth, outputWidth}
+use Rattle.primitive.specs.Kinds.{primitive, inputWidth, outputWidth}
 use Rattle.component.specs.declared.ChildNo.{ChildNo}
 use Rattle.component.specs.declared.Record.{Record}
 use Rattle.component.specs.declared.Says.{Says}
@@ -34,7 +34,7 @@ use Rattle.component.specs.Drawing.{deepest, child, mapsIn, outMap}
 use Rattle.component.specs.Index.{IsIndex, stretchFirst, stretchEnd}
 use Rattle.component.specs.Record.{ownedAs}
 use Rattle.component.proofs.Says.{the-type}
-use Rattle.component.proofs.RecordLaws.{no-connection, no-input-map, no-output-map, refused-is, taken-is, taken-form, unseen-fields, seen-is}
+use Rattle.component.proofs.RecordLaws.{no-connection, no-input-map, no-output-map, refused-is, taken-is, taken-form, unseen-test, unseen-primitive, seen-primitive, seen-is}
 use Rattle.flatten.specs.declared.Pin.{Pin}
 use Rattle.flatten.specs.declared.Lead.{Lead}
 use Rattle.flatten.specs.declared.descent.Entered.{Entered}
@@ -201,21 +201,6 @@ stretch-is s t c a e h ea ee =
 
 -- In a file: record q is r, and b says whether a test holds of it.
 module _ (s : List ℕ) (n : ℕ) where
-  -- the width of a component's ports: no component; a component
-  module _ (c : ℕ) (g : Stands) (e : StandsAs g (recordAt s c)) where
-    pub input-width-none : g ≡ NotSeen → 1 ≡ inputWidth (fieldsOf (recordAt s c))
-    input-width-none h = sym (ap inputWidth (unseen-fields (recordAt s c) g e h))
-
-    pub output-width-none : g ≡ NotSeen → 1 ≡ outputWidth (fieldsOf (recordAt s c))
-    output-width-none h = sym (ap outputWidth (unseen-fields (recordAt s c) g e h))
-
-    module _ (o : ℕ) (i : Id) (f : Fields) (h : g ≡ SeenComponent o i f) where
-      pub input-width-is : (w : ℕ) → w ≡ inputWidth f → w ≡ inputWidth (fieldsOf (recordAt s c))
-      input-width-is w k = k ∙ sym (ap (λ (r : Record). inputWidth (fieldsOf r)) (seen-is (recordAt s c) g e o i f h))
-
-      pub output-width-is : (w : ℕ) → w ≡ outputWidth f → w ≡ outputWidth (fieldsOf (recordAt s c))
-      output-width-is w k = k ∙ sym (ap (λ (r : Record). outputWidth (fieldsOf r)) (seen-is (recordAt s c) g e o i f h))
-
   -- the source: a primitive; a composite whose map is refused, is no output map, is one
   module _ (d c i : ℕ) (b : Bool) (h : d ≡ 0 → ⊥) (p : b ≡ isPrimitive (recordAt s c)) where
     pub source-here : b ≡ true → pin c i ≡ outputBelow (recordAt s) n d c i
@@ -273,19 +258,32 @@ module _ (s : List ℕ) (n : ℕ) where
   pub differs-bottom : (d c i w : ℕ) → d ≡ 0 → false ≡ any (unlike (recordAt s) w) (inputsBelow (recordAt s) n d c i)
   differs-bottom d c i w h = ap (any (unlike (recordAt s) w)) (sym (targets-bottom (recordAt s) n d c i h))
 
-  pub differs-here : (d c i w v : ℕ) (b : Bool) → (d ≡ 0 → ⊥) → b ≡ isPrimitive (recordAt s c) → b ≡ true
-      → v ≡ inputWidth (fieldsOf (recordAt s c)) → not (eqb w v) ≡ any (unlike (recordAt s) w) (inputsBelow (recordAt s) n d c i)
-  differs-here d c i w v b h p t ev =
-      ap (λ (x : ℕ). not (eqb w x)) ev
-      ∙ sym (or-false (not (eqb w (inputWidth (fieldsOf (recordAt s c))))))
-      ∙ ap (any (unlike (recordAt s) w)) (sym (targets-ends (recordAt s) n d c i h (sym p ∙ t)))
+  module _ (d c i w : ℕ) (h : d ≡ 0 → ⊥) (g : Stands) (e : StandsAs g (recordAt s c)) where
+    pub differs-here : (o v : ℕ) (k : Id) (f : Fields) (b : Bool) → g ≡ SeenComponent o k f → b ≡ primitive f → b ≡ true → v ≡ inputWidth f
+        → not (eqb w v) ≡ any (unlike (recordAt s) w) (inputsBelow (recordAt s) n d c i)
+    differs-here o v k f b l p t ev =
+        let z : v ≡ inputWidth (fieldsOf (recordAt s c)) =
+        ev ∙ sym (ap (λ (r : Record). inputWidth (fieldsOf r)) (seen-is (recordAt s c) g e o k f l)) in
+        ap (λ (x : ℕ). not (eqb w x)) z
+        ∙ sym (or-false (not (eqb w (inputWidth (fieldsOf (recordAt s c))))))
+        ∙ ap (any (unlike (recordAt s) w))
+        (sym (targets-ends (recordAt s) n d c i h (sym (seen-primitive (recordAt s c) g e o k f b l p) ∙ t)))
 
-  pub differs-start : (d c i w a e : ℕ) (b : Bool) → (d ≡ 0 → ⊥) → b ≡ isPrimitive (recordAt s c) → b ≡ false
-      → IsStretch (recordAt s) n c a e
-      → any (unlike (recordAt s) w) (joined (given (recordAt s) n (d - 1) c i) (from a (e - a)))
-      ≡ any (unlike (recordAt s) w) (inputsBelow (recordAt s) n d c i)
-  differs-start d c i w a e b h p t z =
-      ap (any (unlike (recordAt s) w)) (sym (targets-stretch (recordAt s) n d c i a e h (sym p ∙ t) z))
+    module _ (a u : ℕ) (z : IsStretch (recordAt s) n c a u) where
+      starts : isPrimitive (recordAt s c) ≡ false
+          → any (unlike (recordAt s) w) (joined (given (recordAt s) n (d - 1) c i) (from a (u - a)))
+          ≡ any (unlike (recordAt s) w) (inputsBelow (recordAt s) n d c i)
+      starts p = ap (any (unlike (recordAt s) w)) (sym (targets-stretch (recordAt s) n d c i a u h p z))
+
+      pub differs-none : g ≡ NotSeen
+          → any (unlike (recordAt s) w) (joined (given (recordAt s) n (d - 1) c i) (from a (u - a)))
+          ≡ any (unlike (recordAt s) w) (inputsBelow (recordAt s) n d c i)
+      differs-none k = starts (sym (unseen-primitive (recordAt s c) g e k))
+
+      pub differs-composite : (o : ℕ) (k : Id) (f : Fields) (b : Bool) → g ≡ SeenComponent o k f → b ≡ primitive f → b ≡ false
+          → any (unlike (recordAt s) w) (joined (given (recordAt s) n (d - 1) c i) (from a (u - a)))
+          ≡ any (unlike (recordAt s) w) (inputsBelow (recordAt s) n d c i)
+      differs-composite o k f b l p t = starts (sym (seen-primitive (recordAt s c) g e o k f b l p) ∙ t)
 
   -- one turn: a target of the map at q differs; none does; the record leads nowhere; and the end
   module _ (d c i w q e : ℕ) (x : Bool)
@@ -348,21 +346,29 @@ module _ (s : List ℕ) (n : ℕ) where
     differing : Lead → Bool
     differing w = not (eqb (outputWidth (fieldsOf (recordAt s (w .src .comp)))) (inputWidth (fieldsOf (recordAt s (w .dst .comp)))))
 
-    fails15-is : any (unlike (recordAt s) (outputWidth (fieldsOf (recordAt s (comesFrom (recordAt s) n p .comp))))) (goesTo (recordAt s) n p)
-        ≡ fails15 (recordAt s) n p
-    unfolding differing
-    fails15-is =
-        sym (any-map differing (λ (x : Pin). record { src = comesFrom (recordAt s) n p; dst = x }) (goesTo (recordAt s) n p))
-        ∙ ap (λ (y : Bool). y && any differing (wiresAt (recordAt s) n p)) (sym (eq-eqb (formOf (recordAt s p)) 2 form-is))
+    module _ (m c : ℕ) (out : Pin) (v : Stands) (ec : c ≡ child (recordAt s) n o (f .0)) (em : m ≡ deepest)
+        (ex : out ≡ outputBelow (recordAt s) n m c a) (ev : StandsAs v (recordAt s (out .comp))) where
+      source-at : recordAt s (out .comp) ≡ recordAt s (comesFrom (recordAt s) n p .comp)
+      source-at = ap (λ (u : Pin). recordAt s (u .comp)) (source-is m c out em ec ex)
 
-    pub fails15-connection : (m c l g w : ℕ) (x : Pin) (y : Bool)
-        → c ≡ child (recordAt s) n o (f .0) → m ≡ deepest → x ≡ outputBelow (recordAt s) n m c a
-        → w ≡ outputWidth (fieldsOf (recordAt s (x .comp)))
-        → g ≡ child (recordAt s) n o (t .0) → l ≡ deepest → y ≡ any (unlike (recordAt s) w) (inputsBelow (recordAt s) n l g b)
-        → y ≡ fails15 (recordAt s) n p
-    fails15-connection m c l g w x y ec em ex ew eg el ey =
-        let z : w ≡ outputWidth (fieldsOf (recordAt s (comesFrom (recordAt s) n p .comp))) =
-        ew ∙ ap (λ (u : Pin). outputWidth (fieldsOf (recordAt s (u .comp)))) (source-is m c x em ec ex) in
-        ey ∙ ap (λ (u : ℕ). any (unlike (recordAt s) u) (inputsBelow (recordAt s) n l g b)) z
-        ∙ ap (any (unlike (recordAt s) (outputWidth (fieldsOf (recordAt s (comesFrom (recordAt s) n p .comp)))))) (targets-are l g el eg)
-        ∙ fails15-is
+      pub fails15-none : v ≡ NotSeen → false ≡ fails15 (recordAt s) n p
+      fails15-none k =
+          let z : eqb (formOf (recordAt s (comesFrom (recordAt s) n p .comp))) 1 ≡ false =
+          ap (λ (r : Record). eqb (formOf r) 1) (sym source-at) ∙ unseen-test (recordAt s (out .comp)) v ev k in
+          rw (eq-eqb (formOf (recordAt s p)) 2 form-is, z)
+
+      pub fails15-connection : (l g w q : ℕ) (i : Id) (fs : Fields) (y : Bool) → v ≡ SeenComponent q i fs → w ≡ outputWidth fs
+          → g ≡ child (recordAt s) n o (t .0) → l ≡ deepest → y ≡ any (unlike (recordAt s) w) (inputsBelow (recordAt s) n l g b)
+          → y ≡ fails15 (recordAt s) n p
+      unfolding differing
+      fails15-connection l g w q i fs y k ew eg el ey =
+          let at-source = sym source-at ∙ seen-is (recordAt s (out .comp)) v ev q i fs k in
+          let z : eqb (formOf (recordAt s (comesFrom (recordAt s) n p .comp))) 1 ≡ true = ap (λ (r : Record). eqb (formOf r) 1) at-source in
+          let width : w ≡ outputWidth (fieldsOf (recordAt s (comesFrom (recordAt s) n p .comp))) =
+          ew ∙ sym (ap (λ (r : Record). outputWidth (fieldsOf r)) at-source) in
+          let there : fails15 (recordAt s) n p ≡ any differing (wiresAt (recordAt s) n p) =
+          rw (eq-eqb (formOf (recordAt s p)) 2 form-is, z) in
+          ey ∙ ap (λ (u : ℕ). any (unlike (recordAt s) u) (inputsBelow (recordAt s) n l g b)) width
+          ∙ ap (any (unlike (recordAt s) (outputWidth (fieldsOf (recordAt s (comesFrom (recordAt s) n p .comp)))))) (targets-are l g el eg)
+          ∙ sym (any-map differing (λ (u : Pin). record { src = comesFrom (recordAt s) n p; dst = u }) (goesTo (recordAt s) n p))
+          ∙ sym there

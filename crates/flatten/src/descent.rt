@@ -2,8 +2,7 @@
 // Source: flatten.rs, `reindex_connections`.
 ghost use mathlib.Core.Path.{_≡_};
 ghost use Rattle.lists.specs.Lists.{any};
-ghost use Rattle.primitive.specs.Kinds.{inputWidth, outputWidth};
-ghost use Rattle.component.specs.Record.{recordAt, recordCount, fieldsOf};
+ghost use Rattle.component.specs.Record.{recordAt, recordCount};
 ghost use Rattle.component.specs.Index.{IsIndex};
 ghost use Rattle.component.specs.Checks.{given};
 ghost use Rattle.flatten.specs.Descent.{outputBelow, inputsBelow, fails15};
@@ -25,26 +24,6 @@ use component::stretch_of;
 pub enum Entered {
     To(usize, u16),
     Nothing,
-}
-
-// The bits of each input of component c; 1 where there is none.
-fn input_width_at(file: &[u8], c: usize) -> u64
-    ensures { λ x. ⌜ x ≡ inputWidth (fieldsOf (recordAt (now (file .entry)) c)) ⌝ }
-{
-    let Stands::Component { fields, .. } = component_at(file, c) else {
-        return 1;
-    };
-    primitive::input_width(fields)
-}
-
-// The bits of each output of component c; 1 where there is none.
-fn output_width_at(file: &[u8], c: usize) -> u64
-    ensures { λ x. ⌜ x ≡ outputWidth (fieldsOf (recordAt (now (file .entry)) c)) ⌝ }
-{
-    let Stands::Component { fields, .. } = component_at(file, c) else {
-        return 1;
-    };
-    primitive::output_width(fields)
 }
 
 // Output i of component c, down through output maps to a primitive's output, with the depth left. Crates flatten and load call
@@ -98,8 +77,10 @@ fn differs(file: &[u8], index: &[u16], depth: u8, c: usize, i: u16, width: u64) 
     if depth == 0 {
         return false;
     }
-    if is_primitive_at(file, c) {
-        return width != input_width_at(file, c);
+    if let Stands::Component { fields, .. } = component_at(file, c) {
+        if primitive::is_primitive(fields) {
+            return width != primitive::input_width(fields);
+        }
     }
     let maps = stretch_of(index, file.len() / 24, c);
     let end = maps.end;
@@ -115,7 +96,7 @@ fn differs(file: &[u8], index: &[u16], depth: u8, c: usize, i: u16, width: u64) 
     false
 }
 
-// 15: a connection yields a wire whose ends differ in width.
+// 15: a connection, whose source is there, yields a wire whose ends differ in width.
 pub(crate) fn check15(file: &[u8], index: &[u16], p: usize) -> u32
     requires { ⌜ IsIndex (now file) (now index) ⌝ }
     ensures { λ r. ⌜ r ≡ given 15 (fails15 (recordAt (now (file .entry))) (recordCount (now (file .entry))) p) ⌝ }
@@ -134,7 +115,10 @@ pub(crate) fn check15(file: &[u8], index: &[u16], p: usize) -> u32
     };
     let start = child_of(file, index, owner as usize, from);
     let source = source_of(file, index, deepest(), start, output);
-    let width = output_width_at(file, source.comp);
+    let Stands::Component { fields, .. } = component_at(file, source.comp) else {
+        return 0;
+    };
+    let width = primitive::output_width(fields);
     let goal = child_of(file, index, owner as usize, to);
     given(15, differs(file, index, deepest(), goal, input, width))
 }

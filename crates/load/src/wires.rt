@@ -1,9 +1,10 @@
 // The wires: from the source of each connection to every primitive input that it leads to. Rule: docs/SPECIFICATION.md, "Flattening".
 // Source: flatten.rs, `reindex_connections`. All functions are handed an accepted drawing and its index.
 ghost use mathlib.Core.Path.{_≡_};
-ghost use Prim.Native.Nat.{_+_, _≤_, _<_};
+ghost use Prim.Native.Nat.{ℕ, _+_, _≤_, _<_};
 ghost use lib.ListN.{length};
 ghost use Rattle.lists.specs.Lists.{joined, overlay};
+ghost use Rattle.component.specs.declared.Record.{Record};
 ghost use Rattle.component.specs.Record.{recordAt, recordCount};
 ghost use Rattle.component.specs.Index.{IsIndex};
 ghost use Rattle.component.specs.declared.Verdict.the-variants.{Accepted};
@@ -35,9 +36,10 @@ struct Goal {
 }
 
 // A port of a component of the drawing as the net has it.
-fn flat_pin(file: &[u8], indexes: &[u16], comp: usize, port: u16) -> End
-    requires { ⌜ IsFlat (recordAt (now file)) (recordCount (now file)) (now indexes) × (comp < 256) ⌝ }
-    ensures { λ r. ⌜ (r ≡ flatPin (recordAt (now (file .entry))) (recordCount (now (file .entry))) (record { comp = comp; port = port })) × (r .comp .0 < 65536) ⌝ }
+fn flat_pin(indexes: &[u16], comp: usize, port: u16) -> End
+    requires { ⌜ (length (now indexes) ≡ 256) × (comp < 256) ⌝ }
+    ensures { λ r. ⌜ ((at : ℕ → Record) (n : ℕ) → IsFlat at n (now (indexes .entry)) → r ≡ flatPin at n (record { comp = comp; port = port }))
+        × (r .comp .0 < 65536) ⌝ }
 {
     End {
         comp: FlatIdx(indexes[comp] as usize),
@@ -66,7 +68,7 @@ fn lead(
         return at;
     }
     if is_primitive_at(file, goal.comp) {
-        let to = flat_pin(file, indexes, goal.comp, goal.port);
+        let to = flat_pin(indexes, goal.comp, goal.port);
         let wire = Wire { src: from, dst: to };
         tables::lay_wire(wires, at, wire);
         return at + 1;
@@ -114,7 +116,7 @@ fn connect(
     };
     let start = child_of(file, index, owner as usize, from);
     let source = source_of(file, index, deepest(), start, output);
-    let flat = flat_pin(file, indexes, source.comp, source.port);
+    let flat = flat_pin(indexes, source.comp, source.port);
     let goal = Goal {
         comp: child_of(file, index, owner as usize, to),
         port: input,

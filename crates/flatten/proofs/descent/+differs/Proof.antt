@@ -10,7 +10,7 @@ use Rattle.lists.specs.Lists.{from, any, joined}
 use Rattle.component.specs.Record.{recordAt}
 use Rattle.flatten.specs.Descent.{inputsBelow}
 use Rattle.flatten.specs.Searches.{unlike}
-use Rattle.flatten.proofs.DescentLaws.{given, stretch-is, differs-bottom, differs-here, differs-start}
+use Rattle.flatten.proofs.DescentLaws.{given, stretch-is, differs-bottom, differs-here, differs-none, differs-composite}
 use Rattle.flatten.proofs.DescentLaws.{differs-found, differs-next, differs-nothing, differs-end}
 use borrow.Author.Needs.{needs}
 use Prim.Native.Nat.{ℕ}
@@ -19,12 +19,14 @@ use borrow.Fn.PlainCycle.{Measures, is, falls, and}
 use Rattle.flatten.proofs.descent.differs.Reads as differs
 use Rattle.flatten.proofs.descent.differs.Kinds as differs-kinds
 use Rattle.flatten.proofs.descent.+differs.Lts-differs as differs-lts
-use Rattle.component.proofs.is_primitive_at.Reads as is-primitive-at-reads
+use Rattle.component.proofs.component_at.Reads as component-at-reads
+use Rattle.primitive.proofs.is_primitive.Reads as is-primitive-reads
+use Rattle.primitive.proofs.input_width.Reads as input-width-reads
 use Rattle.flatten.proofs.descent.enter.Reads as enter-reads
-use Rattle.flatten.proofs.descent.input_width_at.Reads as input-width-at-reads
 use Rattle.component.proofs.stretch_of.Reads as stretch-of-reads
 use Rattle.flatten.proofs.descent.+differs.{statement}
 use Rattle.flatten.proofs.descent.+differs.Tie.{close}
+use Prim.Native.Nat.{ℕ, _<_}
 
 abbrev μ-differs : Measures 2 differs-kinds.ps ℕ
 μ-differs κs a = a .1 .1 .0
@@ -37,10 +39,12 @@ differs-below t = and 2 differs-kinds.ps (falls 2 differs-kinds.ps _<_ μ-differ
 
 abbrev differs-claims : ℕ → differs-lts.Claims
 differs-claims t = (
-  is-primitive-at-reads.Asked,
-  is-primitive-at-reads.Learnt,
-  input-width-at-reads.Asked,
-  input-width-at-reads.Learnt,
+  component-at-reads.Asked,
+  component-at-reads.Learnt,
+  is-primitive-reads.Asked,
+  is-primitive-reads.Learnt,
+  input-width-reads.Asked,
+  input-width-reads.Learnt,
   stretch-of-reads.Asked,
   stretch-of-reads.Learnt,
   enter-reads.Asked,
@@ -60,20 +64,39 @@ differs-μ-loop file index depth c i width end q₀ q = end - q
 differs-returns : (t : ℕ) → differs-lts.Need-returns (differs-claims t) (differs-at t) differs.Post differs-Inv-loop differs-μ-loop
 differs-returns t c = search (differs-bottom)
 
-differs-is-primitive-at-requires : (t : ℕ) → differs-lts.Need-is-primitive-at-requires (differs-claims t) (differs-at t) differs.Post differs-Inv-loop differs-μ-loop
-differs-is-primitive-at-requires t c κs = search needs
+differs-component-at-requires : (t : ℕ) → differs-lts.Need-component-at-requires (differs-claims t) (differs-at t) differs.Post differs-Inv-loop differs-μ-loop
+differs-component-at-requires t c κs = search needs
 
-differs-input-width-at-requires : (t : ℕ) → differs-lts.Need-input-width-at-requires (differs-claims t) (differs-at t) differs.Post differs-Inv-loop differs-μ-loop
-differs-input-width-at-requires t c κs = search needs
+differs-enum-known-fields : (t : ℕ) → differs-lts.Need-enum-known-fields (differs-claims t) (differs-at t) differs.Post differs-Inv-loop differs-μ-loop
+differs-enum-known-fields t c = search needs
+
+differs-is-primitive-requires : (t : ℕ) → differs-lts.Need-is-primitive-requires (differs-claims t) (differs-at t) differs.Post differs-Inv-loop differs-μ-loop
+differs-is-primitive-requires t c κs = search needs
+
+differs-input-width-requires : (t : ℕ) → differs-lts.Need-input-width-requires (differs-claims t) (differs-at t) differs.Post differs-Inv-loop differs-μ-loop
+differs-input-width-requires t c κs = search needs
 
 differs-returns-2 : (t : ℕ) → differs-lts.Need-returns-2 (differs-claims t) (differs-at t) differs.Post differs-Inv-loop differs-μ-loop
 differs-returns-2 t c = search (differs-here)
+
+differs-enum-told : (t : ℕ) → differs-lts.Need-enum-told (differs-claims t) (differs-at t) differs.Post differs-Inv-loop differs-μ-loop
+differs-enum-told t c = search needs
 
 differs-stretch-of-requires : (t : ℕ) → differs-lts.Need-stretch-of-requires (differs-claims t) (differs-at t) differs.Post differs-Inv-loop differs-μ-loop
 differs-stretch-of-requires t c κs = search needs
 
 differs-loop-holds : (t : ℕ) → differs-lts.Need-loop-holds (differs-claims t) (differs-at t) differs.Post differs-Inv-loop differs-μ-loop
-differs-loop-holds t c = search (differs-start, stretch-is)
+differs-loop-holds t c =
+    let d = c .before .before in
+    let s = d .before .before .before .before in
+    let a = s .args in
+    let z = stretch-is (a .file .now) (a .index .now) (a .c) _ _ (s .pre .1) (c .stretch-of .ensures .0) (c .stretch-of .ensures .1) in
+    ⊎-elim
+    (λ w. differs-composite (a .file .now) (length (a .file .now) / 24) (a .depth) (a .c) (a .i) (a .width) (d .before .if1 .left) _ (d .component-at .ensures)
+    _ _ z _ _ _ _ (w .1 .given .1) (w .3 .ensures) (w .4 .left))
+    (λ w. differs-none (a .file .now) (length (a .file .now) / 24) (a .depth) (a .c) (a .i) (a .width) (d .before .if1 .left) _ (d .component-at .ensures)
+    _ _ z (w .1 .given .1))
+    (c .before .match .came)
 
 differs-enter-requires : (t : ℕ) → differs-lts.Need-enter-requires (differs-claims t) (differs-at t) differs.Post differs-Inv-loop differs-μ-loop
 differs-enter-requires t c κs = search needs
@@ -93,8 +116,8 @@ differs-differs-requires t c κs =
 differs-returns-3 : (t : ℕ) → differs-lts.Need-returns-3 (differs-claims t) (differs-at t) differs.Post differs-Inv-loop differs-μ-loop
 differs-returns-3 t c = search (differs-found)
 
-differs-enum-told : (t : ℕ) → differs-lts.Need-enum-told (differs-claims t) (differs-at t) differs.Post differs-Inv-loop differs-μ-loop
-differs-enum-told t c = search needs
+differs-enum-told-2 : (t : ℕ) → differs-lts.Need-enum-told-2 (differs-claims t) (differs-at t) differs.Post differs-Inv-loop differs-μ-loop
+differs-enum-told-2 t c = search needs
 
 differs-add-q : (t : ℕ) → differs-lts.Need-add-q (differs-claims t) (differs-at t) differs.Post differs-Inv-loop differs-μ-loop
 differs-add-q t c = search needs
@@ -103,21 +126,37 @@ differs-loop-less : (t : ℕ) → differs-lts.Need-loop-less (differs-claims t) 
 differs-loop-less t c = search needs
 
 differs-loop-again : (t : ℕ) → differs-lts.Need-loop-again (differs-claims t) (differs-at t) differs.Post differs-Inv-loop differs-μ-loop
-differs-loop-again t c = ⊎-elim (λ w. search (differs-next)) (λ w. search (differs-nothing)) (c .match .came)
+differs-loop-again t c = ⊎-elim (λ w. search (differs-next)) (λ w. search (differs-nothing)) (c .match2 .came)
 
 differs-returns-4 : (t : ℕ) → differs-lts.Need-returns-4 (differs-claims t) (differs-at t) differs.Post differs-Inv-loop differs-μ-loop
 differs-returns-4 t c = search (differs-end)
 
 pub +differs-spec : {M : Type 1} → statement M
-+differs-spec = close μ-differs λ t. differs-lts.spec (differs-claims t)
++differs-spec = close μ-differs λ t. differs-lts.spec (
+  component-at-reads.Asked,
+  component-at-reads.Learnt,
+  is-primitive-reads.Asked,
+  is-primitive-reads.Learnt,
+  input-width-reads.Asked,
+  input-width-reads.Learnt,
+  stretch-of-reads.Asked,
+  stretch-of-reads.Learnt,
+  enter-reads.Asked,
+  enter-reads.Learnt,
+  differs-below t,
+  differs.Post,
+)
     (differs-at t)
     differs.Post
     differs-Inv-loop
     differs-μ-loop
     (differs-returns t)
-    (differs-is-primitive-at-requires t)
-    (differs-input-width-at-requires t)
+    (differs-component-at-requires t)
+    (differs-enum-known-fields t)
+    (differs-is-primitive-requires t)
+    (differs-input-width-requires t)
     (differs-returns-2 t)
+    (differs-enum-told t)
     (differs-stretch-of-requires t)
     (differs-loop-holds t)
     (differs-enter-requires t)
@@ -125,7 +164,7 @@ pub +differs-spec : {M : Type 1} → statement M
     (differs-sub-differs t)
     (differs-differs-requires t)
     (differs-returns-3 t)
-    (differs-enum-told t)
+    (differs-enum-told-2 t)
     (differs-add-q t)
     (differs-loop-less t)
     (differs-loop-again t)

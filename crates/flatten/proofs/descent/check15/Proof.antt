@@ -1,7 +1,7 @@
 -- `check15`: a connection's source has the width that no target may differ from.
 -- Assumes nothing.
 use Rattle.component.proofs.ChecksLaws.{given-passes, given-by}
-use Rattle.flatten.proofs.DescentLaws.{fails15-refused, fails15-other, fails15-connection}
+use Rattle.flatten.proofs.DescentLaws.{fails15-refused, fails15-other, fails15-none, fails15-connection}
 use Prim.Native.Nat.{_/_}
 use lib.ListN.{length}
 use borrow.Author.Needs.{needs}
@@ -40,33 +40,70 @@ deepest-requires c κs = search needs
 source-of-requires : tie.Need-source-of-requires
 source-of-requires c κs = search needs
 
-output-width-at-requires : tie.Need-output-width-at-requires
-output-width-at-requires c κs = search needs
+component-at-requires : tie.Need-component-at-requires
+component-at-requires c κs = search needs
+
+enum-known-fields : tie.Need-enum-known-fields
+enum-known-fields c = search needs
+
+enum-told-2 : tie.Need-enum-told-2
+enum-told-2 c = search needs
+
+-- a connection without a source
+returns-3 : tie.Need-returns-3
+returns-3 c =
+    let at = c .before .before in
+    let source = at .before in
+    let depth = source .before in
+    let child = depth .before in
+    let says = child .before .before in
+    let owner = says .before .before .before in
+    let r = owner .before .before in
+    let a = r .before .before .before .args in
+    given-passes 15 _
+    (fails15-none (a .file .now) (length (a .file .now) / 24) (a .p) (r .record-at .result) (r .record-at .ensures .0) _ _ _ _ _ _
+    (owner .owner .given .1) (says .says .given .1) _ _ _ _ (child .child-of .ensures) (depth .deepest .ensures) (source .source-of .ensures)
+    (at .component-at .ensures) (c .enum-told2 .given .1))
+
+output-width-requires : tie.Need-output-width-requires
+output-width-requires c κs = search needs
 
 cast-child-of-2 : tie.Need-cast-child-of-2
 cast-child-of-2 c = search needs
 
 child-of-requires-2 : tie.Need-child-of-requires-2
-child-of-requires-2 c κs = search needs
+child-of-requires-2 c κs = c .before .before .before .before .before .before .before .before .before .before .before .before .before .before .before .before .before .pre
 
 deepest-requires-2 : tie.Need-deepest-requires-2
 deepest-requires-2 c κs = search needs
 
 differs-requires : tie.Need-differs-requires
-differs-requires c κs =
-    c .before .before .before .before .before .before .before .before .before .before .before .before .before .before .before .pre
+differs-requires c κs = c .before .before .before .before .before .before .before .before .before .before .before .before .before .before .before .before .before .before .before .pre
 
 given-requires : tie.Need-given-requires
 given-requires c κs = search needs
 
--- a connection
-returns-3 : tie.Need-returns-3
-returns-3 c =
-    let b = c .before .before .before .before .before .before .before .before .before .before .before .before .before .before in
-    let a = b .before .before .before .args in
-    let d = c .before .before .before .before .before .before .before .before .before .before .before .before .owner .given .1 in
-    let e = c .before .before .before .before .before .before .before .before .before .says .given .1 in
-    search (given-by, fails15-connection (a .file .now) (length (a .file .now) / 24) (a .p) (b .record-at .result) (b .record-at .ensures .0) _ _ _ _ _ _ d e)
+-- any other connection
+returns-4 : tie.Need-returns-4
+returns-4 c =
+    let differs = c .before in
+    let depth2 = differs .before in
+    let child2 = depth2 .before in
+    let width = child2 .before in
+    let fields = width .before .before in
+    let at = fields .before .before in
+    let source = at .before in
+    let depth = source .before in
+    let child = depth .before in
+    let says = child .before .before in
+    let owner = says .before .before .before in
+    let r = owner .before .before in
+    let a = r .before .before .before .args in
+    given-by 15 _ _ _ (c .given .ensures)
+    (fails15-connection (a .file .now) (length (a .file .now) / 24) (a .p) (r .record-at .result) (r .record-at .ensures .0) _ _ _ _ _ _
+    (owner .owner .given .1) (says .says .given .1) _ _ _ _ (child .child-of .ensures) (depth .deepest .ensures) (source .source-of .ensures)
+    (at .component-at .ensures) _ _ _ _ _ _ _ (fields .fields .given .1)
+    (width .output-width .ensures) (child2 .child-of2 .ensures) (depth2 .deepest2 .ensures) (differs .differs .ensures))
 
 pub check15-spec : {M : Type 1} → statement M
 check15-spec =
@@ -82,10 +119,14 @@ check15-spec =
     child-of-requires
     deepest-requires
     source-of-requires
-    output-width-at-requires
+    component-at-requires
+    enum-known-fields
+    enum-told-2
+    returns-3
+    output-width-requires
     cast-child-of-2
     child-of-requires-2
     deepest-requires-2
     differs-requires
     given-requires
-    returns-3)
+    returns-4)

@@ -3,6 +3,7 @@
 -- Assumes nothing.
 use mathlib.Core.Logic.{⊎-elim}
 use native.Mathlib.Omega.{arith}
+use Rattle.component.specs.Record.{recordAt}
 use Rattle.load.proofs.WiresLaws.{Leading, lead-bottom, lead-room, lead-here, primitive-number}
 use Rattle.load.proofs.WiresLaws.{leading-start, leading-room, leading-to, leading-nothing, leading-end}
 use Rattle.tables.specs.Words.{wirePlace}
@@ -67,7 +68,7 @@ lead-flat-pin-requires : (t : ℕ)
     → lead-lts.Need-flat-pin-requires (lead-claims t) (lead-at t) lead.Post lead-Inv-loop lead-μ-loop
 lead-flat-pin-requires t c κs =
     let s = c .before .before .before .before .before .before .before .before in (
-      s .pre .1 .0 .indexes,
+      s .pre .1 .0 .indexes .size,
       primitive-number _ _ _ _ _ (s .pre .1 .0)
           (c .before .is-primitive-at .ensures)
           (c .if2 .taken),
@@ -108,14 +109,16 @@ lead-same-length t c = search needs
 
 lead-returns-2 : (t : ℕ) → lead-lts.Need-returns-2 (lead-claims t) (lead-at t) lead.Post lead-Inv-loop lead-μ-loop
 lead-returns-2 t c =
+    let s = c .before .before .before .before .before .before .before .before .before .before .before .before .before in
+    let a = s .args in
     let f = c .before .before .before .before in
     let w = f .before in
     let d = w .before .before in
-    let a = d .before .before .before .before .before .before .before .before .args in
-    lead-here (a .file .now) (a .n) (a .goal .depth) (a .goal .comp) (a .goal .port) (a .from) (a .wires .now)
+    let e = f .flat-pin .ensures .0 (recordAt (a .file .now)) (length (a .file .now) / 24) (s .pre .1 .0 .indexes) in
+    lead-here (a .file .now) (length (a .file .now) / 24) (a .goal .depth) (a .goal .comp) (a .goal .port) (a .from) (a .wires .now)
     (wirePlace (a .at)) _
     (d .if1 .left) (w .before .is-primitive-at .ensures) (w .if2 .taken)
-    _ _ (f .flat-pin .ensures .0) (c .before .before .lay-wire .ensures) _ (omega arith)
+    _ _ e (c .before .before .lay-wire .ensures) _ (omega arith)
 
 lead-stretch-of-requires : (t : ℕ)
     → lead-lts.Need-stretch-of-requires (lead-claims t) (lead-at t) lead.Post lead-Inv-loop lead-μ-loop

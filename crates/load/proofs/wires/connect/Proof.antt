@@ -5,6 +5,7 @@ use Rattle.tables.specs.Words.{wirePlace}
 use mathlib.Core.Path.{refl}
 use Prim.Native.Nat.{_/_}
 use lib.ListN.{length}
+use Rattle.component.specs.Record.{recordAt}
 use borrow.Author.Needs.{needs}
 use Rattle.load.proofs.wires.connect.Statement.{statement}
 use Rattle.load.proofs.wires.connect.Tie as tie
@@ -43,7 +44,7 @@ flat-pin-requires : tie.Need-flat-pin-requires
 flat-pin-requires c κs =
     let r = c .before .before .before .before .before .before .before .before .before in
     let s = r .before .before .before .before .before in (
-      s .pre .0 .indexes,
+      s .pre .0 .indexes .size,
       source-number (s .args .file .now) (length (s .args .file .now) / 24) (s .args .p) _ (r .record-at .ensures .0) _ _ _ _ _ _ (c .before .before .before .before .before .before .before .owner .given .1)
           (c .before .before .before .before .says .given .1)
           _ _ _ (c .before .deepest .ensures) (c .before .before .child-of .ensures) (c .source-of .ensures)
@@ -73,7 +74,7 @@ lead-requires c κs =
             (f .before .before .before .before .before .says .given .1)
             _ _ _ (f .before .before .deepest .ensures) (f .before .before .before .child-of .ensures)
             (f .before .source-of .ensures)
-            _ _ _ (c .before .deepest2 .ensures) (c .before .before .child-of2 .ensures) (f .flat-pin .ensures .0)
+            _ _ _ (c .before .deepest2 .ensures) (c .before .before .child-of2 .ensures) (f .flat-pin .ensures .0 (recordAt (s .args .file .now)) (length (s .args .file .now) / 24) (s .pre .0 .indexes))
             (s .args .wires .now) (wirePlace (s .args .at)) (s .pre .1 .1),
       ),
     )
@@ -91,7 +92,7 @@ returns-3 c =
     _ _ _ (f .before .before .deepest .ensures) (f .before .before .before .child-of .ensures)
     (f .before .source-of .ensures)
     _ _ _ (c .before .before .before .before .deepest2 .ensures)
-    (c .before .before .before .before .before .child-of2 .ensures) (f .flat-pin .ensures .0)
+    (c .before .before .before .before .before .child-of2 .ensures) (f .flat-pin .ensures .0 (recordAt (s .args .file .now)) (length (s .args .file .now) / 24) (s .pre .0 .indexes))
     _ _ _ _ (c .before .before .lead .ensures)
 
 pub connect-spec : {M : Type 1} → statement M

@@ -6,21 +6,21 @@ use borrow.Author.Needs.{needs}
 use Rattle.load.proofs.wires.flat_pin.Statement.{statement}
 use Rattle.load.proofs.wires.flat_pin.Tie as tie
 
-mul-t5 : tie.Need-mul-t5
-mul-t5 c = search needs
+mul-t4 : tie.Need-mul-t4
+mul-t4 c = search needs
 
-shared-slice-read-t7 : tie.Need-shared-slice-read-t7
-shared-slice-read-t7 c = search needs
+shared-slice-read-t6 : tie.Need-shared-slice-read-t6
+shared-slice-read-t6 c = search needs
 
-cast-t8 : tie.Need-cast-t8
-cast-t8 c = omega (arith, c .shared-slice-known .given (c .before .args .comp))
+cast-t7 : tie.Need-cast-t7
+cast-t7 c = omega (arith, c .shared-slice-known .given (c .before .args .comp))
 
 returns : tie.Need-returns
 returns c =
     let s = c .before in (
-      ap (λ x. record { comp = record { 0 = x }; port = s .args .port }) (s .pre .0 .word (s .args .comp) (s .pre .1)),
+      λ at n h. ap (λ x. record { comp = record { 0 = x }; port = s .args .port }) (h .word (s .args .comp) (s .pre .1)),
       omega (arith, c .shared-slice-known .given (s .args .comp)),
     )
 
 pub flat-pin-spec : {M : Type 1} → statement M
-flat-pin-spec = tie.close (tie.spec mul-t5 shared-slice-read-t7 cast-t8 returns)
+flat-pin-spec = tie.close (tie.spec mul-t4 shared-slice-read-t6 cast-t7 returns)
