@@ -24,7 +24,7 @@ use Rattle.load.specs.Load.{loadVerdict}
 use Rattle.net.specs.Net.{isNet, netNumber, onNet}
 use Rattle.simulator.specs.declared.Side.{Side}
 use Rattle.simulator.specs.declared.Port.the-variants.{Is as PortIs}
-use Rattle.simulator.specs.Round.{calm}
+use Rattle.rounds.specs.Round.{calm}
 use Rattle.simulator.specs.Calls.{driven, editNumber}
 use Rattle.simulator.specs.Questions.{ofNet, indexFound, portCount, valueAt, valueGives, valueOnNet, listNumber}
 

@@ -3,7 +3,7 @@ ghost use Rattle.tables.specs.Tables.{tablesOf};
 ghost use mathlib.Core.List.{[], _∷_};
 ghost use Rattle.value.specs.Value.{level};
 ghost use Rattle.primitive.specs.Given.{done};
-ghost use Rattle.simulator.specs.Round.{calm};
+ghost use Rattle.rounds.specs.Round.{calm};
 ghost use Rattle.simulator.specs.Questions.{ofNet};
 ghost use Rattle.host.specs.Host.{CallAnswers};
 use crate::answers::lay_calm;

@@ -12,7 +12,7 @@ use Rattle.tables.specs.Tables.{Tables, tablesFilled, currentList}
 use Rattle.load.specs.Load.{loadVerdict, loadTables}
 use Rattle.simulator.specs.declared.Calm.{Calm}
 use Rattle.simulator.specs.declared.Calm.the-variants.{Is as CalmIs, Refused as NoCalm}
-use Rattle.simulator.specs.Round.{calm}
+use Rattle.rounds.specs.Round.{calm}
 use Rattle.simulator.specs.Calls.{roundTables}
 use Rattle.lines.specs.Lines.{ascii, componentsText, wiresText, roundLine, refusedLine}
 
