@@ -13,7 +13,7 @@ use Rattle.tables.specs.Tables.{fullSize, endAt, wiresIn, currentList, followin
 use Rattle.load.specs.Load.{drawingTables, loadVerdict, loadTables}
 use Rattle.load.proofs.FlatWires.{wire}
 use Rattle.net.specs.Net.{countsWithin, kindsObeyed, idsDistinct, portsFollow, valuesFit, constsHeld, wiresFit, inputsOnce, names, isNet, netNumber}
-use Rattle.simulator.specs.Round.{leave, evaluated, send, visit, round, editedState, calm, roundOf}
+use Rattle.rounds.specs.Round.{leave, evaluated, send, visit, round, editedState, calm, roundOf}
 use Rattle.simulator.specs.Calls.{roundTables, editNumber, editTables, run}
 use Rattle.demands.specs.Lamp.{lamp, lampLoaded, lampSet}
 

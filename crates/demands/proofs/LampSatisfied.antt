@@ -20,7 +20,7 @@ use Rattle.flatten.specs.Verdict.{verdict}
 use Rattle.tables.specs.Tables.{Tables, fullSize, currentList, followingList, standingList, named}
 use Rattle.load.specs.Load.{drawingTables, loadVerdict, loadTables}
 use Rattle.net.specs.Net.{countsWithin, kindsObeyed, idsDistinct, portsFollow, valuesFit, constsHeld, wiresFit, inputsOnce, names, isNet, netNumber}
-use Rattle.simulator.specs.Round.{leave, evaluated, send, visit, round, calm, roundOf}
+use Rattle.rounds.specs.Round.{leave, evaluated, send, visit, round, calm, roundOf}
 use Rattle.simulator.specs.Calls.{roundTables, run, runTables}
 use Rattle.demands.specs.Lamp.{lamp, sevens, lampLoaded}
 use Rattle.demands.specs.Reached.{Reached, untilCalm, called}

@@ -27,7 +27,7 @@ use Rattle.simulator.specs.declared.Calm.{Calm}
 use Rattle.simulator.specs.declared.Index.{Index}
 use Rattle.simulator.specs.declared.Port.{Port}
 use Rattle.simulator.specs.declared.Port.the-variants.{Is as PortIs}
-use Rattle.simulator.specs.Round.{calm}
+use Rattle.rounds.specs.Round.{calm}
 use Rattle.simulator.specs.Calls.{driven, editNumber}
 use Rattle.simulator.specs.Questions.{ofNet, calmGives, AsksCalm, indexGives, AsksIndex, AsksValue, indexFound, portCount, valueAt, valueGives, valueOnNet, listNumber}
 

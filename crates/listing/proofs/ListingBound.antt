@@ -27,10 +27,10 @@ use Rattle.load.specs.Load.{loadTables, loadVerdict}
 use Rattle.net.specs.Net.{idsDistinct, netNumber}
 use Rattle.net.proofs.ClausesLaws.{portsFollow-inputs, portsFollow-outputs}
 use Rattle.net.proofs.NetLaws.{netNumber-net, names-existing, names-length}
-use Rattle.simulator.specs.Round.{calm}
+use Rattle.rounds.specs.Round.{calm}
 use Rattle.simulator.specs.Calls.{roundTables}
 use Rattle.simulator.proofs.Kept.{roundTables-net}
-use Rattle.simulator.proofs.Sound.{net-sound, net-within, wire-in}
+use Rattle.rounds.proofs.Sound.{net-sound, net-within, wire-in}
 use Rattle.text.specs.Text.{placeAfter, numeralOf, numeral, spaced}
 use Rattle.lines.specs.Lines.{nameOf, componentLine, wireLine, componentsText, wiresText, roundLine}
 use Rattle.listing.specs.Listing.{fresh, ending, roundLines, listedText, listing}

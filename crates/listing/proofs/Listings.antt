@@ -12,7 +12,7 @@ use Rattle.flatten.specs.Verdict.{verdict}
 use Rattle.tables.specs.Tables.{fullSize}
 use Rattle.load.specs.Load.{drawingTables, loadVerdict, loadTables}
 use Rattle.net.specs.Net.{countsWithin, kindsObeyed, idsDistinct, portsFollow, valuesFit, constsHeld, wiresFit, inputsOnce, names, isNet, netNumber}
-use Rattle.simulator.specs.Round.{leave, evaluated, send, visit, round, calm, roundOf}
+use Rattle.rounds.specs.Round.{leave, evaluated, send, visit, round, calm, roundOf}
 use Rattle.simulator.specs.Calls.{roundTables}
 use Rattle.demands.specs.Lamp.{recordBytes, componentBytes, connectionBytes, lamp, lampTwice}
 use Rattle.text.specs.Text.{numeral}

@@ -18,7 +18,7 @@ use Rattle.tables.specs.Tables.{Tables, currentList, answerGives, countsAfter}
 use Rattle.net.specs.Net.{netNumber}
 use Rattle.simulator.specs.declared.Calm.{Calm}
 use Rattle.simulator.specs.declared.Calm.the-variants.{Is as CalmIs}
-use Rattle.simulator.specs.Round.{calm}
+use Rattle.rounds.specs.Round.{calm}
 use Rattle.simulator.specs.Calls.{roundTables, Rounds}
 use Rattle.simulator.specs.Questions.{AsksCalm}
 use Rattle.simulator.proofs.AnswersLaws.{calmGives-is}

@@ -9,7 +9,7 @@ use Rattle.component.specs.declared.Verdict.{Verdict}
 use Rattle.component.specs.declared.Verdict.the-variants.{Accepted, Refused}
 use Rattle.tables.specs.Tables.{Tables, tablesFilled, currentList}
 use Rattle.load.specs.Load.{loadVerdict, loadTables}
-use Rattle.simulator.specs.Round.{calm}
+use Rattle.rounds.specs.Round.{calm}
 use Rattle.simulator.specs.Calls.{roundTables}
 use Rattle.lines.specs.Lines.{ascii, componentsText, wiresText, roundLine, refusedLine}
 

@@ -5,7 +5,7 @@ use mathlib.Core.Bool.{Bool, true}
 use Rattle.tables.specs.Tables.{Tables}
 use Rattle.simulator.specs.declared.Calm.{Calm}
 use Rattle.simulator.specs.declared.Calm.the-variants.{Is as CalmIs, Refused as NoCalm}
-use Rattle.simulator.specs.Round.{calm}
+use Rattle.rounds.specs.Round.{calm}
 use Rattle.simulator.specs.Calls.{roundTables}
 
 -- Calm or not; a refusal, which a net never gets, ends the rounds.

@@ -5,7 +5,7 @@ ghost use Prim.Native.Nat.{_≤_};
 ghost use lib.ListN.{length};
 ghost use Rattle.tables.specs.Tables.{tablesOf, countsAfter};
 ghost use Rattle.net.specs.Net.{netNumber};
-ghost use Rattle.simulator.specs.Round.{calm};
+ghost use Rattle.rounds.specs.Round.{calm};
 ghost use Rattle.simulator.specs.Calls.{roundTables};
 ghost use Rattle.lines.specs.Lines.{Puts};
 ghost use Rattle.listing.specs.Listing.{fresh, ending, roundLines, listing};

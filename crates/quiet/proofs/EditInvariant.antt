@@ -14,11 +14,11 @@ use Rattle.primitive.specs.Kinds.{is}
 use Rattle.primitive.specs.Evaluate.{outputsAfter}
 use Rattle.tables.specs.declared.Wire.{Wire}
 use Rattle.tables.specs.Tables.{Tables, fieldsAt, firstInput, firstOutput, inputsAt, outputsAt, wiresIn}
-use Rattle.simulator.specs.Round.{State, editedState}
+use Rattle.rounds.specs.Round.{State, editedState}
 use Rattle.simulator.specs.Calls.{driven}
-use Rattle.simulator.proofs.Evaluation.{is-other}
-use Rattle.simulator.proofs.Sound.{Sound}
-use Rattle.simulator.proofs.Held.{Held, Agree}
+use Rattle.rounds.proofs.Evaluation.{is-other}
+use Rattle.rounds.proofs.Sound.{Sound}
+use Rattle.rounds.proofs.Held.{Held, Agree}
 use Rattle.quiet.proofs.Edited.{Editable, driven-none, stood, switched, fed, EditCase, switch, input, edit-case, switch-others, switch-left, input-others, input-left}
 use Rattle.quiet.proofs.Invariant.{clocked, Fits, Awaits, Named, now, next, later, Inv}
 

@@ -8,15 +8,15 @@ use borrow.Author.Tests.{ne-eqb}
 use Rattle.tables.specs.Tables.{Tables, fullSize}
 use Rattle.net.specs.Net.{isNet, netNumber}
 use Rattle.net.proofs.NetLaws.{netNumber-full, netNumber-isNet, netNumber-0}
-use Rattle.simulator.specs.Round.{stateOf, leave, editedState}
+use Rattle.rounds.specs.Round.{stateOf, leave, editedState}
 use Rattle.simulator.specs.Calls.{editNumber, editTables}
 use Rattle.simulator.proofs.EditsLaws.{edit-is-net, edit-there}
-use Rattle.simulator.proofs.Sound.{isNet-wiring}
-use Rattle.simulator.proofs.Held.{Held}
+use Rattle.rounds.proofs.Sound.{isNet-wiring}
+use Rattle.rounds.proofs.Held.{Held}
 use Rattle.simulator.proofs.Kept.{by-number}
 use Rattle.quiet.proofs.Edited.{editNumber-editable, edited-held}
 use Rattle.tables.proofs.SameLaws.{SameWiring, SameLengths, sameWiring-none, sameLengths-none}
-use Rattle.simulator.proofs.Left.{leave-wiring, isNet-held, leave-lengths, fullSize-kept, isNet-kept}
+use Rattle.rounds.proofs.Left.{leave-wiring, isNet-held, leave-lengths, fullSize-kept, isNet-kept}
 
 -- An edit that is not refused: the tables are a net, and it leaves a net of full size.
 module _ (T : Tables) (i v : ℕ) (e : editNumber T i v ≡ 0) where

@@ -21,13 +21,13 @@ use Rattle.primitive.specs.declared.kinds.Kind.the-variants.{Switch, Input, Con
 use Rattle.primitive.specs.Kinds.{is, inputWidth, outputWidth}
 use Rattle.tables.specs.declared.Wire.{Wire}
 use Rattle.tables.specs.Tables.{Tables, fieldsAt, firstInput, firstOutput, numbers, inputsAt, outputsAt, wiresIn}
-use Rattle.simulator.specs.Round.{State, editedState}
+use Rattle.rounds.specs.Round.{State, editedState}
 use Rattle.simulator.specs.Calls.{driven, editNumber}
 use Rattle.simulator.proofs.EditsLaws.{edit-there, edit-settable, edit-fits}
-use Rattle.simulator.proofs.Ports.{Off, off-apart, numbers-cong}
-use Rattle.simulator.proofs.Evaluation.{is-other, const-outputs, switch-outputs, input-inputs}
-use Rattle.simulator.proofs.Sound.{outputCount, inputCount, Sound, output-off, input-off}
-use Rattle.simulator.proofs.Held.{Held}
+use Rattle.rounds.proofs.Ports.{Off, off-apart, numbers-cong}
+use Rattle.rounds.proofs.Evaluation.{is-other, const-outputs, switch-outputs, input-inputs}
+use Rattle.rounds.proofs.Sound.{outputCount, inputCount, Sound, output-off, input-off}
+use Rattle.rounds.proofs.Held.{Held}
 
 pub record Editable (T : Tables) (i v : ℕ) : Type 0 where
   pub exists : i < T .counts .components

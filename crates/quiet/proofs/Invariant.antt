@@ -28,11 +28,11 @@ use Rattle.primitive.specs.Kinds.{is}
 use Rattle.primitive.specs.Evaluate.{outputsAfter}
 use Rattle.tables.specs.declared.Wire.{Wire}
 use Rattle.tables.specs.Tables.{Tables, fieldsAt, firstInput, firstOutput, inputPlace, outputPlace, inputsAt, outputsAt, wiresIn}
-use Rattle.simulator.specs.Round.{State, wiresFrom, turn, evaluated, send, visit, round}
-use Rattle.simulator.proofs.Ports.{Off, sets-at-ne, numbers-set, numbers-sets, numbers-sets-same}
-use Rattle.simulator.proofs.Evaluation.{outputsAfter-time, outputsAfter-twice}
-use Rattle.simulator.proofs.Sound.{outputCount, outputsEnd, Beside, Sound, outputs-beside, outputs-off, inputs-off, input-room, target-unclocked}
-use Rattle.simulator.proofs.Held.{Held, Order, carried, Agree, written, SendCase, agrees, writes, send-case, made, send-held, made-length, evaluated-held, wiresFrom-in}
+use Rattle.rounds.specs.Round.{State, wiresFrom, turn, evaluated, send, visit, round}
+use Rattle.rounds.proofs.Ports.{Off, sets-at-ne, numbers-set, numbers-sets, numbers-sets-same}
+use Rattle.rounds.proofs.Evaluation.{outputsAfter-time, outputsAfter-twice}
+use Rattle.rounds.proofs.Sound.{outputCount, outputsEnd, Beside, Sound, outputs-beside, outputs-off, inputs-off, input-room, target-unclocked}
+use Rattle.rounds.proofs.Held.{Held, Order, carried, Agree, written, SendCase, agrees, writes, send-case, made, send-held, made-length, evaluated-held, wiresFrom-in}
 
 -- Component i is a Clock.
 abbrev pub clocked : Tables → ℕ → Bool

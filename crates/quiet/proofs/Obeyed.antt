@@ -22,11 +22,11 @@ use Rattle.primitive.specs.Evaluate.{functionOf}
 use Rattle.tables.specs.declared.Wire.{Wire}
 use Rattle.tables.specs.Tables.{Tables, fieldsAt, firstOutput, inputPlace, outputPlace, numbers, inputsAt, outputsAt, wiresIn, currentList, followingList, standingList, named}
 use Rattle.net.specs.Net.{netNumber}
-use Rattle.simulator.specs.Round.{stateOf}
-use Rattle.simulator.proofs.Evaluation.{const-outputs, outputsAfter-function, functionOf-const}
-use Rattle.simulator.proofs.Sound.{Sound, net-sound}
-use Rattle.simulator.proofs.Held.{Held, Agree}
-use Rattle.simulator.proofs.Left.{net-held}
+use Rattle.rounds.specs.Round.{stateOf}
+use Rattle.rounds.proofs.Evaluation.{const-outputs, outputsAfter-function, functionOf-const}
+use Rattle.rounds.proofs.Sound.{Sound, net-sound}
+use Rattle.rounds.proofs.Held.{Held, Agree}
+use Rattle.rounds.proofs.Left.{net-held}
 use Rattle.quiet.proofs.Invariant.{clocked, Fits, Awaits, Named, now, next, later}
 use Rattle.quiet.proofs.Since.{Unbroken}
 

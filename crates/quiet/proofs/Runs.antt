@@ -8,7 +8,7 @@ use borrow.Author.Tests.{eq-eqb, lt-ltb, le-ltb}
 use lib.Dec.{ltb}
 use Rattle.tables.specs.Tables.{Tables}
 use Rattle.net.specs.Net.{netNumber}
-use Rattle.simulator.specs.Round.{calm}
+use Rattle.rounds.specs.Round.{calm}
 use Rattle.simulator.specs.Calls.{roundTables, run, runTables}
 use Rattle.tables.proofs.SameLaws.{SameWiring, SameLengths, sameWiring-none, sameWiring-more, sameLengths-none, sameLengths-more}
 use Rattle.simulator.proofs.Kept.{by-number, roundTables-wiring, roundTables-lengths, roundTables-net}

@@ -15,12 +15,12 @@ use Rattle.primitive.specs.Kinds.{is}
 use Rattle.tables.specs.declared.Wire.{Wire}
 use Rattle.tables.specs.Tables.{Tables, fieldsAt, wiresIn, currentList, followingList, standingList}
 use Rattle.net.specs.Net.{netNumber}
-use Rattle.simulator.specs.Round.{State, stateOf, leave, round, editedState as editedState, roundOf}
+use Rattle.rounds.specs.Round.{State, stateOf, leave, round, editedState as editedState, roundOf}
 use Rattle.simulator.specs.Calls.{roundTables, editNumber, editTables}
-use Rattle.simulator.proofs.Sound.{net-sound}
-use Rattle.simulator.proofs.Held.{Order, stored-order}
+use Rattle.rounds.proofs.Sound.{net-sound}
+use Rattle.rounds.proofs.Held.{Order, stored-order}
 use Rattle.quiet.proofs.Edited.{editNumber-editable}
-use Rattle.simulator.proofs.Left.{stateOf-leave, net-held}
+use Rattle.rounds.proofs.Left.{stateOf-leave, net-held}
 use Rattle.simulator.proofs.EditsLaws.{edit-is-net, edit-there}
 use Rattle.simulator.proofs.Kept.{by-number}
 use Rattle.quiet.proofs.Invariant.{Inv, round-inv, start-inv}

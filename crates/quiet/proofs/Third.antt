@@ -15,11 +15,11 @@ use Rattle.lists.proofs.NamesLaws.{appendNew-has, appendNew-kept}
 use Rattle.tables.specs.declared.Wire.{Wire}
 use Rattle.tables.specs.Tables.{Tables, wiresIn, currentList, followingList, standingList}
 use Rattle.net.specs.Net.{netNumber}
-use Rattle.simulator.specs.Round.{State, stateOf, leave, wiresFrom, evaluated, send, visit, round, editedState, roundOf}
+use Rattle.rounds.specs.Round.{State, stateOf, leave, wiresFrom, evaluated, send, visit, round, editedState, roundOf}
 use Rattle.simulator.specs.Calls.{roundTables, editNumber, editTables}
-use Rattle.simulator.proofs.Held.{foldl-keeps, written, SendCase, agrees, writes, send-case}
+use Rattle.rounds.proofs.Held.{foldl-keeps, written, SendCase, agrees, writes, send-case}
 use Rattle.simulator.proofs.EditsLaws.{edit-is-net}
-use Rattle.simulator.proofs.Left.{stateOf-leave}
+use Rattle.rounds.proofs.Left.{stateOf-leave}
 use Rattle.simulator.proofs.Kept.{by-number, roundTables-done, roundTables-net}
 use Rattle.quiet.proofs.EditKept.{editTables-done, editTables-net}
 use Rattle.quiet.proofs.Invariant.{evaluated-standing}

@@ -10,7 +10,7 @@ use Rattle.tables.specs.declared.Answer.the-variants.{Done, Refused}
 use Rattle.tables.specs.declared.Counts.{Counts}
 use Rattle.tables.specs.Tables.{Tables, tablesOf}
 use Rattle.net.specs.Net.{netNumber}
-use Rattle.simulator.specs.Round.{roundOf}
+use Rattle.rounds.specs.Round.{roundOf}
 use Rattle.simulator.specs.Calls.{roundTables, Rounds}
 
 -- The tables with other counts.

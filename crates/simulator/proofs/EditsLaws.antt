@@ -22,14 +22,14 @@ use Rattle.tables.specs.Tables.{Tables, tablesOf, fieldsAt, firstInput, firstOu
 use Rattle.tables.specs.Words.{fieldsIn, firstInputIn, firstOutputIn}
 use Rattle.net.specs.Net.{netNumber}
 use Rattle.net.proofs.NetLaws.{netNumber-net, netNumber-sizes}
-use Rattle.simulator.specs.Round.{leave, editedState}
+use Rattle.rounds.specs.Round.{leave, editedState}
 use Rattle.simulator.specs.Calls.{driven, editNumber, editTables, Edits}
 use Rattle.simulator.specs.declared.questions.Tip.the-variants.{Target}
 use Rattle.simulator.specs.Asked.{ends, editRefusal}
 use Rattle.simulator.proofs.EndsLaws.{driven-ends}
-use Rattle.simulator.proofs.Evaluation.{switch-outputs, input-inputs}
-use Rattle.simulator.proofs.Sound.{net-sound, net-within, current-in, following-in}
-use Rattle.simulator.proofs.StepsLaws.{append-room}
+use Rattle.rounds.proofs.Evaluation.{switch-outputs, input-inputs}
+use Rattle.rounds.proofs.Sound.{net-sound, net-within, current-in, following-in}
+use Rattle.rounds.proofs.StepsLaws.{append-room}
 use Rattle.simulator.proofs.QuestionsLaws.{number-refused, number-net, number-passed}
 
 -- On a net: 17; then, of a component that is a Switch or not (s), an Input or not (q), driven or not (d), 18; then, of

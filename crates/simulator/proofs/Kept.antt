@@ -11,12 +11,12 @@ use Rattle.tables.specs.declared.Wire.{Wire}
 use Rattle.tables.specs.Tables.{Tables, fullSize, wiresIn}
 use Rattle.net.specs.Net.{isNet, netNumber}
 use Rattle.net.proofs.NetLaws.{netNumber-full, netNumber-isNet, netNumber-0}
-use Rattle.simulator.specs.Round.{stateOf, leave, round, roundOf}
+use Rattle.rounds.specs.Round.{stateOf, leave, round, roundOf}
 use Rattle.simulator.specs.Calls.{after, roundTables}
-use Rattle.simulator.proofs.Sound.{Sound, isNet-wiring}
-use Rattle.simulator.proofs.Held.{Held, Order, stored-order, round-held}
+use Rattle.rounds.proofs.Sound.{Sound, isNet-wiring}
+use Rattle.rounds.proofs.Held.{Held, Order, stored-order, round-held}
 use Rattle.tables.proofs.SameLaws.{SameWiring, SameLengths, sameWiring-none, sameLengths-none}
-use Rattle.simulator.proofs.Left.{leave-wiring, isNet-held, leave-lengths, fullSize-kept, isNet-kept}
+use Rattle.rounds.proofs.Left.{leave-wiring, isNet-held, leave-lengths, fullSize-kept, isNet-kept}
 
 -- On a net of full size.
 module _ (T : Tables) (full : fullSize T ≡ true) (net : isNet T ≡ true) where

@@ -1,14 +1,7 @@
 pub mod EndsLaws
 pub mod QuestionsLaws
 pub mod EditsLaws
-pub mod Ports
-pub mod Evaluation
-pub mod Sound
-pub mod Held
-pub mod Left
 pub mod Kept
-pub mod StepsLaws
-pub mod RoundLaws
 pub mod CallsLaws
 pub mod RunLaws
 pub mod AnswersLaws

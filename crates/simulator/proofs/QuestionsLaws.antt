@@ -30,12 +30,12 @@ use Rattle.simulator.specs.declared.Port.{Port}
 use Rattle.simulator.specs.declared.Port.the-variants.{Refused as NoPort}
 use Rattle.simulator.specs.declared.Listed.{Listed}
 use Rattle.simulator.specs.declared.Listed.the-variants.{Count, Refused as NotListed}
-use Rattle.simulator.specs.Round.{calm}
+use Rattle.rounds.specs.Round.{calm}
 use Rattle.simulator.specs.Questions.{ofNet, AsksCalm, indexGives, indexFound, AsksIndex, valueGives, valueOnNet, AsksValue, listNumber, Listing, AsksSources, AsksTargets}
 use Rattle.simulator.specs.declared.questions.Tip.{Tip}
 use Rattle.simulator.specs.declared.questions.Tip.the-variants.{Source, Target}
 use Rattle.simulator.specs.Asked.{endOf, met, RowRight}
-use Rattle.simulator.proofs.Sound.{net-sound, wire-in}
+use Rattle.rounds.proofs.Sound.{net-sound, wire-in}
 use Rattle.simulator.proofs.EndsLaws.{sources-met, targets-met}
 
 -- A call that checks 2 and 16 first: their number, or m, the number of the rest.

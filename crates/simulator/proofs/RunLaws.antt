@@ -22,10 +22,10 @@ use Rattle.tables.specs.Tables.{Tables, currentList, countWords}
 use Rattle.tables.specs.Words.{fieldsIn}
 use Rattle.net.specs.Net.{netNumber}
 use Rattle.simulator.specs.declared.Ran.the-variants.{Done as RanOut, Refused as NotRun}
-use Rattle.simulator.specs.Round.{calm, roundOf}
+use Rattle.rounds.specs.Round.{calm, roundOf}
 use Rattle.simulator.specs.Calls.{roundTables, Run, onceMore, run, runTables, Runs}
 use Rattle.simulator.proofs.Kept.{roundTables-done, roundTables-net}
-use Rattle.simulator.proofs.Sound.{current-in}
+use Rattle.rounds.proofs.Sound.{current-in}
 use Rattle.simulator.proofs.CallsLaws.{counted, call-refused, call-made}
 
 abbrev pub onTop : ℕ → ℕ → Run → Run

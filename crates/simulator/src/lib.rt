@@ -1,8 +1,10 @@
-// Rounds, edits and questions over lent tables. Rules: docs/SPECIFICATION.md, "Rounds" and "Numbers given back". Source: simulator.rs.
+// Rounds, edits and questions as calls over lent tables. Rules: docs/SPECIFICATION.md, "Rounds" and "Numbers given back". Source: simulator.rs.
+mod calls;
 mod edits;
 mod questions;
-mod rounds;
 
+pub use calls::round;
+pub use calls::run_until_calm;
 pub use edits::edit;
 use primitive::Refusal;
 pub use questions::index_of;
@@ -10,8 +12,6 @@ pub use questions::is_calm;
 pub use questions::sources_of;
 pub use questions::targets_of;
 pub use questions::value_of;
-pub use rounds::round;
-pub use rounds::run_until_calm;
 use tables::Counts;
 use tables::FlatIdx;
 use value::Value;

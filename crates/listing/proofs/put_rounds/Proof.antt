@@ -6,7 +6,7 @@ use native.Mathlib.Omega.{arith}
 use lib.ListN.{length}
 use Rattle.tables.specs.Tables.{tablesOf}
 use Rattle.net.specs.Net.{netNumber}
-use Rattle.simulator.proofs.Sound.{current-in}
+use Rattle.rounds.proofs.Sound.{current-in}
 use Rattle.simulator.proofs.RunLaws.{test-going, test-below}
 use Rattle.text.proofs.TextLaws.{ToCome}
 use Rattle.listing.specs.Listing.{roundLines}

@@ -4,7 +4,7 @@ use mathlib.Core.Path.{_≡_, sym, _∙_}
 use native.Mathlib.Omega.{arith}
 use Rattle.tables.specs.Tables.{Tables, tablesOf}
 use Rattle.simulator.specs.Calls.{editNumber}
-use Rattle.simulator.proofs.Sound.{standing-in}
+use Rattle.rounds.proofs.Sound.{standing-in}
 use Rattle.simulator.proofs.EditsLaws.{edit-index, edit-output, edit-input, edit-is-net, edit-room, edit-kept, edit-made}
 use borrow.Author.Needs.{needs}
 use Rattle.simulator.proofs.edits.edit.Statement.{statement}

@@ -3,7 +3,7 @@
 use mathlib.Core.Path.{_≡_, sym, _∙_}
 use Rattle.tables.specs.Tables.{Tables, tablesOf}
 use Rattle.net.specs.Net.{netNumber}
-use Rattle.simulator.proofs.Sound.{current-in}
+use Rattle.rounds.proofs.Sound.{current-in}
 use Rattle.simulator.proofs.QuestionsLaws.{calm-refused, calm-is}
 use borrow.Author.Needs.{needs}
 use Rattle.simulator.proofs.questions.is_calm.Statement.{statement}

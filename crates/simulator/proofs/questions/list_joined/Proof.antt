@@ -6,7 +6,7 @@ use Prim.Native.Nat.{ℕ}
 use Rattle.tables.specs.Tables.{Tables, tablesOf}
 use Rattle.simulator.specs.Questions.{listNumber}
 use Rattle.simulator.specs.Asked.{met}
-use Rattle.simulator.proofs.Sound.{net-within}
+use Rattle.rounds.proofs.Sound.{net-within}
 use Rattle.simulator.proofs.QuestionsLaws.{net-end, list-full, list-net, joined-refused, joined-listed}
 use borrow.Author.Needs.{needs}
 use Rattle.simulator.proofs.questions.list_joined.Statement.{statement}

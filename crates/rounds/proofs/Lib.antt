@@ -1,0 +1,7 @@
+pub mod Ports
+pub mod Evaluation
+pub mod Sound
+pub mod Held
+pub mod Left
+pub mod StepsLaws
+pub mod RoundLaws

@@ -1,0 +1,132 @@
+-- `net_round`: a net gives what each step requires; the lists that were copied out are those of the tables.
+-- Assumes nothing.
+use mathlib.Core.Path.{_∙_}
+use native.Mathlib.Omega.{arith}
+use Rattle.tables.specs.Tables.{Tables, tablesOf}
+use Rattle.net.proofs.NetLaws.{netNumber-sizes}
+use Rattle.rounds.proofs.Sound.{net-within}
+use Rattle.rounds.proofs.RoundLaws.{net-runs, net-current, net-copied, copy-list, round-made}
+use borrow.Author.Needs.{needs}
+use Rattle.rounds.proofs.net_round.Statement.{statement}
+use Rattle.rounds.proofs.net_round.Tie as tie
+
+-- The tables that came in.
+abbrev came : tie.Start → Tables
+came s =
+    tablesOf (s .args .components .now) (s .args .inputs .now) (s .args .outputs .now) (s .args .wires .now)
+    (s .args .current .now)
+    (s .args .following .now) (s .args .standing .now) (s .args .counts)
+
+slice-aggregate-copy : tie.Need-slice-aggregate-copy
+slice-aggregate-copy c = search needs
+
+copy-requires : tie.Need-copy-requires
+copy-requires c κs =
+    let s = c .before .before .before .before .before .before .before .before .before in
+    let w = net-within (came s) (s .pre) in
+    let f = netNumber-sizes (came s) (s .pre) in
+    (omega (arith, w .following, f .following), omega (arith, w .following))
+
+slice-aggregate-copy-2 : tie.Need-slice-aggregate-copy-2
+slice-aggregate-copy-2 c = search needs
+
+copy-requires-2 : tie.Need-copy-requires-2
+copy-requires-2 c κs =
+    let s = c .before .before .before .before .before .before .before .before .before .before .before .before .before in
+    let w = net-within (came s) (s .pre) in
+    let f = netNumber-sizes (came s) (s .pre) in
+    (omega (arith, w .standing, f .standing), omega (arith, w .standing))
+
+slice-aggregate-visit-all : tie.Need-slice-aggregate-visit-all
+slice-aggregate-visit-all c = search needs
+
+slice-aggregate-visit-all-2 : tie.Need-slice-aggregate-visit-all-2
+slice-aggregate-visit-all-2 c = search needs
+
+visit-all-requires : tie.Need-visit-all-requires
+visit-all-requires c κs =
+    let at-copy2 = c .before .before .before .before .before .before in
+    let at-copy = at-copy2 .before .before .before .before in
+    let s = at-copy .before .before .before .before .before .before .before .before .before .before in
+    let w = net-within (came s) (s .pre) in (
+      net-runs (came s) (s .pre),
+      net-current (came s) (s .pre),
+      net-copied (came s) (s .pre) _ _ (omega (arith, at-copy .copy .kept .1 .1 .0)) (at-copy .copy .ensures),
+      omega (arith, w .standing, at-copy2 .copy2 .kept .1 .1 .0),
+    )
+
+slice-aggregate-end-round : tie.Need-slice-aggregate-end-round
+slice-aggregate-end-round c = search needs
+
+slice-aggregate-end-round-2 : tie.Need-slice-aggregate-end-round-2
+slice-aggregate-end-round-2 c = search needs
+
+end-round-requires : tie.Need-end-round-requires
+end-round-requires c κs =
+    let at-visit-all = c .before .before .before .before .before .before .before .before .before .before .before in
+    let at-copy2 = at-visit-all .before .before .before .before .before .before .before in
+    let at-copy = at-copy2 .before .before .before .before in
+    let s = at-copy .before .before .before .before .before .before .before .before .before .before in
+    let f = netNumber-sizes (came s) (s .pre) in
+    let v = at-visit-all .visit-all in
+    let n = v .kept .1 .1 .1 .1 .1 .0 ∙ at-copy .copy .kept .1 .1 .0 in
+    let l = v .kept .1 .1 .1 .1 .1 .1 .0 ∙ at-copy2 .copy2 .kept .1 .1 .0 in (
+      v .ensures .following,
+      v .ensures .standing,
+      omega (arith, v .ensures .following, n, f .current),
+      omega (arith, v .ensures .standing, l, f .following),
+      omega (arith, v .ensures .standing, l, f .standing),
+    )
+
+same-length : tie.Need-same-length
+same-length c = search needs
+
+same-length-2 : tie.Need-same-length-2
+same-length-2 c = search needs
+
+same-length-3 : tie.Need-same-length-3
+same-length-3 c = search needs
+
+same-length-4 : tie.Need-same-length-4
+same-length-4 c = search needs
+
+same-length-5 : tie.Need-same-length-5
+same-length-5 c = search needs
+
+returns : tie.Need-returns
+returns c =
+    let at-end-round = c .before .before .before .before .before .before in
+    let at-visit-all =
+    at-end-round .before .before .before .before .before .before .before .before .before .before .before .before in
+    let at-copy2 = at-visit-all .before .before .before .before .before .before .before in
+    let at-copy = at-copy2 .before .before .before .before in
+    let s = at-copy .before .before .before .before .before .before .before .before .before .before in
+    let w = net-within (came s) (s .pre) in
+    let f = netNumber-sizes (came s) (s .pre) in
+    round-made (came s) (s .args .time) _ _ _ _ _ _ _ _ _ (at-visit-all .visit-all .result) _
+    (copy-list (s .args .counts .following) (s .args .following .now) _ _ (omega (arith, w .following, f .following))
+    (at-copy .copy .ensures))
+    (copy-list (s .args .counts .standing) (s .args .standing .now) _ _ (omega (arith, w .standing, f .standing))
+    (at-copy2 .copy2 .ensures))
+    (at-visit-all .visit-all .ensures .state) (at-end-round .end-round .ensures)
+
+pub net-round-spec : {M : Type 1} → statement M
+net-round-spec =
+    tie.close
+    (tie.spec
+    slice-aggregate-copy
+    copy-requires
+    slice-aggregate-copy-2
+    copy-requires-2
+    slice-aggregate-visit-all
+    slice-aggregate-visit-all-2
+    visit-all-requires
+    slice-aggregate-end-round
+    slice-aggregate-end-round-2
+    end-round-requires
+    same-length
+    same-length-2
+    same-length-3
+    same-length-4
+    same-length-5
+    returns)

@@ -1,0 +1,111 @@
+-- `send_along`: both ends stand in the tables; where the numbers agree nothing is done, where they differ the input is
+-- written and the list of names has room for the target.
+-- Assumes nothing.
+use mathlib.Core.Path.{_≡_, refl, ap}
+use mathlib.Core.List.{[]}
+use Prim.Native.Nat.{ℕ, _+_}
+use native.Mathlib.Omega.{arith}
+use Rattle.tables.specs.Tables.{Tables, inputPlace, outputPlace}
+use Rattle.tables.specs.Words.{uncounted}
+use Rattle.rounds.proofs.StepsLaws.{send-agrees, send-writes}
+use borrow.Author.Needs.{needs}
+use Rattle.rounds.proofs.send_along.Statement.{statement}
+use Rattle.rounds.proofs.send_along.Tie as tie
+
+abbrev T : tie.Start → Tables
+T s = uncounted (s .args .components .now) []
+
+-- Where the ends of the wire stand.
+source-place : (c : tie.After-first-output) →
+    let s = c .before .before .before .before .before in
+    c .first-output .result + s .args .wire .src .port ≡ outputPlace (T s) (s .args .wire .src)
+source-place c = ap (λ (x : ℕ). x + c .before .before .before .before .before .args .wire .src .port) (c .first-output .ensures)
+
+target-place : (c : tie.After-first-input) →
+    let s = c .before .before .before .before .before .before .before in
+    c .first-input .result + s .args .wire .dst .port ≡ inputPlace (T s) (s .args .wire .dst)
+target-place c = ap (λ (x : ℕ). x + c .before .before .before .before .before .before .before .args .wire .dst .port) (c .first-input .ensures)
+
+first-output-requires : tie.Need-first-output-requires
+first-output-requires c κs = search needs
+
+cast-source : tie.Need-cast-source
+cast-source c = search needs
+
+add-source : tie.Need-add-source
+add-source c = omega (arith, c .before .before .before .before .before .before .pre .source, source-place (c .before))
+
+first-input-requires : tie.Need-first-input-requires
+first-input-requires c κs = search needs
+
+cast-target : tie.Need-cast-target
+cast-target c = search needs
+
+add-target : tie.Need-add-target
+add-target c = omega (arith, c .before .before .before .before .before .before .before .before .pre .target, target-place (c .before))
+
+word-requires : tie.Need-word-requires
+word-requires c κs = search needs
+
+word-requires-2 : tie.Need-word-requires-2
+word-requires-2 c κs = search needs
+
+same-length : tie.Need-same-length
+same-length c = search needs
+
+returns : tie.Need-returns
+returns c =
+    let s = c .before .before .before .before .before .before .before .before .before .before .before .before in
+    let a = s .args in
+    send-agrees (T s) (a .inputs .now) (a .outputs .now) (a .following .now) (a .count) (a .wire) _ _ _ _
+    (source-place (c .before .before .before .before .before .before .before)) (target-place (c .before .before .before .before .before))
+    (c .before .before .before .word .ensures) (c .before .word2 .ensures) (c .if1 .taken) (s .pre .count)
+
+mul-inputs : tie.Need-mul-inputs
+mul-inputs c = omega (arith, c .before .before .before .before .before .before .before .before .before .before .before .before .pre .target, target-place (c .before .before .before .before .before))
+
+slice-write-inputs : tie.Need-slice-write-inputs
+slice-write-inputs c = omega (arith, c .before .before .before .before .before .before .before .before .before .before .before .before .pre .target, target-place (c .before .before .before .before .before))
+
+cast-append-new : tie.Need-cast-append-new
+cast-append-new c = omega (arith, c .before .before .before .before .before .before .before .before .before .before .before .before .before .pre .few)
+
+append-new-requires : tie.Need-append-new-requires
+append-new-requires c κs = let p = c .before .before .before .before .before .before .before .before .before .before .before .before .before .pre in (p .count, p .room)
+
+same-length-2 : tie.Need-same-length-2
+same-length-2 c = search needs
+
+same-length-3 : tie.Need-same-length-3
+same-length-3 c = search needs
+
+returns-2 : tie.Need-returns-2
+returns-2 c =
+    let s = c .before .before .before .before .before .before .before .before .before .before .before .before .before .before .before .before in
+    let a = s .args in
+    send-writes (T s) (a .inputs .now) (a .outputs .now) (a .following .now) (a .count) (a .wire) _ _ _ _
+    (source-place (c .before .before .before .before .before .before .before .before .before .before .before)) (target-place (c .before .before .before .before .before .before .before .before .before))
+    (c .before .before .before .before .before .before .before .word .ensures) (c .before .before .before .before .before .word2 .ensures) (c .before .before .before .before .if1 .left) _ _ _ refl
+    (c .before .before .append-new .ensures .0) (c .before .before .append-new .ensures .1)
+
+pub send-along-spec : {M : Type 1} → statement M
+send-along-spec =
+    tie.close
+    (tie.spec
+    first-output-requires
+    cast-source
+    add-source
+    first-input-requires
+    cast-target
+    add-target
+    word-requires
+    word-requires-2
+    same-length
+    returns
+    mul-inputs
+    slice-write-inputs
+    cast-append-new
+    append-new-requires
+    same-length-2
+    same-length-3
+    returns-2)

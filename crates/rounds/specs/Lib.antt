@@ -1,0 +1,2 @@
+pub mod Round
+pub mod Steps

@@ -1,0 +1,273 @@
+// A round of a net: each component of the current list evaluated, its wires sent, and the lists turned. Rule:
+// docs/SPECIFICATION.md, "Rounds". Source: simulator.rs, one pass of the loop in `start`, as with `keep_running` true.
+// Each step is the definition of the same name in specs/Round.antt.
+ghost use mathlib.Core.Path.{_≡_};
+ghost use mathlib.Core.List.{[], foldl};
+ghost use Prim.Native.Nat.{_≤_, _<_};
+ghost use lib.ListN.{length, take};
+ghost use Rattle.tables.specs.Tables.{tablesOf, wiresIn};
+ghost use Rattle.tables.specs.Words.{uncounted};
+ghost use Rattle.net.specs.Net.{netNumber};
+ghost use Rattle.rounds.specs.Round.{wiresFrom, turn, leave, send, evaluated, visit, roundOf};
+ghost use Rattle.rounds.specs.Steps.{wiring, stateAt, CanEvaluate, CanSend, CanRun, ListFits, Step, Visited};
+use primitive::Kind;
+use tables::Counts;
+use tables::Wire;
+
+// How many entries of the following and the standing list are in use.
+struct Sizes {
+    following: usize,
+    standing: usize,
+}
+
+// One wire: if output and input differ, writes the input and appends the target to the following list unless there. The answer is
+// the list's new count.
+fn send_along(
+    components: &[u64],
+    inputs: &mut [u64],
+    outputs: &[u64],
+    following: &mut [u16],
+    count: usize,
+    wire: Wire,
+) -> usize
+    requires { ⌜ CanSend (uncounted (now components) []) (now inputs) (now outputs) count (now following) wire ⌝ }
+    ensures { λ r. ⌜ Step r (now (following .exit)) (stateAt (now (inputs .exit)) (now (outputs .entry)) (take r (now (following .exit))) [])
+        (send (uncounted (now (components .entry)) []) (stateAt (now (inputs .entry)) (now (outputs .entry))
+        (take count (now (following .entry))) []) wire) ⌝ }
+{
+    let to = wire.dst.comp.0;
+    let source = tables::first_output(components, wire.src.comp.0) + wire.src.port as usize;
+    let target = tables::first_input(components, to) + wire.dst.port as usize;
+    let number = tables::word(outputs, source);
+    if number == tables::word(inputs, target) {
+        return count;
+    }
+    inputs[target] = number;
+    tables::append_new(following, count, to as u16)
+}
+
+// All wires of component i, in stored order. The answer is the following list's new count.
+fn send_wires(
+    components: &[u64],
+    wires: &[u16],
+    inputs: &mut [u64],
+    outputs: &[u64],
+    following: &mut [u16],
+    count: usize,
+    counts: Counts,
+    i: usize,
+) -> usize
+    requires { ⌜ CanRun (wiring (now components) (now wires) counts) (now inputs) (now outputs)
+        × ListFits (wiring (now components) (now wires) counts) count (now following) ⌝ }
+    ensures { λ r. ⌜ Step r (now (following .exit)) (stateAt (now (inputs .exit)) (now (outputs .entry)) (take r (now (following .exit))) [])
+        (foldl (send (wiring (now (components .entry)) (now (wires .entry)) counts))
+        (stateAt (now (inputs .entry)) (now (outputs .entry)) (take count (now (following .entry))) [])
+        (wiresFrom i (wiresIn (wiring (now (components .entry)) (now (wires .entry)) counts)))) ⌝ }
+{
+    let mut filled = count;
+    let mut k: usize = 0;
+    while k < counts.wires {
+        let wire = tables::wire_at(wires, k);
+        if wire.src.comp.0 == i {
+            filled = send_along(components, inputs, outputs, following, filled, wire);
+        }
+        k += 1;
+    }
+    filled
+}
+
+// Evaluates component i in the tables of ports and, unless it is a Clock, strikes it from the standing list. The answer is that
+// list's new count.
+fn evaluate_at(
+    components: &[u64],
+    inputs: &[u64],
+    outputs: &mut [u64],
+    standing: &mut [u16],
+    count: usize,
+    i: usize,
+    time: u64,
+) -> usize
+    requires { ⌜ (count ≤ length (now standing)) × CanEvaluate (uncounted (now components) []) (now inputs) (now outputs) i ⌝ }
+    ensures { λ r. ⌜ Step r (now (standing .exit)) (stateAt (now (inputs .entry)) (now (outputs .exit)) [] (take r (now (standing .exit))))
+        (evaluated (uncounted (now (components .entry)) []) time i (stateAt (now (inputs .entry)) (now (outputs .entry)) []
+        (take count (now (standing .entry))))) ⌝ }
+{
+    let f = tables::fields_at(components, i);
+    let input = tables::first_input(components, i);
+    let output = tables::first_output(components, i);
+    let input_end = input + f.inputs as usize;
+    let output_end = output + f.outputs as usize;
+    primitive::update(
+        f,
+        &inputs[input..input_end],
+        &mut outputs[output..output_end],
+        time,
+    );
+    if tables::is_kind(components, i, Kind::Clock) {
+        return count;
+    }
+    tables::strike(standing, count, i as u16)
+}
+
+// One component of the current list: evaluated, then each of its wires. The answer is the new counts of the two lists.
+fn visit(
+    components: &[u64],
+    wires: &[u16],
+    inputs: &mut [u64],
+    outputs: &mut [u64],
+    following: &mut [u16],
+    standing: &mut [u16],
+    counts: Counts,
+    sizes: Sizes,
+    i: usize,
+    time: u64,
+) -> Sizes
+    requires { ⌜ CanRun (wiring (now components) (now wires) counts) (now inputs) (now outputs)
+        × ListFits (wiring (now components) (now wires) counts) (sizes .following) (now following) × (sizes .standing ≤ length (now standing))
+        × (i < counts .components) ⌝ }
+    ensures { λ r. ⌜ Visited r (now (following .exit)) (now (standing .exit))
+        (stateAt (now (inputs .exit)) (now (outputs .exit)) (take (r .following) (now (following .exit))) (take (r .standing) (now (standing .exit))))
+        (visit (wiring (now (components .entry)) (now (wires .entry)) counts) (wiresIn (wiring (now (components .entry)) (now (wires .entry)) counts))
+        time (stateAt (now (inputs .entry)) (now (outputs .entry)) (take (sizes .following) (now (following .entry)))
+        (take (sizes .standing) (now (standing .entry)))) i) ⌝ }
+{
+    let left = evaluate_at(
+        components,
+        inputs,
+        outputs,
+        standing,
+        sizes.standing,
+        i,
+        time,
+    );
+    let filled = send_wires(
+        components,
+        wires,
+        inputs,
+        outputs,
+        following,
+        sizes.following,
+        counts,
+        i,
+    );
+    Sizes {
+        following: filled,
+        standing: left,
+    }
+}
+
+// Every component of the current list, in its order.
+fn visit_all(
+    components: &[u64],
+    wires: &[u16],
+    current: &[u16],
+    inputs: &mut [u64],
+    outputs: &mut [u64],
+    following: &mut [u16],
+    standing: &mut [u16],
+    counts: Counts,
+    sizes: Sizes,
+    time: u64,
+) -> Sizes
+    requires { ⌜ CanRun (wiring (now components) (now wires) counts) (now inputs) (now outputs)
+        × ListFits (wiring (now components) (now wires) counts) (counts .current) (now current)
+        × ListFits (wiring (now components) (now wires) counts) (sizes .following) (now following) × (sizes .standing ≤ length (now standing)) ⌝ }
+    ensures { λ r. ⌜ Visited r (now (following .exit)) (now (standing .exit))
+        (stateAt (now (inputs .exit)) (now (outputs .exit)) (take (r .following) (now (following .exit))) (take (r .standing) (now (standing .exit))))
+        (foldl (visit (wiring (now (components .entry)) (now (wires .entry)) counts)
+        (wiresIn (wiring (now (components .entry)) (now (wires .entry)) counts)) time)
+        (stateAt (now (inputs .entry)) (now (outputs .entry)) (take (sizes .following) (now (following .entry)))
+        (take (sizes .standing) (now (standing .entry)))) (take (counts .current) (now (current .entry)))) ⌝ }
+{
+    let mut reached = sizes;
+    let mut k: usize = 0;
+    while k < counts.current {
+        let i = tables::entry(current, k);
+        reached = visit(
+            components,
+            wires,
+            inputs,
+            outputs,
+            following,
+            standing,
+            counts,
+            reached,
+            i,
+            time,
+        );
+        k += 1;
+    }
+    reached
+}
+
+// The end of a round: current becomes following, and following becomes a copy of standing. `next` and `left` are the following and
+// the standing list that the round has made; entries past their counts stay what they were in the lent tables.
+fn end_round(
+    next: &[u16],
+    left: &[u16],
+    current: &mut [u16],
+    following: &mut [u16],
+    standing: &mut [u16],
+    counts: Counts,
+    sizes: Sizes,
+) -> Counts
+    requires { ⌜ (sizes .following ≤ length (now next)) × (sizes .standing ≤ length (now left)) × (sizes .following ≤ length (now current))
+        × (sizes .standing ≤ length (now following)) × (sizes .standing ≤ length (now standing)) ⌝ }
+    ensures { λ r. ⌜ tablesOf [] [] [] [] (now (current .exit)) (now (following .exit)) (now (standing .exit)) r
+        ≡ leave (tablesOf [] [] [] [] (now (current .entry)) (now (following .entry)) (now (standing .entry)) counts)
+        (turn (stateAt [] [] (take (sizes .following) (now (next .entry))) (take (sizes .standing) (now (left .entry))))) ⌝ }
+{
+    tables::copy(next, sizes.following, current);
+    tables::copy(left, sizes.standing, following);
+    tables::copy(left, sizes.standing, standing);
+    Counts {
+        components: counts.components,
+        inputs: counts.inputs,
+        outputs: counts.outputs,
+        wires: counts.wires,
+        current: sizes.following,
+        following: sizes.standing,
+        standing: sizes.standing,
+    }
+}
+
+// A round of a net. The answer is the new counts. Crate simulator calls it where no check refuses the tables.
+pub fn net_round(
+    components: &[u64],
+    inputs: &mut [u64],
+    outputs: &mut [u64],
+    wires: &[u16],
+    current: &mut [u16],
+    following: &mut [u16],
+    standing: &mut [u16],
+    counts: Counts,
+    time: u64,
+) -> Counts
+    requires { ⌜ netNumber (tablesOf (now components) (now inputs) (now outputs) (now wires) (now current) (now following) (now standing) counts) ≡ 0 ⌝ }
+    ensures { λ r. ⌜ tablesOf (now (components .entry)) (now (inputs .exit)) (now (outputs .exit)) (now (wires .entry)) (now (current .exit))
+        (now (following .exit)) (now (standing .exit)) r ≡ roundOf time
+        (tablesOf (now (components .entry)) (now (inputs .entry)) (now (outputs .entry)) (now (wires .entry)) (now (current .entry))
+        (now (following .entry)) (now (standing .entry)) counts) ⌝ }
+{
+    let mut next = [0u16; 256];
+    let mut left = [0u16; 256];
+    tables::copy(following, counts.following, &mut next);
+    tables::copy(standing, counts.standing, &mut left);
+    let sizes = Sizes {
+        following: counts.following,
+        standing: counts.standing,
+    };
+    let reached = visit_all(
+        components,
+        wires,
+        current,
+        inputs,
+        outputs,
+        &mut next,
+        &mut left,
+        counts,
+        sizes,
+        time,
+    );
+    end_round(&next, &left, current, following, standing, counts, reached)
+}

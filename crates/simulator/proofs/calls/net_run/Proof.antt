@@ -1,0 +1,173 @@
+-- `net_run`: the rounds so far, before the run that is still to come, are the whole run; each round leaves a net.
+-- Assumes nothing.
+use mathlib.Core.Path.{_≡_, refl, _∙_}
+use Prim.Native.Nat.{_*_, _≤_, _-_}
+use native.Mathlib.Omega.{arith}
+use lib.ListN.{length}
+use Rattle.tables.specs.Tables.{Tables, tablesOf}
+use Rattle.net.specs.Net.{netNumber}
+use Rattle.net.proofs.NetLaws.{netNumber-sizes}
+use Rattle.simulator.specs.Calls.{run}
+use Rattle.rounds.proofs.Sound.{net-within}
+use Rattle.simulator.proofs.RunLaws.{onTop, stopped, run-start, round-net, run-turn, test-going, test-below, run-end, calm-list}
+use borrow.Author.Needs.{needs}
+use Rattle.simulator.proofs.calls.net_run.Statement.{statement}
+use Rattle.simulator.proofs.calls.net_run.Tie as tie
+
+abbrev Inv-loop : tie.InvT-loop
+Inv-loop components inputs₀ outputs₀ wires current₀ following₀ standing₀ time limit reached₀ rounds₀ evaluations₀ calm₀
+    inputs outputs current following standing reached rounds evaluations calm =
+    (rounds ≤ limit) × (evaluations ≤ 256 * rounds) × (length inputs ≡ length inputs₀)
+    × (length outputs ≡ length outputs₀)
+    × (length current ≡ length current₀) × (length following ≡ length following₀) × (length standing ≡ length standing₀)
+    × (netNumber (tablesOf components inputs outputs wires current following standing reached) ≡ 0)
+    × (onTop rounds evaluations (stopped calm (limit - rounds) time
+    (tablesOf components inputs outputs wires current following standing reached))
+    ≡ run limit time (tablesOf components inputs₀ outputs₀ wires current₀ following₀ standing₀ reached₀))
+
+abbrev μ-loop : tie.MeasureT-loop
+μ-loop components inputs₀ outputs₀ wires current₀ following₀ standing₀ time limit reached₀ rounds₀ evaluations₀ calm₀
+    inputs outputs current following standing reached rounds evaluations calm =
+    limit - rounds
+
+-- The tables at the loop's head.
+abbrev here : tie.At-loop Inv-loop μ-loop → Tables
+here c =
+    let s = c .before .before .before .before .before .before .before .before in
+    let a = s .args in
+    let l = c .loop in
+    tablesOf (a .components .now) (l .inputs) (l .outputs) (a .wires .now) (l .current) (l .following) (l .standing)
+    (l .reached)
+
+loop-holds : tie.Need-loop-holds Inv-loop μ-loop
+loop-holds c =
+    let s = c .before .before .before .before .before .before .before in
+    (omega arith, omega arith, refl, refl, refl, refl, refl, s .pre, run-start (s .args .limit) (s .args .time) _)
+
+cast-evaluations : tie.Need-cast-evaluations Inv-loop μ-loop
+cast-evaluations c =
+    let w = net-within (here (c .before .before)) (c .before .before .loop .inv .7) in
+    omega arith
+
+add-evaluations : tie.Need-add-evaluations Inv-loop μ-loop
+add-evaluations c =
+    let s = c .before .before .before .before .before .before .before .before .before .before in
+    let w = net-within (here (c .before .before)) (c .before .before .loop .inv .7) in
+    omega (
+      arith,
+      test-below (c .before .before .loop .calm) (c .before .before .loop .rounds) (s .args .limit)
+          (c .before .loop-test .taken),
+      c .before .before .loop .inv .1,
+    )
+
+net-round-requires : tie.Need-net-round-requires Inv-loop μ-loop
+net-round-requires c κs = c .before .before .before .before .before .before .before .loop .inv .7
+
+add-rounds : tie.Need-add-rounds Inv-loop μ-loop
+add-rounds c =
+    let p = c .before .before .before .before .before .before .before .before .before .before in
+    let at-loop-test = p .before .before .before .before .before .before .before in
+    let at-loop = at-loop-test .before in
+    let s = at-loop .before .before .before .before .before .before .before .before in
+    omega (
+      arith,
+      test-below (at-loop .loop .calm) (at-loop .loop .rounds) (s .args .limit)
+          (at-loop-test .loop-test .taken),
+      s .fits,
+    )
+
+only-clocks-requires : tie.Need-only-clocks-requires Inv-loop μ-loop
+only-clocks-requires c κs =
+    let at-net-round = c .before .before .before .before .before .before .before .before .before .before .before in
+    let at-loop = at-net-round .before .before .before .before .before .before .before .before in
+    let s = at-loop .before .before .before .before .before .before .before .before in
+    let r = at-net-round .net-round in
+    let U =
+    tablesOf (s .args .components .now) (r .last .1 .0) (r .last .1 .1 .0) (s .args .wires .now)
+    (r .last .1 .1 .1 .1 .0) (r .last .1 .1 .1 .1 .1 .0) (r .last .1 .1 .1 .1 .1 .1 .0) (r .result) in
+    let z = round-net (s .args .time) (here at-loop) U (at-loop .loop .inv .7) (r .ensures) in
+    omega (arith, net-within U z .current, netNumber-sizes U z .current)
+
+loop-less : tie.Need-loop-less Inv-loop μ-loop
+loop-less c =
+    let p = c .before .before .before .before .before .before .before .before .before .before in
+    let at-loop-test = p .before .before .before .before .before .before .before .before .before in
+    let at-loop = at-loop-test .before in
+    let s = at-loop .before .before .before .before .before .before .before .before in
+    omega (
+      arith,
+      test-below (at-loop .loop .calm) (at-loop .loop .rounds) (s .args .limit)
+          (at-loop-test .loop-test .taken),
+    )
+
+loop-again : tie.Need-loop-again Inv-loop μ-loop
+loop-again c =
+    let at-net-round =
+    c .before .before .before .before .before .before .before .before .before .before .before .before in
+    let at-loop-test = at-net-round .before .before .before .before .before .before .before in
+    let at-loop = at-loop-test .before in
+    let s = at-loop .before .before .before .before .before .before .before .before in
+    let l = at-loop .loop in
+    let r = at-net-round .net-round in
+    let T = here at-loop in
+    let U =
+    tablesOf (s .args .components .now) (r .last .1 .0) (r .last .1 .1 .0) (s .args .wires .now)
+    (r .last .1 .1 .1 .1 .0) (r .last .1 .1 .1 .1 .1 .0) (r .last .1 .1 .1 .1 .1 .1 .0) (r .result) in
+    let w = net-within (here at-loop) (at-loop .loop .inv .7) in
+    let b =
+    test-below (at-loop .loop .calm) (at-loop .loop .rounds) (s .args .limit) (at-loop-test .loop-test .taken) in (
+      omega (arith, b),
+      omega (arith, l .inv .1),
+      r .kept .1 .0 ∙ l .inv .2,
+      r .kept .1 .1 .0 ∙ l .inv .3,
+      r .kept .1 .1 .1 .1 .0 ∙ l .inv .4,
+      r .kept .1 .1 .1 .1 .1 .0 ∙ l .inv .5,
+      r .kept .1 .1 .1 .1 .1 .1 .0 ∙ l .inv .6,
+      round-net (s .args .time) T U (l .inv .7) (r .ensures),
+      run-turn (s .args .time) T U (l .inv .7) (r .ensures) (s .args .limit) (l .rounds) (l .evaluations) _ _ b
+          (c .only-clocks .ensures ∙ calm-list U)
+          (rw (test-going (l .calm) (l .rounds) (s .args .limit) (at-loop-test .loop-test .taken)) at (l .inv .8)),
+    )
+
+same-length : tie.Need-same-length Inv-loop μ-loop
+same-length c = search needs
+
+same-length-2 : tie.Need-same-length-2 Inv-loop μ-loop
+same-length-2 c = search needs
+
+same-length-3 : tie.Need-same-length-3 Inv-loop μ-loop
+same-length-3 c = search needs
+
+same-length-4 : tie.Need-same-length-4 Inv-loop μ-loop
+same-length-4 c = search needs
+
+same-length-5 : tie.Need-same-length-5 Inv-loop μ-loop
+same-length-5 c = search needs
+
+returns : tie.Need-returns Inv-loop μ-loop
+returns c =
+    let s = c .before .before .before .before .before .before .before .before .before in
+    let l = c .before .loop in
+    run-end (l .calm) (s .args .limit) (l .rounds) (l .evaluations) (s .args .time) (here (c .before)) _
+    (c .loop-test .left) (l .inv .8)
+
+pub net-run-spec : {M : Type 1} → statement M
+net-run-spec =
+    tie.close
+    (tie.spec
+    Inv-loop
+    μ-loop
+    loop-holds
+    cast-evaluations
+    add-evaluations
+    net-round-requires
+    add-rounds
+    only-clocks-requires
+    loop-less
+    loop-again
+    same-length
+    same-length-2
+    same-length-3
+    same-length-4
+    same-length-5
+    returns)

@@ -1,0 +1,173 @@
+// Rounds and run until calm as calls, on any tables and counts. Rule: docs/SPECIFICATION.md, "Rounds" and "Numbers given back".
+// Source: simulator.rs, the loop in `start`.
+ghost use mathlib.Core.Path.{_≡_};
+ghost use Rattle.tables.specs.Tables.{tablesOf, countsAfter};
+ghost use Rattle.net.specs.Net.{netNumber};
+ghost use Rattle.simulator.specs.Calls.{Rounds, run, countsAfterRun, Runs};
+use crate::Ran;
+use crate::questions::only_clocks;
+use primitive::Refusal;
+use rounds::net_round;
+use tables::Answer;
+use tables::Counts;
+
+// A round at a time, on any tables and counts: 2, 16. "A refusal of any call changes no lent table."
+pub fn round(
+    components: &[u64],
+    inputs: &mut [u64],
+    outputs: &mut [u64],
+    wires: &[u16],
+    current: &mut [u16],
+    following: &mut [u16],
+    standing: &mut [u16],
+    counts: Counts,
+    time: u64,
+) -> Answer
+    ensures { λ r.
+        let before = tablesOf (now (components .entry)) (now (inputs .entry)) (now (outputs .entry)) (now (wires .entry))
+        (now (current .entry)) (now (following .entry)) (now (standing .entry)) counts in
+        let after = tablesOf (now (components .entry)) (now (inputs .exit)) (now (outputs .exit)) (now (wires .entry))
+        (now (current .exit)) (now (following .exit)) (now (standing .exit)) (countsAfter r counts) in
+        ⌜ Rounds time before r after ⌝ }
+{
+    let number = net::net_number(
+        components,
+        inputs,
+        outputs,
+        wires,
+        current,
+        following,
+        standing,
+        counts,
+    );
+    if number != 0 {
+        return Answer::Refused(Refusal {
+            number,
+            position: 0,
+        });
+    }
+    Answer::Done(net_round(
+        components,
+        inputs,
+        outputs,
+        wires,
+        current,
+        following,
+        standing,
+        counts,
+        time,
+    ))
+}
+
+// What a run comes to.
+struct Run {
+    counts: Counts,
+    rounds: u16,
+    evaluations: u32,
+}
+
+// Rounds of a net, one after the other, at most `limit` of them, until the first that leaves calm.
+fn net_run(
+    components: &[u64],
+    inputs: &mut [u64],
+    outputs: &mut [u64],
+    wires: &[u16],
+    current: &mut [u16],
+    following: &mut [u16],
+    standing: &mut [u16],
+    counts: Counts,
+    time: u64,
+    limit: u16,
+) -> Run
+    requires { ⌜ netNumber (tablesOf (now components) (now inputs) (now outputs) (now wires) (now current) (now following) (now standing) counts) ≡ 0 ⌝ }
+    ensures { λ r. ⌜ record {
+      tables = tablesOf (now (components .entry)) (now (inputs .exit)) (now (outputs .exit)) (now (wires .entry))
+          (now (current .exit)) (now (following .exit)) (now (standing .exit)) (r .counts);
+      rounds = r .rounds;
+      evaluations = r .evaluations;
+    }
+        ≡ run limit time (tablesOf (now (components .entry)) (now (inputs .entry)) (now (outputs .entry)) (now (wires .entry)) (now (current .entry))
+        (now (following .entry)) (now (standing .entry)) counts) ⌝ }
+{
+    let mut reached = counts;
+    let mut rounds: u16 = 0;
+    let mut evaluations: u32 = 0;
+    let mut calm = false;
+    while !calm & (rounds < limit) {
+        evaluations += reached.current as u32;
+        reached = net_round(
+            components,
+            inputs,
+            outputs,
+            wires,
+            current,
+            following,
+            standing,
+            reached,
+            time,
+        );
+        rounds += 1;
+        calm = only_clocks(components, current, reached.current);
+    }
+    Run {
+        counts: reached,
+        rounds,
+        evaluations,
+    }
+}
+
+// Run until calm, on any tables and counts, with a time and a limit of rounds: 2, 16.
+pub fn run_until_calm(
+    components: &[u64],
+    inputs: &mut [u64],
+    outputs: &mut [u64],
+    wires: &[u16],
+    current: &mut [u16],
+    following: &mut [u16],
+    standing: &mut [u16],
+    counts: Counts,
+    time: u64,
+    limit: u16,
+) -> Ran
+    ensures { λ r.
+        let before = tablesOf (now (components .entry)) (now (inputs .entry)) (now (outputs .entry)) (now (wires .entry))
+        (now (current .entry)) (now (following .entry)) (now (standing .entry)) counts in
+        let after = tablesOf (now (components .entry)) (now (inputs .exit)) (now (outputs .exit)) (now (wires .entry))
+        (now (current .exit)) (now (following .exit)) (now (standing .exit)) (countsAfterRun r counts) in
+        ⌜ Runs time limit before r after ⌝ }
+{
+    let number = net::net_number(
+        components,
+        inputs,
+        outputs,
+        wires,
+        current,
+        following,
+        standing,
+        counts,
+    );
+    if number != 0 {
+        return Ran::Refused(Refusal {
+            number,
+            position: 0,
+        });
+    }
+    let made = net_run(
+        components,
+        inputs,
+        outputs,
+        wires,
+        current,
+        following,
+        standing,
+        counts,
+        time,
+        limit,
+    );
+    let reached = made.counts;
+    Ran::Done {
+        counts: reached,
+        rounds: made.rounds,
+        evaluations: made.evaluations,
+    }
+}
