@@ -34,7 +34,7 @@ use Rattle.component.specs.Reading.{idOf, ownerOf, formOf, apart, formBy
 use Rattle.component.specs.Checks.{given}
 use Rattle.component.specs.Record.{inputsOf, outputsOf, isPrimitive, composite}
 use Rattle.component.specs.Record.{hasId, entering, enters}
-use Rattle.component.specs.Drawing.{child, deepest, holds, deeper, outMaps, inputsBefore, outputsBefore}
+use Rattle.component.specs.Drawing.{isComponent, child, deepest, holds, deeper, outMaps, inputsBefore, outputsBefore}
 use Rattle.component.specs.Drawing.{fails4, fails5, fails6, fails7, fails8, fails9}
 use Rattle.component.specs.Drawing.{fails10, fails11, fails12, fails13, fails14}
 use Rattle.component.proofs.Says.{the-type}
@@ -301,32 +301,17 @@ module _ (s : List ℕ) where
   -- 6 to 11 and 14: no component; a component
   module _ (p : ℕ) (g : Stands) (e : StandsAs g (recordAt s p)) where
     module _ (h : g ≡ Nothing) where
-      pub fails6-other : false ≡ fails6 (recordAt s) p
-      fails6-other = rw (unseen-test (recordAt s p) g e h)
-
-      pub fails7-other : false ≡ fails7 (recordAt s) p
-      fails7-other = rw (unseen-test (recordAt s p) g e h)
-
-      pub fails8-other : false ≡ fails8 (recordAt s) p
-      fails8-other = rw (unseen-test (recordAt s p) g e h)
-
-      pub fails9-other : false ≡ fails9 (recordAt s) p
-      fails9-other = rw (unseen-test (recordAt s p) g e h)
+      pub fails-other : (b : Bool) → false ≡ (isComponent (recordAt s) p && b)
+      fails-other b = rw (unseen-test (recordAt s p) g e h)
 
       pub hasId-other : (i : ℕ) → false ≡ hasId i (recordAt s p)
       hasId-other i = rw (unseen-test (recordAt s p) g e h)
-
-      pub fails10-other : false ≡ fails10 (recordAt s) p
-      fails10-other = rw (unseen-test (recordAt s p) g e h)
 
       pub inputs-none : 0 ≡ cond (isPrimitive (recordAt s p)) (inputsOf (recordAt s p)) 0
       inputs-none = rw (unseen-test (recordAt s p) g e h)
 
       pub outputs-none : 0 ≡ cond (isPrimitive (recordAt s p)) (outputsOf (recordAt s p)) 0
       outputs-none = rw (unseen-test (recordAt s p) g e h)
-
-      pub fails11-other : false ≡ fails11 (recordAt s) p
-      fails11-other = rw (unseen-test (recordAt s p) g e h)
 
       pub composite-other : false ≡ composite (recordAt s p)
       composite-other = rw (unseen-test (recordAt s p) g e h)

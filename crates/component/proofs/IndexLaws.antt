@@ -110,9 +110,6 @@ module _ (w form : ℕ) (r : Reading) (q : ℕ) (counts t : List ℕ) where
 both-true : (a b : Bool) → a ≡ true → b ≡ true → (a && b) ≡ true
 both-true a b e d = rw (e, d)
 
-never : {A : Type 0} (b : Bool) → b ≡ true → b ≡ false → A
-never b e d = absurd (false≢true (sym d ∙ e))
-
 -- What the step does to the words and to the count of an owner o: nothing unless the record is its own.
 module _ (w form : ℕ) (r : Record) (q : ℕ) (counts t : List ℕ) where
   -- the owner, how many it has so far, and the tests of the step

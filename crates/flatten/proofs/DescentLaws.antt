@@ -1,11 +1,11 @@
 -- Laws of `outputBelow` and `inputsBelow` of specs/Descent.antt, one for each way out of a function of src/descent.rt.
 --   given at n d c i q    what the record at q gives to the targets of input i of composite c, with depth d left below it
 -- First lists one after the other; then the source; then the targets as lists, for any function that goes down through input maps;
--- then the same, and whether one of them has another width, in the form in which the functions have their facts.
+-- then the same, and whether a test holds of one of them, in the form in which the functions have their facts.
 -- Assumes nothing.
 use mathlib.Core.Path.{_≡_, refl, sym, ap, _∙_}
 use mathlib.Core.Bool.{Bool, true, false, cond, not, _&&_, _||_}
-use mathlib.Core.List.{List, [], _∷_, _++_, append-assoc, append-nil, map}
+use mathlib.Core.List.{List, [], _∷_, _++_, append-nil, map}
 use Prim.Native.Nat.{ℕ, zero, suc, _+_, _-_, _/_, _≤_, _<_}
 use native.Mathlib.Decide.{decLt}
 use native.Mathlib.Omega.{arith}
@@ -16,6 +16,7 @@ use types.Run.{OneOf}
 use denote.Enum.Declared.{tagOf}
 use Rattle.lists.specs.Lists.{from, any, joined}
 use Rattle.lists.proofs.ListsLaws.{from-step, from-end}
+use Rattle.lists.proofs.OverlayLaws.{joined-append}
 use Rattle.lists.proofs.MembersLaws.{any-append, any-map, from-append}
 use Rattle.primitive.specs.Kinds.{primitive, inputWidth, outputWidth}
 use Rattle.component.specs.declared.ChildNo.{ChildNo}
@@ -47,12 +48,6 @@ use Rattle.flatten.specs.Searches.{entered, unlike, IsStretch}
 or-false : (a : Bool) → (a || false) ≡ a
 or-false true = refl
 or-false false = refl
-
-module _ {A : Type 0} where
-  pub joined-append : {B : Type 0} (g : A → List B) (xs ys : List A) → joined g (xs ++ ys) ≡ joined g xs ++ joined g ys
-  joined-append g [] ys = refl
-  joined-append {B} g (x ∷ xs) ys =
-      ap (λ (l : List B). g x ++ l) (joined-append g xs ys) ∙ sym (append-assoc (g x) (joined g xs) (joined g ys))
 
 module _ {B : Type 0} (g : ℕ → List B) where
   -- Positions that give nothing.
@@ -254,63 +249,62 @@ module _ (s : List ℕ) (n : ℕ) where
         pub entered-to : (u : ℕ) → o ≡ c → a ≡ i → u ≡ child (recordAt s) n c (t .0) → To u d ≡ entered (recordAt s) n c i q
         entered-to u y g z = rw (z, at-map, eq-eqb o c y, eq-eqb a i g)
 
-  -- whether a target has another width: no depth left; a primitive; a composite, whose input maps are to be followed
-  pub differs-bottom : (d c i w : ℕ) → d ≡ 0 → false ≡ any (unlike (recordAt s) w) (inputsBelow (recordAt s) n d c i)
-  differs-bottom d c i w h = ap (any (unlike (recordAt s) w)) (sym (targets-bottom (recordAt s) n d c i h))
+  -- whether a test F holds of a target: no depth left; a primitive; a composite, or no component, whose input maps are to be followed
+  module _ (F : Pin → Bool) where
+    pub target-bottom : (d c i : ℕ) → d ≡ 0 → false ≡ any F (inputsBelow (recordAt s) n d c i)
+    target-bottom d c i h = ap (any F) (sym (targets-bottom (recordAt s) n d c i h))
 
-  module _ (d c i w : ℕ) (h : d ≡ 0 → ⊥) (g : Stands) (e : StandsAs g (recordAt s c)) where
-    pub differs-here : (o v : ℕ) (k : Id) (f : Fields) (b : Bool) → g ≡ SeenComponent o k f → b ≡ primitive f → b ≡ true → v ≡ inputWidth f
-        → not (eqb w v) ≡ any (unlike (recordAt s) w) (inputsBelow (recordAt s) n d c i)
-    differs-here o v k f b l p t ev =
-        let z : v ≡ inputWidth (fieldsOf (recordAt s c)) =
-        ev ∙ sym (ap (λ (r : Record). inputWidth (fieldsOf r)) (seen-is (recordAt s c) g e o k f l)) in
-        ap (λ (x : ℕ). not (eqb w x)) z
-        ∙ sym (or-false (not (eqb w (inputWidth (fieldsOf (recordAt s c))))))
-        ∙ ap (any (unlike (recordAt s) w))
-        (sym (targets-ends (recordAt s) n d c i h (sym (seen-primitive (recordAt s c) g e o k f b l p) ∙ t)))
+    module _ (d c i : ℕ) (h : d ≡ 0 → ⊥) (g : Stands) (e : StandsAs g (recordAt s c)) where
+      pub target-here : (o : ℕ) (k : Id) (f : Fields) (b : Bool) → g ≡ SeenComponent o k f → b ≡ primitive f → b ≡ true
+          → F (pin c i) ≡ any F (inputsBelow (recordAt s) n d c i)
+      target-here o k f b l p t =
+          sym (or-false (F (pin c i)))
+          ∙ ap (any F) (sym (targets-ends (recordAt s) n d c i h (sym (seen-primitive (recordAt s c) g e o k f b l p) ∙ t)))
 
-    module _ (a u : ℕ) (z : IsStretch (recordAt s) n c a u) where
-      starts : isPrimitive (recordAt s c) ≡ false
-          → any (unlike (recordAt s) w) (joined (given (recordAt s) n (d - 1) c i) (from a (u - a)))
-          ≡ any (unlike (recordAt s) w) (inputsBelow (recordAt s) n d c i)
-      starts p = ap (any (unlike (recordAt s) w)) (sym (targets-stretch (recordAt s) n d c i a u h p z))
+      module _ (a u : ℕ) (z : IsStretch (recordAt s) n c a u) where
+        starts : isPrimitive (recordAt s c) ≡ false
+            → any F (joined (given (recordAt s) n (d - 1) c i) (from a (u - a))) ≡ any F (inputsBelow (recordAt s) n d c i)
+        starts p = ap (any F) (sym (targets-stretch (recordAt s) n d c i a u h p z))
 
-      pub differs-none : g ≡ NotSeen
-          → any (unlike (recordAt s) w) (joined (given (recordAt s) n (d - 1) c i) (from a (u - a)))
-          ≡ any (unlike (recordAt s) w) (inputsBelow (recordAt s) n d c i)
-      differs-none k = starts (sym (unseen-primitive (recordAt s c) g e k))
+        pub target-none : g ≡ NotSeen
+            → any F (joined (given (recordAt s) n (d - 1) c i) (from a (u - a))) ≡ any F (inputsBelow (recordAt s) n d c i)
+        target-none k = starts (sym (unseen-primitive (recordAt s c) g e k))
 
-      pub differs-composite : (o : ℕ) (k : Id) (f : Fields) (b : Bool) → g ≡ SeenComponent o k f → b ≡ primitive f → b ≡ false
-          → any (unlike (recordAt s) w) (joined (given (recordAt s) n (d - 1) c i) (from a (u - a)))
-          ≡ any (unlike (recordAt s) w) (inputsBelow (recordAt s) n d c i)
-      differs-composite o k f b l p t = starts (sym (seen-primitive (recordAt s c) g e o k f b l p) ∙ t)
+        pub target-composite : (o : ℕ) (k : Id) (f : Fields) (b : Bool) → g ≡ SeenComponent o k f → b ≡ primitive f → b ≡ false
+            → any F (joined (given (recordAt s) n (d - 1) c i) (from a (u - a))) ≡ any F (inputsBelow (recordAt s) n d c i)
+        target-composite o k f b l p t = starts (sym (seen-primitive (recordAt s c) g e o k f b l p) ∙ t)
 
-  -- one turn: a target of the map at q differs; none does; the record leads nowhere; and the end
-  module _ (d c i w q e : ℕ) (x : Bool)
-      (inv : any (unlike (recordAt s) w) (joined (given (recordAt s) n d c i) (from q (e - q))) ≡ x) where
-    module _ (g : Entered) (t j : ℕ) (y : Bool) (l : q < e) (k : g ≡ To t j) (h : g ≡ entered (recordAt s) n c i q)
-        (ey : y ≡ any (unlike (recordAt s) w) (inputsBelow (recordAt s) n d t j)) where
-      turn : (y || any (unlike (recordAt s) w) (joined (given (recordAt s) n d c i) (from (q + 1) (e - (q + 1))))) ≡ x
-      turn =
-          let rest = joined (given (recordAt s) n d c i) (from (q + 1) (e - (q + 1))) in
-          ap (λ (b : Bool). b || any (unlike (recordAt s) w) rest) ey
-          ∙ sym (any-append (unlike (recordAt s) w) (inputsBelow (recordAt s) n d t j) rest)
-          ∙ ap (any (unlike (recordAt s) w)) (sym (given-to (recordAt s) n d c i q e t j l (sym k ∙ h)))
-          ∙ inv
+    -- one turn: it holds of a target of the map at q; of none; the record leads nowhere; and the end
+    module _ (d c i q e : ℕ) (x : Bool) (inv : any F (joined (given (recordAt s) n d c i) (from q (e - q))) ≡ x) where
+      module _ (g : Entered) (t j : ℕ) (y : Bool) (l : q < e) (k : g ≡ To t j) (h : g ≡ entered (recordAt s) n c i q)
+          (ey : y ≡ any F (inputsBelow (recordAt s) n d t j)) where
+        turn : (y || any F (joined (given (recordAt s) n d c i) (from (q + 1) (e - (q + 1))))) ≡ x
+        turn =
+            let rest = joined (given (recordAt s) n d c i) (from (q + 1) (e - (q + 1))) in
+            ap (λ (b : Bool). b || any F rest) ey
+            ∙ sym (any-append F (inputsBelow (recordAt s) n d t j) rest)
+            ∙ ap (any F) (sym (given-to (recordAt s) n d c i q e t j l (sym k ∙ h)))
+            ∙ inv
 
-      pub differs-found : y ≡ true → true ≡ x
-      differs-found b = rw b at turn
+        pub target-found : y ≡ true → true ≡ x
+        target-found b = rw b at turn
 
-      pub differs-next : y ≡ false → any (unlike (recordAt s) w) (joined (given (recordAt s) n d c i) (from (q + 1) (e - (q + 1)))) ≡ x
-      differs-next b = rw b at turn
+        pub target-next : y ≡ false → any F (joined (given (recordAt s) n d c i) (from (q + 1) (e - (q + 1)))) ≡ x
+        target-next b = rw b at turn
 
-    pub differs-nothing : (g : Entered) → q < e → g ≡ Nothing → g ≡ entered (recordAt s) n c i q
-        → any (unlike (recordAt s) w) (joined (given (recordAt s) n d c i) (from (q + 1) (e - (q + 1)))) ≡ x
-    differs-nothing g l k h =
-        ap (any (unlike (recordAt s) w)) (sym (given-nothing (recordAt s) n d c i q e l (sym k ∙ h))) ∙ inv
+      pub target-nothing : (g : Entered) → q < e → g ≡ Nothing → g ≡ entered (recordAt s) n c i q
+          → any F (joined (given (recordAt s) n d c i) (from (q + 1) (e - (q + 1)))) ≡ x
+      target-nothing g l k h = ap (any F) (sym (given-nothing (recordAt s) n d c i q e l (sym k ∙ h))) ∙ inv
 
-    pub differs-end : e ≤ q → false ≡ x
-    differs-end l = ap (any (unlike (recordAt s) w)) (sym (joined-end (given (recordAt s) n d c i) q e l)) ∙ inv
+      pub target-end : e ≤ q → false ≡ x
+      target-end l = ap (any F) (sym (joined-end (given (recordAt s) n d c i) q e l)) ∙ inv
+
+  -- a primitive whose inputs have another width
+  pub differs-here : (c w o v : ℕ) (g : Stands) (k : Id) (f : Fields) → StandsAs g (recordAt s c) → g ≡ SeenComponent o k f
+      → v ≡ inputWidth f → not (eqb w v) ≡ not (eqb w (inputWidth (fieldsOf (recordAt s c))))
+  differs-here c w o v g k f e l ev =
+      ap (λ (x : ℕ). not (eqb w x))
+      (ev ∙ sym (ap (λ (r : Record). inputWidth (fieldsOf r)) (seen-is (recordAt s c) g e o k f l)))
 
   -- 15: no connection; a connection
   pub fails15-refused : (p : ℕ) (r : Reading) {z : ℕ} → said r ≡ recordAt s p → r ≡ Refused z → false ≡ fails15 (recordAt s) n p

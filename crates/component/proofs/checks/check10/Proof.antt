@@ -1,6 +1,6 @@
 -- `check10`: a record is tested only where it is a component.
 -- Assumes nothing.
-use Rattle.component.proofs.ChecksLaws.{given-by, given-passes, fails10-other, fails10-component}
+use Rattle.component.proofs.ChecksLaws.{given-by, given-passes, fails-other, fails10-component}
 use borrow.Author.Needs.{needs}
 use Rattle.component.proofs.checks.check10.Statement.{statement}
 use Rattle.component.proofs.checks.check10.Tie as tie
@@ -15,7 +15,7 @@ enum-told : tie.Need-enum-told
 enum-told c = search needs
 
 returns : tie.Need-returns
-returns c = search (given-passes, fails10-other)
+returns c = search (given-passes, fails-other)
 
 id-before-requires : tie.Need-id-before-requires
 id-before-requires c κs = search needs

@@ -1,6 +1,6 @@
 -- `check11`: a record is tested only where it is a component.
 -- Assumes nothing.
-use Rattle.component.proofs.ChecksLaws.{component-within, given-by, given-passes, fails11-other, fails11-component}
+use Rattle.component.proofs.ChecksLaws.{component-within, given-by, given-passes, fails-other, fails11-component}
 use Prim.Native.Nat.{_<_, _/_}
 use native.Mathlib.Omega.{arith}
 use lib.ListN.{length}
@@ -18,7 +18,7 @@ enum-told-2 : tie.Need-enum-told-2
 enum-told-2 c = search needs
 
 returns : tie.Need-returns
-returns c = search (given-passes, fails11-other)
+returns c = search (given-passes, fails-other)
 
 add-is-overfull : tie.Need-add-is-overfull
 add-is-overfull c =

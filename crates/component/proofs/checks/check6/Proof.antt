@@ -1,6 +1,6 @@
 -- `check6`: the tests stand in the order of the definition, and each decides it at its way out.
 -- Assumes nothing.
-use Rattle.component.proofs.ChecksLaws.{given-by, given-fails, given-passes, fails6-other, fails6-number, fails6-depth}
+use Rattle.component.proofs.ChecksLaws.{given-by, given-fails, given-passes, fails-other, fails6-number, fails6-depth}
 use borrow.Author.Needs.{needs}
 use Rattle.component.proofs.checks.check6.Statement.{statement}
 use Rattle.component.proofs.checks.check6.Tie as tie
@@ -15,7 +15,7 @@ enum-told-2 : tie.Need-enum-told-2
 enum-told-2 c = search needs
 
 returns : tie.Need-returns
-returns c = search (given-passes, fails6-other)
+returns c = search (given-passes, fails-other)
 
 returns-2 : tie.Need-returns-2
 returns-2 c = search (given-fails, fails6-number)

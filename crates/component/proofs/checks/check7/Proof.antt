@@ -1,6 +1,6 @@
 -- `check7`: a record is tested only where it is a component.
 -- Assumes nothing.
-use Rattle.component.proofs.ChecksLaws.{given-by, given-passes, fails7-other, fails7-component}
+use Rattle.component.proofs.ChecksLaws.{given-by, given-passes, fails-other, fails7-component}
 use borrow.Author.Needs.{needs}
 use Rattle.component.proofs.checks.check7.Statement.{statement}
 use Rattle.component.proofs.checks.check7.Tie as tie
@@ -15,7 +15,7 @@ enum-told : tie.Need-enum-told
 enum-told c = search needs
 
 returns : tie.Need-returns
-returns c = search (given-passes, fails7-other)
+returns c = search (given-passes, fails-other)
 
 given-requires : tie.Need-given-requires
 given-requires c κs = search needs

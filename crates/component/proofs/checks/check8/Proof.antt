@@ -1,6 +1,6 @@
 -- `check8`: a record is tested only where it is a component.
 -- Assumes nothing.
-use Rattle.component.proofs.ChecksLaws.{given-by, given-passes, fails8-other, fails8-component}
+use Rattle.component.proofs.ChecksLaws.{given-by, given-passes, fails-other, fails8-component}
 use borrow.Author.Needs.{needs}
 use Rattle.component.proofs.checks.check8.Statement.{statement}
 use Rattle.component.proofs.checks.check8.Tie as tie
@@ -15,7 +15,7 @@ enum-told : tie.Need-enum-told
 enum-told c = search needs
 
 returns : tie.Need-returns
-returns c = search (given-passes, fails8-other)
+returns c = search (given-passes, fails-other)
 
 given-requires : tie.Need-given-requires
 given-requires c κs = search needs

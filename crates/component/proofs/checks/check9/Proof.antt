@@ -1,6 +1,6 @@
 -- `check9`: a record is tested only where it is a component.
 -- Assumes nothing.
-use Rattle.component.proofs.ChecksLaws.{given-by, given-passes, fails9-other, fails9-component}
+use Rattle.component.proofs.ChecksLaws.{given-by, given-passes, fails-other, fails9-component}
 use borrow.Author.Needs.{needs}
 use Rattle.component.proofs.checks.check9.Statement.{statement}
 use Rattle.component.proofs.checks.check9.Tie as tie
@@ -15,7 +15,7 @@ enum-told : tie.Need-enum-told
 enum-told c = search needs
 
 returns : tie.Need-returns
-returns c = search (given-passes, fails9-other)
+returns c = search (given-passes, fails-other)
 
 obeys-requires : tie.Need-obeys-requires
 obeys-requires c κs = search needs

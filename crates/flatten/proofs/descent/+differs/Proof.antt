@@ -1,7 +1,7 @@
 -- `differs`: the depth left falls at every call. The invariant: whether one of the targets of the maps to come has another width
 -- is the answer.
 -- Assumes nothing.
-use mathlib.Core.Path.{_≡_}
+use mathlib.Core.Path.{_≡_, _∙_}
 use mathlib.Core.Logic.{⊎-elim}
 use Prim.Native.Nat.{_-_, _/_, _<_}
 use native.Mathlib.Omega.{arith}
@@ -10,8 +10,8 @@ use Rattle.lists.specs.Lists.{from, any, joined}
 use Rattle.component.specs.Record.{recordAt}
 use Rattle.flatten.specs.Descent.{inputsBelow}
 use Rattle.flatten.specs.Searches.{unlike}
-use Rattle.flatten.proofs.DescentLaws.{given, stretch-is, differs-bottom, differs-here, differs-none, differs-composite}
-use Rattle.flatten.proofs.DescentLaws.{differs-found, differs-next, differs-nothing, differs-end}
+use Rattle.flatten.proofs.DescentLaws.{given, stretch-is, target-bottom, target-here, target-none, target-composite, differs-here}
+use Rattle.flatten.proofs.DescentLaws.{target-found, target-next, target-nothing, target-end}
 use borrow.Author.Needs.{needs}
 use Prim.Native.Nat.{ℕ}
 use borrow.Fn.Kinds.{In}
@@ -62,7 +62,7 @@ abbrev differs-μ-loop : differs-lts.MeasureT-loop
 differs-μ-loop file index depth c i width end q₀ q = end - q
 
 differs-returns : (t : ℕ) → differs-lts.Need-returns (differs-claims t) (differs-at t) differs.Post differs-Inv-loop differs-μ-loop
-differs-returns t c = search (differs-bottom)
+differs-returns t c = search (target-bottom)
 
 differs-component-at-requires : (t : ℕ) → differs-lts.Need-component-at-requires (differs-claims t) (differs-at t) differs.Post differs-Inv-loop differs-μ-loop
 differs-component-at-requires t c κs = search needs
@@ -77,7 +77,15 @@ differs-input-width-requires : (t : ℕ) → differs-lts.Need-input-width-requir
 differs-input-width-requires t c κs = search needs
 
 differs-returns-2 : (t : ℕ) → differs-lts.Need-returns-2 (differs-claims t) (differs-at t) differs.Post differs-Inv-loop differs-μ-loop
-differs-returns-2 t c = search (differs-here)
+differs-returns-2 t c =
+    let f = c .before .before .before .before in
+    let d = f .before .before in
+    let a = d .before .before .before .before .args in
+    differs-here (a .file .now) (length (a .file .now) / 24) (a .c) (a .width) _ _ _ _ _ (d .component-at .ensures) (f .fields .given .1)
+    (c .input-width .ensures)
+    ∙ target-here (a .file .now) (length (a .file .now) / 24) (unlike (recordAt (a .file .now)) (a .width)) (a .depth) (a .c) (a .i)
+    (d .before .if1 .left) _ (d .component-at .ensures) _ _ _ _ (f .fields .given .1) (c .before .before .is-primitive .ensures)
+    (c .before .if2 .taken)
 
 differs-enum-told : (t : ℕ) → differs-lts.Need-enum-told (differs-claims t) (differs-at t) differs.Post differs-Inv-loop differs-μ-loop
 differs-enum-told t c = search needs
@@ -92,9 +100,9 @@ differs-loop-holds t c =
     let a = s .args in
     let z = stretch-is (a .file .now) (a .index .now) (a .c) _ _ (s .pre .1) (c .stretch-of .ensures .0) (c .stretch-of .ensures .1) in
     ⊎-elim
-    (λ w. differs-composite (a .file .now) (length (a .file .now) / 24) (a .depth) (a .c) (a .i) (a .width) (d .before .if1 .left) _ (d .component-at .ensures)
+    (λ w. target-composite (a .file .now) (length (a .file .now) / 24) (unlike (recordAt (a .file .now)) (a .width)) (a .depth) (a .c) (a .i) (d .before .if1 .left) _ (d .component-at .ensures)
     _ _ z _ _ _ _ (w .1 .given .1) (w .3 .ensures) (w .4 .left))
-    (λ w. differs-none (a .file .now) (length (a .file .now) / 24) (a .depth) (a .c) (a .i) (a .width) (d .before .if1 .left) _ (d .component-at .ensures)
+    (λ w. target-none (a .file .now) (length (a .file .now) / 24) (unlike (recordAt (a .file .now)) (a .width)) (a .depth) (a .c) (a .i) (d .before .if1 .left) _ (d .component-at .ensures)
     _ _ z (w .1 .given .1))
     (c .before .match .came)
 
@@ -114,7 +122,7 @@ differs-differs-requires t c κs =
     (omega (arith, s .pre .0, e .if1 .left), s .pre .1)
 
 differs-returns-3 : (t : ℕ) → differs-lts.Need-returns-3 (differs-claims t) (differs-at t) differs.Post differs-Inv-loop differs-μ-loop
-differs-returns-3 t c = search (differs-found)
+differs-returns-3 t c = search (target-found)
 
 differs-enum-told-2 : (t : ℕ) → differs-lts.Need-enum-told-2 (differs-claims t) (differs-at t) differs.Post differs-Inv-loop differs-μ-loop
 differs-enum-told-2 t c = search needs
@@ -126,10 +134,10 @@ differs-loop-less : (t : ℕ) → differs-lts.Need-loop-less (differs-claims t) 
 differs-loop-less t c = search needs
 
 differs-loop-again : (t : ℕ) → differs-lts.Need-loop-again (differs-claims t) (differs-at t) differs.Post differs-Inv-loop differs-μ-loop
-differs-loop-again t c = ⊎-elim (λ w. search (differs-next)) (λ w. search (differs-nothing)) (c .match2 .came)
+differs-loop-again t c = ⊎-elim (λ w. search (target-next)) (λ w. search (target-nothing)) (c .match2 .came)
 
 differs-returns-4 : (t : ℕ) → differs-lts.Need-returns-4 (differs-claims t) (differs-at t) differs.Post differs-Inv-loop differs-μ-loop
-differs-returns-4 t c = search (differs-end)
+differs-returns-4 t c = search (target-end)
 
 pub +differs-spec : {M : Type 1} → statement M
 +differs-spec = close μ-differs λ t. differs-lts.spec (
