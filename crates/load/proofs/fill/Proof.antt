@@ -6,20 +6,11 @@ use borrow.Author.Needs.{needs}
 use Rattle.load.proofs.fill.Statement.{statement}
 use Rattle.load.proofs.fill.Tie as tie
 
-lay-components-requires : tie.Need-lay-components-requires
-lay-components-requires c κs = search needs
-
 zeros-requires : tie.Need-zeros-requires
 zeros-requires c κs =
     let r = c .before .before .before in
     let s = r .before .before .before .before .before .before .before .before .before .before .before in
     inputs-room (s .args .file .now) (s .pre .1 .0) (s .args .inputs .now) _ (r .lay-components .ensures .1) (s .pre .1 .2)
-
-lay-outputs-requires : tie.Need-lay-outputs-requires
-lay-outputs-requires c κs = search needs
-
-lay-wires-requires : tie.Need-lay-wires-requires
-lay-wires-requires c κs = search needs
 
 count-up-requires : tie.Need-count-up-requires
 count-up-requires c κs =
@@ -27,9 +18,6 @@ count-up-requires c κs =
     let r = d .before .before .before .before .before .before .before in
     let s = r .before .before .before .before .before .before .before .before .before .before .before in
     current-room (s .args .file .now) (s .pre .1 .0) (s .args .current .now) _ (r .lay-components .ensures .1) (s .pre .1 .5)
-
-lay-standing-requires : tie.Need-lay-standing-requires
-lay-standing-requires c κs = search needs
 
 copy-requires : tie.Need-copy-requires
 copy-requires c κs =
@@ -39,27 +27,6 @@ copy-requires c κs =
     let s = r .before .before .before .before .before .before .before .before .before .before .before in
     copy-room (s .args .file .now) (s .pre .1 .0) (s .args .following .now) _ _ _ (l .lay-standing .ensures .0)
     (l .lay-standing .ensures .1) (s .pre .1 .6)
-
-same-length : tie.Need-same-length
-same-length c = search needs
-
-same-length-2 : tie.Need-same-length-2
-same-length-2 c = search needs
-
-same-length-3 : tie.Need-same-length-3
-same-length-3 c = search needs
-
-same-length-4 : tie.Need-same-length-4
-same-length-4 c = search needs
-
-same-length-5 : tie.Need-same-length-5
-same-length-5 c = search needs
-
-same-length-6 : tie.Need-same-length-6
-same-length-6 c = search needs
-
-same-length-7 : tie.Need-same-length-7
-same-length-7 c = search needs
 
 returns : tie.Need-returns
 returns c =
@@ -85,18 +52,18 @@ pub fill-spec : {M : Type 1} → statement M
 fill-spec =
     tie.close
     (tie.spec
-    lay-components-requires
+    (λ c κs. search needs)
     zeros-requires
-    lay-outputs-requires
-    lay-wires-requires
+    (λ c κs. search needs)
+    (λ c κs. search needs)
     count-up-requires
-    lay-standing-requires
+    (λ c κs. search needs)
     copy-requires
-    same-length
-    same-length-2
-    same-length-3
-    same-length-4
-    same-length-5
-    same-length-6
-    same-length-7
+    (λ c. search needs)
+    (λ c. search needs)
+    (λ c. search needs)
+    (λ c. search needs)
+    (λ c. search needs)
+    (λ c. search needs)
+    (λ c. search needs)
     returns)

@@ -9,9 +9,6 @@ use borrow.Author.Needs.{needs}
 use Rattle.load.proofs.judge_load.Statement.{statement}
 use Rattle.load.proofs.judge_load.Tie as tie
 
-is-sized-requires : tie.Need-is-sized-requires
-is-sized-requires c κs = search needs
-
 returns : tie.Need-returns
 returns c =
     let a = c .before .before .before .before .before .before .before .before .before .before .before .args in (
@@ -20,9 +17,6 @@ returns c =
           (sym (c .before .is-sized .ensures) ∙ not-true _ (c .if1 .taken)),
       λ y. absurd (refused-not 1 0 y),
     )
-
-full-size-requires : tie.Need-full-size-requires
-full-size-requires c κs = search needs
 
 returns-2 : tie.Need-returns-2
 returns-2 c =
@@ -34,12 +28,6 @@ returns-2 c =
           (λ m. sym (c .before .full-size .ensures m) ∙ not-true _ (c .if2 .taken)),
       λ y. absurd (refused-not 2 0 y),
     )
-
-judge-indexed-requires : tie.Need-judge-indexed-requires
-judge-indexed-requires c κs = search needs
-
-same-length : tie.Need-same-length
-same-length c = search needs
 
 returns-3 : tie.Need-returns-3
 returns-3 c =
@@ -58,10 +46,10 @@ pub judge-load-spec : {M : Type 1} → statement M
 judge-load-spec =
     tie.close
     (tie.spec
-    is-sized-requires
+    (λ c κs. search needs)
     returns
-    full-size-requires
+    (λ c κs. search needs)
     returns-2
-    judge-indexed-requires
-    same-length
+    (λ c κs. search needs)
+    (λ c. search needs)
     returns-3)

@@ -6,42 +6,6 @@ use borrow.Author.Needs.{needs}
 use Rattle.component.proofs.checks.check.Statement.{statement}
 use Rattle.component.proofs.checks.check.Tie as tie
 
-check3-requires : tie.Need-check3-requires
-check3-requires c κs = search needs
-
-check4-requires : tie.Need-check4-requires
-check4-requires c κs = search needs
-
-check5-requires : tie.Need-check5-requires
-check5-requires c κs = search needs
-
-check6-requires : tie.Need-check6-requires
-check6-requires c κs = search needs
-
-check7-requires : tie.Need-check7-requires
-check7-requires c κs = search needs
-
-check8-requires : tie.Need-check8-requires
-check8-requires c κs = search needs
-
-check9-requires : tie.Need-check9-requires
-check9-requires c κs = search needs
-
-check10-requires : tie.Need-check10-requires
-check10-requires c κs = search needs
-
-check11-requires : tie.Need-check11-requires
-check11-requires c κs = search needs
-
-check12-requires : tie.Need-check12-requires
-check12-requires c κs = search needs
-
-check13-requires : tie.Need-check13-requires
-check13-requires c κs = search needs
-
-check14-requires : tie.Need-check14-requires
-check14-requires c κs = search needs
-
 returns : tie.Need-returns
 unfolding failsBy
 returns c = rw (c .before .match .keys1) (c .check3 .ensures)
@@ -115,18 +79,18 @@ pub check-spec : {M : Type 1} → statement M
 check-spec =
     tie.close
     (tie.spec
-    check3-requires
-    check4-requires
-    check5-requires
-    check6-requires
-    check7-requires
-    check8-requires
-    check9-requires
-    check10-requires
-    check11-requires
-    check12-requires
-    check13-requires
-    check14-requires
+    (λ c κs. search needs)
+    (λ c κs. search needs)
+    (λ c κs. search needs)
+    (λ c κs. search needs)
+    (λ c κs. search needs)
+    (λ c κs. search needs)
+    (λ c κs. search needs)
+    (λ c κs. search needs)
+    (λ c κs. search needs)
+    (λ c κs. search needs)
+    (λ c κs. search needs)
+    (λ c κs. search needs)
     returns
     returns-2
     returns-3

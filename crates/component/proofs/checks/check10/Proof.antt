@@ -5,23 +5,8 @@ use borrow.Author.Needs.{needs}
 use Rattle.component.proofs.checks.check10.Statement.{statement}
 use Rattle.component.proofs.checks.check10.Tie as tie
 
-component-at-requires : tie.Need-component-at-requires
-component-at-requires c κs = search needs
-
-enum-known-id : tie.Need-enum-known-id
-enum-known-id c = search needs
-
-enum-told : tie.Need-enum-told
-enum-told c = search needs
-
 returns : tie.Need-returns
 returns c = search (given-passes, fails-other)
-
-id-before-requires : tie.Need-id-before-requires
-id-before-requires c κs = search needs
-
-given-requires : tie.Need-given-requires
-given-requires c κs = search needs
 
 returns-2 : tie.Need-returns-2
 returns-2 c = search (given-by, fails10-component)
@@ -30,10 +15,10 @@ pub check10-spec : {M : Type 1} → statement M
 check10-spec =
     tie.close
     (tie.spec
-    component-at-requires
-    enum-known-id
-    enum-told
+    (λ c κs. search needs)
+    (λ c. search needs)
+    (λ c. search needs)
     returns
-    id-before-requires
-    given-requires
+    (λ c κs. search needs)
+    (λ c κs. search needs)
     returns-2)

@@ -8,15 +8,6 @@ use borrow.Author.Needs.{needs}
 use Rattle.component.proofs.checks.check11.Statement.{statement}
 use Rattle.component.proofs.checks.check11.Tie as tie
 
-component-at-requires : tie.Need-component-at-requires
-component-at-requires c κs = search needs
-
-enum-told : tie.Need-enum-told
-enum-told c = search needs
-
-enum-told-2 : tie.Need-enum-told-2
-enum-told-2 c = search needs
-
 returns : tie.Need-returns
 returns c = search (given-passes, fails-other)
 
@@ -26,12 +17,6 @@ add-is-overfull c =
     let l : a .p < length (a .file .now) / 24 = search (component-within) in
     omega arith
 
-is-overfull-requires : tie.Need-is-overfull-requires
-is-overfull-requires c κs = search needs
-
-given-requires : tie.Need-given-requires
-given-requires c κs = search needs
-
 returns-2 : tie.Need-returns-2
 returns-2 c = search (given-by, fails11-component)
 
@@ -39,11 +24,11 @@ pub check11-spec : {M : Type 1} → statement M
 check11-spec =
     tie.close
     (tie.spec
-    component-at-requires
-    enum-told
-    enum-told-2
+    (λ c κs. search needs)
+    (λ c. search needs)
+    (λ c. search needs)
     returns
     add-is-overfull
-    is-overfull-requires
-    given-requires
+    (λ c κs. search needs)
+    (λ c κs. search needs)
     returns-2)

@@ -5,68 +5,8 @@ use borrow.Author.Needs.{needs}
 use Rattle.component.proofs.checks.check12.Statement.{statement}
 use Rattle.component.proofs.checks.check12.Tie as tie
 
-record-at-requires : tie.Need-record-at-requires
-record-at-requires c κs = search needs
-
-enum-known-owner : tie.Need-enum-known-owner
-enum-known-owner c = search needs
-
-enum-told : tie.Need-enum-told
-enum-told c = search needs
-
 returns : tie.Need-returns
 returns c = search (given-passes, fails12-refused)
-
-cast-o : tie.Need-cast-o
-cast-o c = search needs
-
-enum-told-2 : tie.Need-enum-told-2
-enum-told-2 c = search needs
-
-enum-known-says : tie.Need-enum-known-says
-enum-known-says c = search needs
-
-child-of-requires : tie.Need-child-of-requires
-child-of-requires c κs = search needs
-
-has-output-requires : tie.Need-has-output-requires
-has-output-requires c κs = search needs
-
-child-of-requires-2 : tie.Need-child-of-requires-2
-child-of-requires-2 c κs = search needs
-
-has-input-requires : tie.Need-has-input-requires
-has-input-requires c κs = search needs
-
-given-requires : tie.Need-given-requires
-given-requires c κs = search needs
-
-enum-known-says-2 : tie.Need-enum-known-says-2
-enum-known-says-2 c = search needs
-
-child-of-requires-3 : tie.Need-child-of-requires-3
-child-of-requires-3 c κs = search needs
-
-has-input-requires-2 : tie.Need-has-input-requires-2
-has-input-requires-2 c κs = search needs
-
-has-input-requires-3 : tie.Need-has-input-requires-3
-has-input-requires-3 c κs = search needs
-
-given-requires-2 : tie.Need-given-requires-2
-given-requires-2 c κs = search needs
-
-enum-known-says-3 : tie.Need-enum-known-says-3
-enum-known-says-3 c = search needs
-
-child-of-requires-4 : tie.Need-child-of-requires-4
-child-of-requires-4 c κs = search needs
-
-has-output-requires-2 : tie.Need-has-output-requires-2
-has-output-requires-2 c κs = search needs
-
-given-requires-3 : tie.Need-given-requires-3
-given-requires-3 c κs = search needs
 
 returns-2 : tie.Need-returns-2
 returns-2 c = search (given-passes, fails12-component)
@@ -84,27 +24,27 @@ pub check12-spec : {M : Type 1} → statement M
 check12-spec =
     tie.close
     (tie.spec
-    record-at-requires
-    enum-known-owner
-    enum-told
+    (λ c κs. search needs)
+    (λ c. search needs)
+    (λ c. search needs)
     returns
-    cast-o
-    enum-told-2
-    enum-known-says
-    child-of-requires
-    has-output-requires
-    child-of-requires-2
-    has-input-requires
-    given-requires
-    enum-known-says-2
-    child-of-requires-3
-    has-input-requires-2
-    has-input-requires-3
-    given-requires-2
-    enum-known-says-3
-    child-of-requires-4
-    has-output-requires-2
-    given-requires-3
+    (λ c. search needs)
+    (λ c. search needs)
+    (λ c. search needs)
+    (λ c κs. search needs)
+    (λ c κs. search needs)
+    (λ c κs. search needs)
+    (λ c κs. search needs)
+    (λ c κs. search needs)
+    (λ c. search needs)
+    (λ c κs. search needs)
+    (λ c κs. search needs)
+    (λ c κs. search needs)
+    (λ c κs. search needs)
+    (λ c. search needs)
+    (λ c κs. search needs)
+    (λ c κs. search needs)
+    (λ c κs. search needs)
     returns-2
     returns-3
     returns-4

@@ -5,29 +5,11 @@ use borrow.Author.Needs.{needs}
 use Rattle.component.proofs.checks.check14.Statement.{statement}
 use Rattle.component.proofs.checks.check14.Tie as tie
 
-component-at-requires : tie.Need-component-at-requires
-component-at-requires c κs = search needs
-
-enum-known-fields : tie.Need-enum-known-fields
-enum-known-fields c = search needs
-
-enum-told : tie.Need-enum-told
-enum-told c = search needs
-
 returns : tie.Need-returns
 returns c = search (given-passes, fails14-other)
 
 returns-2 : tie.Need-returns-2
 returns-2 c = search (given-passes, fails14-primitive)
-
-cast-given : tie.Need-cast-given
-cast-given c = search needs
-
-out-map-count-requires : tie.Need-out-map-count-requires
-out-map-count-requires c κs = search needs
-
-given-requires : tie.Need-given-requires
-given-requires c κs = search needs
 
 returns-3 : tie.Need-returns-3
 returns-3 c = search (given-by, fails14-composite)
@@ -36,12 +18,12 @@ pub check14-spec : {M : Type 1} → statement M
 check14-spec =
     tie.close
     (tie.spec
-    component-at-requires
-    enum-known-fields
-    enum-told
+    (λ c κs. search needs)
+    (λ c. search needs)
+    (λ c. search needs)
     returns
     returns-2
-    cast-given
-    out-map-count-requires
-    given-requires
+    (λ c. search needs)
+    (λ c κs. search needs)
+    (λ c κs. search needs)
     returns-3)

@@ -5,29 +5,11 @@ use borrow.Author.Needs.{needs}
 use Rattle.component.proofs.checks.check6.Statement.{statement}
 use Rattle.component.proofs.checks.check6.Tie as tie
 
-component-at-requires : tie.Need-component-at-requires
-component-at-requires c κs = search needs
-
-enum-told : tie.Need-enum-told
-enum-told c = search needs
-
-enum-told-2 : tie.Need-enum-told-2
-enum-told-2 c = search needs
-
 returns : tie.Need-returns
 returns c = search (given-passes, fails-other)
 
 returns-2 : tie.Need-returns-2
 returns-2 c = search (given-fails, fails6-number)
-
-deepest-requires : tie.Need-deepest-requires
-deepest-requires c κs = search needs
-
-deeper-requires : tie.Need-deeper-requires
-deeper-requires c κs = search needs
-
-given-requires : tie.Need-given-requires
-given-requires c κs = search needs
 
 returns-3 : tie.Need-returns-3
 returns-3 c = search (given-by, fails6-depth)
@@ -36,12 +18,12 @@ pub check6-spec : {M : Type 1} → statement M
 check6-spec =
     tie.close
     (tie.spec
-    component-at-requires
-    enum-told
-    enum-told-2
+    (λ c κs. search needs)
+    (λ c. search needs)
+    (λ c. search needs)
     returns
     returns-2
-    deepest-requires
-    deeper-requires
-    given-requires
+    (λ c κs. search needs)
+    (λ c κs. search needs)
+    (λ c κs. search needs)
     returns-3)

@@ -9,21 +9,6 @@ use borrow.Author.Needs.{needs}
 use Rattle.component.proofs.index.out_map_of.Statement.{statement}
 use Rattle.component.proofs.index.out_map_of.Tie as tie
 
-mul-result : tie.Need-mul-result
-mul-result c = search needs
-
-add-result : tie.Need-add-result
-add-result c = search needs
-
-add-result-2 : tie.Need-add-result-2
-add-result-2 c = search needs
-
-mul-result-2 : tie.Need-mul-result-2
-mul-result-2 c = search needs
-
-shared-slice-read-result : tie.Need-shared-slice-read-result
-shared-slice-read-result c = search needs
-
 cast-result : tie.Need-cast-result
 cast-result c =
     let a = c .before .before .before .before .before .args in
@@ -35,9 +20,6 @@ returns c =
     let a = c .before .before .before .before .before in
     a .pre .outs (a .args .c) (a .args .i) (c .before .before .if1 .taken) (c .before .if2 .taken)
 
-nth-owned-requires : tie.Need-nth-owned-requires
-nth-owned-requires c κs = search needs
-
 -- past it
 returns-2 : tie.Need-returns-2
 returns-2 c =
@@ -48,12 +30,12 @@ pub out-map-of-spec : {M : Type 1} → statement M
 out-map-of-spec =
     tie.close
     (tie.spec
-    mul-result
-    add-result
-    add-result-2
-    mul-result-2
-    shared-slice-read-result
+    (λ c. search needs)
+    (λ c. search needs)
+    (λ c. search needs)
+    (λ c. search needs)
+    (λ c. search needs)
     cast-result
     returns
-    nth-owned-requires
+    (λ c κs. search needs)
     returns-2)

@@ -7,27 +7,15 @@ use borrow.Author.Needs.{needs}
 use Rattle.component.proofs.index.widen.Statement.{statement}
 use Rattle.component.proofs.index.widen.Tie as tie
 
-enum-known-r : tie.Need-enum-known-r
-enum-known-r c = search needs
-
-enum-told : tie.Need-enum-told
-enum-told c = search needs
-
 returns : tie.Need-returns
 returns c =
     let a = c .before .before .args in
     widen-refused (a .r) (a .q) (a .ends .now) (c .enum-told .given .1)
 
-enum-told-2 : tie.Need-enum-told-2
-enum-told-2 c = search needs
-
 returns-2 : tie.Need-returns-2
 returns-2 c =
     let a = c .before .before .before .before .args in
     widen-other (a .r) (a .q) (a .ends .now) _ _ (c .before .before .r .given .1) (search needs)
-
-cast-c : tie.Need-cast-c
-cast-c c = search needs
 
 returns-3 : tie.Need-returns-3
 returns-3 c =
@@ -36,32 +24,11 @@ returns-3 c =
     widen-far (a .r) (a .q) (a .ends .now) _ _ (b .before .before .before .before .r .given .1)
     (b .before .enum-told2 .given .1) (c .if1 .taken)
 
-add-ends : tie.Need-add-ends
-add-ends c = search needs
-
-add-ends-2 : tie.Need-add-ends-2
-add-ends-2 c = search needs
-
-mul-ends : tie.Need-mul-ends
-mul-ends c = search needs
-
-slice-write-ends : tie.Need-slice-write-ends
-slice-write-ends c = search needs
-
-mul-if2 : tie.Need-mul-if2
-mul-if2 c = search needs
-
 slice-read-if2 : tie.Need-slice-read-if2
 slice-read-if2 c = rw length-set (omega arith)
 
-mul-ends-2 : tie.Need-mul-ends-2
-mul-ends-2 c = search needs
-
 slice-write-ends-2 : tie.Need-slice-write-ends-2
 slice-write-ends-2 c = rw length-set (omega arith)
-
-same-length : tie.Need-same-length
-same-length c = search needs
 
 returns-4 : tie.Need-returns-4
 returns-4 c =
@@ -69,9 +36,6 @@ returns-4 c =
     let a = b .before .before .before .before .before .before .args in
     widen-first (a .r) (a .q) (a .ends .now) _ _ (b .before .before .before .before .r .given .1)
     (b .before .enum-told2 .given .1) (b .if1 .left) (c .if2 .taken)
-
-same-length-2 : tie.Need-same-length-2
-same-length-2 c = search needs
 
 returns-5 : tie.Need-returns-5
 returns-5 c =
@@ -84,22 +48,22 @@ pub widen-spec : {M : Type 1} → statement M
 widen-spec =
     tie.close
     (tie.spec
-    enum-known-r
-    enum-told
+    (λ c. search needs)
+    (λ c. search needs)
     returns
-    enum-told-2
+    (λ c. search needs)
     returns-2
-    cast-c
+    (λ c. search needs)
     returns-3
-    add-ends
-    add-ends-2
-    mul-ends
-    slice-write-ends
-    mul-if2
+    (λ c. search needs)
+    (λ c. search needs)
+    (λ c. search needs)
+    (λ c. search needs)
+    (λ c. search needs)
     slice-read-if2
-    mul-ends-2
+    (λ c. search needs)
     slice-write-ends-2
-    same-length
+    (λ c. search needs)
     returns-4
-    same-length-2
+    (λ c. search needs)
     returns-5)

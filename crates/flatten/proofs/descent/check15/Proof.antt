@@ -8,46 +8,13 @@ use borrow.Author.Needs.{needs}
 use Rattle.flatten.proofs.descent.check15.Statement.{statement}
 use Rattle.flatten.proofs.descent.check15.Tie as tie
 
-record-at-requires : tie.Need-record-at-requires
-record-at-requires c κs = search needs
-
-enum-known-owner : tie.Need-enum-known-owner
-enum-known-owner c = search needs
-
-enum-told : tie.Need-enum-told
-enum-told c = search needs
-
 -- refused
 returns : tie.Need-returns
 returns c = search (given-passes, fails15-refused)
 
-enum-known-says : tie.Need-enum-known-says
-enum-known-says c = search needs
-
 -- no connection
 returns-2 : tie.Need-returns-2
 returns-2 c = search (given-passes, fails15-other)
-
-cast-child-of : tie.Need-cast-child-of
-cast-child-of c = search needs
-
-child-of-requires : tie.Need-child-of-requires
-child-of-requires c κs = search needs
-
-deepest-requires : tie.Need-deepest-requires
-deepest-requires c κs = search needs
-
-source-of-requires : tie.Need-source-of-requires
-source-of-requires c κs = search needs
-
-component-at-requires : tie.Need-component-at-requires
-component-at-requires c κs = search needs
-
-enum-known-fields : tie.Need-enum-known-fields
-enum-known-fields c = search needs
-
-enum-told-2 : tie.Need-enum-told-2
-enum-told-2 c = search needs
 
 -- a connection without a source
 returns-3 : tie.Need-returns-3
@@ -65,23 +32,11 @@ returns-3 c =
     (owner .owner .given .1) (says .says .given .1) _ _ _ _ (child .child-of .ensures) (depth .deepest .ensures) (source .source-of .ensures)
     (at .component-at .ensures) (c .enum-told2 .given .1))
 
-output-width-requires : tie.Need-output-width-requires
-output-width-requires c κs = search needs
-
-cast-child-of-2 : tie.Need-cast-child-of-2
-cast-child-of-2 c = search needs
-
 child-of-requires-2 : tie.Need-child-of-requires-2
 child-of-requires-2 c κs = c .before .before .before .before .before .before .before .before .before .before .before .before .before .before .before .before .before .pre
 
-deepest-requires-2 : tie.Need-deepest-requires-2
-deepest-requires-2 c κs = search needs
-
 differs-requires : tie.Need-differs-requires
 differs-requires c κs = c .before .before .before .before .before .before .before .before .before .before .before .before .before .before .before .before .before .before .before .pre
-
-given-requires : tie.Need-given-requires
-given-requires c κs = search needs
 
 -- any other connection
 returns-4 : tie.Need-returns-4
@@ -109,24 +64,24 @@ pub check15-spec : {M : Type 1} → statement M
 check15-spec =
     tie.close
     (tie.spec
-    record-at-requires
-    enum-known-owner
-    enum-told
+    (λ c κs. search needs)
+    (λ c. search needs)
+    (λ c. search needs)
     returns
-    enum-known-says
+    (λ c. search needs)
     returns-2
-    cast-child-of
-    child-of-requires
-    deepest-requires
-    source-of-requires
-    component-at-requires
-    enum-known-fields
-    enum-told-2
+    (λ c. search needs)
+    (λ c κs. search needs)
+    (λ c κs. search needs)
+    (λ c κs. search needs)
+    (λ c κs. search needs)
+    (λ c. search needs)
+    (λ c. search needs)
     returns-3
-    output-width-requires
-    cast-child-of-2
+    (λ c κs. search needs)
+    (λ c. search needs)
     child-of-requires-2
-    deepest-requires-2
+    (λ c κs. search needs)
     differs-requires
-    given-requires
+    (λ c κs. search needs)
     returns-4)

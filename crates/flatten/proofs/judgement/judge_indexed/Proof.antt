@@ -5,9 +5,6 @@ use borrow.Author.Needs.{needs}
 use Rattle.flatten.proofs.judgement.judge_indexed.Statement.{statement}
 use Rattle.flatten.proofs.judgement.judge_indexed.Tie as tie
 
-is-sized-requires : tie.Need-is-sized-requires
-is-sized-requires c κs = search needs
-
 returns : tie.Need-returns
 returns c = (search (verdict-sized), λ z. absurd (search (unsized)))
 
@@ -17,9 +14,6 @@ fill-index-requires c κs = (search (sized-most), search needs)
 judge-records-requires : tie.Need-judge-records-requires
 judge-records-requires c κs = (c .before .before .before .fill-index .ensures, search (sized-most))
 
-same-length : tie.Need-same-length
-same-length c = search needs
-
 returns-2 : tie.Need-returns-2
 returns-2 c = (search (verdict-judged), λ z. c .before .before .before .before .fill-index .ensures)
 
@@ -27,9 +21,9 @@ pub judge-indexed-spec : {M : Type 1} → statement M
 judge-indexed-spec =
     tie.close
     (tie.spec
-    is-sized-requires
+    (λ c κs. search needs)
     returns
     fill-index-requires
     judge-records-requires
-    same-length
+    (λ c. search needs)
     returns-2)

@@ -10,35 +10,11 @@ use borrow.Author.Needs.{needs}
 use Rattle.load.proofs.wires.connect.Statement.{statement}
 use Rattle.load.proofs.wires.connect.Tie as tie
 
-record-at-requires : tie.Need-record-at-requires
-record-at-requires c κs = search needs
-
-enum-known-owner : tie.Need-enum-known-owner
-enum-known-owner c = search needs
-
-enum-told : tie.Need-enum-told
-enum-told c = search needs
-
 returns : tie.Need-returns
 returns c = search (connect-refused)
 
-enum-known-says : tie.Need-enum-known-says
-enum-known-says c = search needs
-
 returns-2 : tie.Need-returns-2
 returns-2 c = search (connect-other)
-
-cast-child-of : tie.Need-cast-child-of
-cast-child-of c = search needs
-
-child-of-requires : tie.Need-child-of-requires
-child-of-requires c κs = search needs
-
-deepest-requires : tie.Need-deepest-requires
-deepest-requires c κs = search needs
-
-source-of-requires : tie.Need-source-of-requires
-source-of-requires c κs = search needs
 
 flat-pin-requires : tie.Need-flat-pin-requires
 flat-pin-requires c κs =
@@ -51,16 +27,10 @@ flat-pin-requires c κs =
           _ _ (s .pre .0) refl (s .pre .1 .0),
     )
 
-cast-child-of-2 : tie.Need-cast-child-of-2
-cast-child-of-2 c = search needs
-
 child-of-requires-2 : tie.Need-child-of-requires-2
 child-of-requires-2 c κs =
     let r = c .before .before .before .before .before .before .before .before .before .before in
     r .before .before .before .before .before .pre .0 .indexed
-
-deepest-requires-2 : tie.Need-deepest-requires-2
-deepest-requires-2 c κs = search needs
 
 lead-requires : tie.Need-lead-requires
 lead-requires c κs =
@@ -79,9 +49,6 @@ lead-requires c κs =
       ),
     )
 
-same-length : tie.Need-same-length
-same-length c = search needs
-
 returns-3 : tie.Need-returns-3
 returns-3 c =
     let f = c .before .before .before .before .before .before in
@@ -99,20 +66,20 @@ pub connect-spec : {M : Type 1} → statement M
 connect-spec =
     tie.close
     (tie.spec
-    record-at-requires
-    enum-known-owner
-    enum-told
+    (λ c κs. search needs)
+    (λ c. search needs)
+    (λ c. search needs)
     returns
-    enum-known-says
+    (λ c. search needs)
     returns-2
-    cast-child-of
-    child-of-requires
-    deepest-requires
-    source-of-requires
+    (λ c. search needs)
+    (λ c κs. search needs)
+    (λ c κs. search needs)
+    (λ c κs. search needs)
     flat-pin-requires
-    cast-child-of-2
+    (λ c. search needs)
     child-of-requires-2
-    deepest-requires-2
+    (λ c κs. search needs)
     lead-requires
-    same-length
+    (λ c. search needs)
     returns-3)

@@ -6,12 +6,6 @@ use borrow.Author.Needs.{needs}
 use Rattle.load.proofs.wires.flat_pin.Statement.{statement}
 use Rattle.load.proofs.wires.flat_pin.Tie as tie
 
-mul-t4 : tie.Need-mul-t4
-mul-t4 c = search needs
-
-shared-slice-read-t6 : tie.Need-shared-slice-read-t6
-shared-slice-read-t6 c = search needs
-
 cast-t7 : tie.Need-cast-t7
 cast-t7 c = omega (arith, c .shared-slice-known .given (c .before .args .comp))
 
@@ -23,4 +17,4 @@ returns c =
     )
 
 pub flat-pin-spec : {M : Type 1} → statement M
-flat-pin-spec = tie.close (tie.spec mul-t4 shared-slice-read-t6 cast-t7 returns)
+flat-pin-spec = tie.close (tie.spec (λ c. search needs) (λ c. search needs) cast-t7 returns)
