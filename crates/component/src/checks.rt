@@ -260,7 +260,9 @@ struct Ports {
 
 // Those of the primitive at a position; none where no primitive stands there.
 fn ports_at(file: &[u8], q: usize) -> Ports
-    ensures { λ r. ⌜ (r .inputs ≡ cond (isPrimitive (recordAt (now (file .entry)) q)) (inputsOf (recordAt (now (file .entry)) q)) 0) × (r .inputs ≤ 65535) × (r .outputs ≡ cond (isPrimitive (recordAt (now (file .entry)) q)) (outputsOf (recordAt (now (file .entry)) q)) 0) × (r .outputs ≤ 65535) ⌝ }
+    ensures { λ r. ⌜ (r .inputs ≡ cond (isPrimitive (recordAt (now (file .entry)) q)) (inputsOf (recordAt (now (file .entry)) q)) 0) ×
+        (r .inputs ≤ 65535) × (r .outputs ≡ cond (isPrimitive (recordAt (now (file .entry)) q)) (outputsOf (recordAt (now (file .entry)) q)) 0) ×
+        (r .outputs ≤ 65535) ⌝ }
 {
     let Stands::Component { fields, .. } = component_at(file, q) else {
         return Ports {

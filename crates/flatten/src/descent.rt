@@ -72,7 +72,8 @@ pub fn enter(file: &[u8], index: &[u16], c: usize, i: u16, q: usize) -> Entered
 // Whether input i of component c leads, through input maps and with the depth left, to an input of another width.
 fn differs(file: &[u8], index: &[u16], depth: u8, c: usize, i: u16, width: u64) -> bool
     requires { ⌜ IsIndex (now file) (now index) ⌝ }
-    ensures { λ r. ⌜ r ≡ any (unlike (recordAt (now (file .entry))) width) (inputsBelow (recordAt (now (file .entry))) (recordCount (now (file .entry))) depth c i) ⌝ }
+    ensures { λ r. ⌜ r ≡ any (unlike (recordAt (now (file .entry))) width)
+        (inputsBelow (recordAt (now (file .entry))) (recordCount (now (file .entry))) depth c i) ⌝ }
 {
     if depth == 0 {
         return false;

@@ -31,7 +31,8 @@ fn check_record(file: &[u8], index: &[u16], k: u32, p: usize) -> u32
 fn check_records(file: &[u8], index: &[u16], k: u32) -> Verdict
     requires { ⌜ IsIndex (now file) (now index) ⌝ }
     requires { ⌜ (3 ≤ k) × (recordCount (now file) ≤ 1024) ⌝ }
-    ensures { λ r. ⌜ r ≡ orLater k (first (failsAt (recordAt (now (file .entry))) (recordCount (now (file .entry))) k) (from 0 (recordCount (now (file .entry))))) Accepted ⌝ }
+    ensures { λ r. ⌜ r ≡ orLater k (first (failsAt (recordAt (now (file .entry))) (recordCount (now (file .entry))) k)
+        (from 0 (recordCount (now (file .entry))))) Accepted ⌝ }
 {
     let mut p: usize = 0;
     while p < file.len() / 24 {

@@ -22,7 +22,8 @@ pub extern "C" fn berxundar_calm(
     ensures { λ r.
         let lent = tablesOf (now (components .entry)) (now (inputs .entry)) (now (outputs .entry)) (now (wires .entry))
         (now (current .entry)) (now (following .entry)) (now (standing .entry)) in
-        ⌜ CallAsks calmGives AsksCalm (short (now (counts .entry)) 7 || short (now (found .entry)) 1) (now (counts .entry)) (now (found .entry)) (now (found .exit))
+        ⌜ CallAsks calmGives AsksCalm (short (now (counts .entry)) 7 || short (now (found .entry)) 1) (now (counts .entry)) (now (found .entry))
+        (now (found .exit))
         lent r ⌝ }
 {
     if (counts.len() < 7) | (found.len() < 1) {

@@ -24,7 +24,8 @@ pub extern "C" fn berxundar_index(
     ensures { λ r.
         let lent = tablesOf (now (components .entry)) (now (inputs .entry)) (now (outputs .entry)) (now (wires .entry))
         (now (current .entry)) (now (following .entry)) (now (standing .entry)) in
-        ⌜ CallAsks indexGives (λ T. AsksIndex T id) (short (now (counts .entry)) 7 || short (now (found .entry)) 1) (now (counts .entry)) (now (found .entry)) (now (found .exit))
+        ⌜ CallAsks indexGives (λ T. AsksIndex T id) (short (now (counts .entry)) 7 || short (now (found .entry)) 1) (now (counts .entry))
+        (now (found .entry)) (now (found .exit))
         lent r ⌝ }
 {
     if (counts.len() < 7) | (found.len() < 1) {

@@ -24,7 +24,8 @@ pub extern "C" fn berxundar_load(
         (now (current .entry)) (now (following .entry)) (now (standing .entry)) in
         let left = tablesOf (now (components .exit)) (now (inputs .exit)) (now (outputs .exit)) (now (wires .exit))
         (now (current .exit)) (now (following .exit)) (now (standing .exit)) in
-        ⌜ CallChanges (Loads (now (file .entry))) (sized (now (file .entry)) && short (now (counts .entry)) 7) (now (counts .entry)) (now (counts .exit)) lent left r ⌝ }
+        ⌜ CallChanges (Loads (now (file .entry))) (sized (now (file .entry)) && short (now (counts .entry)) 7) (now (counts .entry))
+        (now (counts .exit)) lent left r ⌝ }
 {
     if !flatten::is_sized(file) {
         return 65536;

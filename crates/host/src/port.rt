@@ -27,7 +27,8 @@ pub extern "C" fn berxundar_value(
     ensures { λ r.
         let lent = tablesOf (now (components .entry)) (now (inputs .entry)) (now (outputs .entry)) (now (wires .entry))
         (now (current .entry)) (now (following .entry)) (now (standing .entry)) in
-        ⌜ CallAsks valueGives (λ T. AsksValue T (sideOf side) index port) (short (now (counts .entry)) 7 || short (now (found .entry)) 2) (now (counts .entry)) (now (found .entry)) (now (found .exit))
+        ⌜ CallAsks valueGives (λ T. AsksValue T (sideOf side) index port) (short (now (counts .entry)) 7 || short (now (found .entry)) 2)
+        (now (counts .entry)) (now (found .entry)) (now (found .exit))
         lent r ⌝ }
 {
     if (counts.len() < 7) | (found.len() < 2) {

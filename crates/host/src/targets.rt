@@ -25,7 +25,8 @@ pub extern "C" fn berxundar_targets(
     ensures { λ r.
         let lent = tablesOf (now (components .entry)) (now (inputs .entry)) (now (outputs .entry)) (now (wires .entry))
         (now (current .entry)) (now (following .entry)) (now (standing .entry)) in
-        ⌜ CallLists (λ T. AsksTargets T index) (short (now (counts .entry)) 7 || short (now (found .entry)) 1) (now (counts .entry)) (now (list .entry)) (now (list .exit))
+        ⌜ CallLists (λ T. AsksTargets T index) (short (now (counts .entry)) 7 || short (now (found .entry)) 1) (now (counts .entry))
+        (now (list .entry)) (now (list .exit))
         (now (found .entry)) (now (found .exit)) lent r ⌝ }
 {
     if (counts.len() < 7) | (found.len() < 1) {

@@ -65,7 +65,8 @@ fn put_kind(out: &mut [u8], at: usize, kind: u64) -> usize
 
 // A component: its index, its kind and its id.
 fn put_component(out: &mut [u8], at: usize, components: &[u64], i: usize) -> usize
-    ensures { λ r. ⌜ Puts (now (out .entry)) at (componentLine i (fieldsIn (now (components .entry)) i .kind) (idIn (now (components .entry)) i)) (now (out .exit)) r ⌝ }
+    ensures { λ r. ⌜ Puts (now (out .entry)) at (componentLine i (fieldsIn (now (components .entry)) i .kind) (idIn (now (components .entry)) i))
+        (now (out .exit)) r ⌝ }
 {
     let kind = tables::kind_word(components, i);
     let id = tables::id_word(components, i);
@@ -95,7 +96,8 @@ fn put_counted(out: &mut [u8], at: usize, word: &[u8], count: usize) -> usize
 
 // The components: how many, and a line for each.
 fn put_components(out: &mut [u8], at: usize, components: &[u64], count: usize) -> usize
-    ensures { λ r. ⌜ Puts (now (out .entry)) at (componentsText (tablesOf (now (components .entry)) [] [] [] [] [] [] (countsOf count 0 0 0 0 0 0))) (now (out .exit)) r ⌝ }
+    ensures { λ r. ⌜ Puts (now (out .entry)) at (componentsText (tablesOf (now (components .entry)) [] [] [] [] [] [] (countsOf count 0 0 0 0 0 0)))
+        (now (out .exit)) r ⌝ }
 {
     let mut next = put_counted(out, at, b"components ", count);
     let mut i: usize = 0;
@@ -108,7 +110,8 @@ fn put_components(out: &mut [u8], at: usize, components: &[u64], count: usize) -
 
 // The wires: how many, and a line for each.
 fn put_wires(out: &mut [u8], at: usize, wires: &[u16], count: usize) -> usize
-    ensures { λ r. ⌜ Puts (now (out .entry)) at (wiresText (tablesOf [] [] [] (now (wires .entry)) [] [] [] (countsOf 0 0 0 count 0 0 0))) (now (out .exit)) r ⌝ }
+    ensures { λ r. ⌜ Puts (now (out .entry)) at (wiresText (tablesOf [] [] [] (now (wires .entry)) [] [] [] (countsOf 0 0 0 count 0 0 0)))
+        (now (out .exit)) r ⌝ }
 {
     let mut next = put_counted(out, at, b"wires ", count);
     let mut k: usize = 0;

@@ -1,4 +1,5 @@
-// The tables of components, inputs and outputs at load: one pass each over the records. Rules: docs/SPECIFICATION.md, "Flattening" (primitives keep file order) and "Rounds" (the state at load).
+// The tables of components, inputs and outputs at load: one pass each over the records. Rules: docs/SPECIFICATION.md, "Flattening"
+// (primitives keep file order) and "Rounds" (the state at load).
 ghost use mathlib.Core.Path.{_≡_};
 ghost use Prim.Native.Nat.{_+_, _*_, _≤_, _<_};
 ghost use lib.ListN.{length, replicate};
@@ -52,7 +53,8 @@ fn wide(x: u16) -> usize
 fn lay_component(components: &mut [u64], drawn: Drawn, before: Before) -> Before
     requires { ⌜ (rowPlace (before .components) + length (rowBy drawn before) ≤ length (now components)) × (before .components ≤ 256)
         × (before .inputs ≤ 1024) × (before .outputs ≤ 1024) ⌝ }
-    ensures { λ r. ⌜ (now (components .exit) ≡ sets (now (components .entry)) (rowPlace (before .components)) (rowBy drawn before)) × (r ≡ beforeBy drawn before) ⌝ }
+    ensures { λ r. ⌜ (now (components .exit) ≡ sets (now (components .entry)) (rowPlace (before .components)) (rowBy drawn before)) ×
+        (r ≡ beforeBy drawn before) ⌝ }
 {
     let Drawn::Primitive { id, fields } = drawn else {
         return before;

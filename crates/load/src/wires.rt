@@ -129,7 +129,8 @@ fn connect(
 fn connect_all(file: &[u8], index: &[u16], indexes: &[u16], wires: &mut [u16]) -> usize
     requires { ⌜ Ready (now file) (now index) (now indexes) ⌝ }
     requires { ⌜ 4096 ≤ length (now wires) ⌝ }
-    ensures { λ r. ⌜ (now (wires .exit) ≡ overlay (joined wireWords (flatWires (recordAt (now (file .entry))) (recordCount (now (file .entry))))) (now (wires .entry)))
+    ensures { λ r. ⌜ (now (wires .exit) ≡ overlay (joined wireWords (flatWires (recordAt (now (file .entry))) (recordCount (now (file .entry)))))
+        (now (wires .entry)))
         × (r ≡ length (flatWires (recordAt (now (file .entry))) (recordCount (now (file .entry))))) ⌝ }
 {
     let mut at: usize = 0;

@@ -115,7 +115,8 @@ fn mark_ends(wires: &[u16], count: usize, near: Tip, far: Tip, i: usize, marks: 
 // Lists the marked ones of the first `count` components, ascending. The answer is how many there are.
 fn list_marked(marks: &[u8], count: usize, list: &mut [u16]) -> usize
     requires { ⌜ (count ≤ 256) × (count ≤ length (now marks)) × (count ≤ length (now list)) ⌝ }
-    ensures { λ r. ⌜ (r ≡ length (markedBelow (now (marks .entry)) count)) × (now (list .exit) ≡ overlay (markedBelow (now (marks .entry)) count) (now (list .entry))) ⌝ }
+    ensures { λ r. ⌜ (r ≡ length (markedBelow (now (marks .entry)) count)) ×
+        (now (list .exit) ≡ overlay (markedBelow (now (marks .entry)) count) (now (list .entry))) ⌝ }
 {
     let mut listed: usize = 0;
     let mut j: usize = 0;
