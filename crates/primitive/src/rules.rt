@@ -148,7 +148,7 @@ fn update_as(kind: Kind, f: Fields, inputs: &[u64], outputs: &mut [u64], time: u
     }
 }
 
-// Evaluates a component that obeys the table of kinds over its own ports and no others. `evaluate` calls it, and crate simulator
+// Evaluates a component that obeys the table of kinds over its own ports and no others. `evaluate` calls it, and crate rounds
 // does for each component of a round: both have tested what it requires.
 pub fn update(f: Fields, inputs: &[u64], outputs: &mut [u64], time: u64)
     requires { ⌜ Own f (now inputs) (now outputs) ⌝ }

@@ -99,7 +99,7 @@ pub fn fields_fit(components: &[u64], i: usize) -> bool
     (kind < 256) & (inputs < 65536) & (outputs < 65536) & (width < 65536)
 }
 
-// The fields of component i, whose words fit. Crates net and simulator call it for the components of a net.
+// The fields of component i, whose words fit. Crates net, rounds and simulator call it for the components of a net.
 pub fn fields_at(components: &[u64], i: usize) -> Fields
     requires { ⌜ fieldsFit (fieldsIn (now components) i) ≡ true ⌝ }
     ensures { λ r. ⌜ r ≡ fieldsIn (now (components .entry)) i ⌝ }
@@ -114,8 +114,7 @@ pub fn fields_at(components: &[u64], i: usize) -> Fields
 }
 
 // Lays the words of component i, whose ports start at `inputs` and `outputs` of their tables. Crate load calls it for the
-// primitives of an accepted drawing, for which a table of full size has
-// room.
+// primitives of an accepted drawing, for which a table of full size has room.
 pub fn lay_row(
     components: &mut [u64],
     i: usize,
