@@ -14,12 +14,12 @@ use Rattle.primitive.specs.Kinds.{is}
 use Rattle.primitive.specs.Evaluate.{outputsAfter}
 use Rattle.tables.specs.declared.Wire.{Wire}
 use Rattle.tables.specs.Tables.{Tables, fieldsAt, firstInput, firstOutput, inputsAt, outputsAt, wiresIn}
-use Rattle.rounds.specs.Round.{State, editedState}
+use Rattle.rounds.specs.Round.{State, withInputs, withOutputs, stood, editedState}
 use Rattle.simulator.specs.Calls.{driven}
 use Rattle.rounds.proofs.Evaluation.{is-other}
 use Rattle.rounds.proofs.Sound.{Sound}
 use Rattle.rounds.proofs.Held.{Held, Agree}
-use Rattle.quiet.proofs.Edited.{Editable, driven-none, stood, switched, fed, EditCase, switch, input, edit-case, switch-others, switch-left, input-others, input-left}
+use Rattle.quiet.proofs.Edited.{Editable, driven-none, switched, fed, EditCase, switch, input, edit-case, switch-others, switch-left, input-others, input-left}
 use Rattle.quiet.proofs.Invariant.{clocked, Fits, Awaits, Named, now, next, later, Inv}
 
 -- An edit of component i, which is no Clock: the invariant holds of the new state where each wire that does not leave i
@@ -30,7 +30,7 @@ module _ (T : Tables) (ran : Bool) (t i : ℕ) (unclocked : clocked T i ≡ fals
   n = T .counts .components
 
   abbrev new : State
-  new = stood i s xs ys
+  new = stood i (withInputs xs (withOutputs ys s))
 
   stood-inv : ((w : Wire) → In w (wiresIn T) → (w .src .comp .0 ≡ i → ⊥) → Agree T s w → Agree T new w)
       → ((d : ℕ) → d < n → (d ≡ i → ⊥) → Fits T t s d → Fits T t new d) → Inv T ran t new

@@ -12,7 +12,6 @@ use borrow.Author.Tests.{not-true, eq-eqb}
 use lib.ListN.{length, getD, set, length-set}
 use lib.Seq.{getD-set-same, getD-set-other}
 use lib.Dec.{eqb}
-use Rattle.lists.specs.Lists.{appendNew}
 use Rattle.lists.proofs.ListsLaws.{and-left, and-right}
 use Rattle.lists.proofs.MembersLaws.{In, or-cases, any-none}
 use Rattle.lists.proofs.NamesLaws.{names-append}
@@ -21,7 +20,7 @@ use Rattle.primitive.specs.declared.kinds.Kind.the-variants.{Switch, Input, Con
 use Rattle.primitive.specs.Kinds.{is, inputWidth, outputWidth}
 use Rattle.tables.specs.declared.Wire.{Wire}
 use Rattle.tables.specs.Tables.{Tables, fieldsAt, firstInput, firstOutput, numbers, inputsAt, outputsAt, wiresIn}
-use Rattle.rounds.specs.Round.{State, editedState}
+use Rattle.rounds.specs.Round.{State, withInputs, withOutputs, stood, portSet, editedState}
 use Rattle.simulator.specs.Calls.{driven, editNumber}
 use Rattle.simulator.proofs.EditsLaws.{edit-there, edit-settable, edit-fits}
 use Rattle.rounds.proofs.Ports.{Off, off-apart, numbers-cong}
@@ -57,23 +56,12 @@ pub driven-none : (T : Tables) (i : ℕ) (w : Wire) → driven T i ≡ false →
 driven-none T i w e m q =
     true≢false (sym (eq-eqb (w .dst .comp .0) i q) ∙ any-none (λ (v : Wire). eqb (v .dst .comp .0) i) w (wiresIn T) e m)
 
--- The state with other tables of ports, and component i in the standing list.
-abbrev pub stood : ℕ → State → List ℕ → List ℕ → State
-stood i s xs ys =
-    record {
-      inputs = xs;
-      outputs = ys;
-      current = s .current;
-      following = s .following;
-      standing = appendNew i (s .standing);
-    }
-
 -- The state after a Switch's output was set, and after an Input's input was.
 unfoldable pub switched : Tables → ℕ → ℕ → State → State
-switched T i v s = stood i s (s .inputs) (set (s .outputs) (firstOutput T i) v)
+switched T i v s = stood i (withOutputs (set (s .outputs) (firstOutput T i) v) s)
 
 unfoldable pub fed : Tables → ℕ → ℕ → State → State
-fed T i v s = stood i s (set (s .inputs) (firstInput T i) v) (s .outputs)
+fed T i v s = stood i (withInputs (set (s .inputs) (firstInput T i) v) s)
 
 -- An edit is one of the two.
 pub data EditCase (T : Tables) (i v : ℕ) (s : State) : Type 0 where
@@ -84,7 +72,7 @@ pub data EditCase (T : Tables) (i v : ℕ) (s : State) : Type 0 where
       → EditCase T i v s
 
 pub edit-case : (T : Tables) (i v : ℕ) (s : State) → Editable T i v → EditCase T i v s
-unfolding editedState switched fed
+unfolding editedState portSet switched fed
 edit-case T i v s a = by-kind (a .settable) (a .value)
   where
     by-kind : (is Switch (fieldsAt T i) ≡ true) ⊎ ((is Input (fieldsAt T i) ≡ true) × (driven T i ≡ false))

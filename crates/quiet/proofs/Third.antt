@@ -18,7 +18,7 @@ use Rattle.net.specs.Net.{netNumber}
 use Rattle.rounds.specs.Round.{State, stateOf, leave, wiresFrom, evaluated, send, visit, round, editedState, roundOf}
 use Rattle.simulator.specs.Calls.{roundTables, editNumber, editTables}
 use Rattle.rounds.proofs.Held.{foldl-keeps, written, SendCase, agrees, writes, send-case}
-use Rattle.simulator.proofs.EditsLaws.{edit-is-net}
+use Rattle.simulator.proofs.EditsLaws.{edit-is-net, portSet-ports}
 use Rattle.rounds.proofs.Left.{stateOf-leave}
 use Rattle.simulator.proofs.Kept.{by-number, roundTables-done, roundTables-net}
 use Rattle.quiet.proofs.EditKept.{editTables-done, editTables-net}
@@ -121,15 +121,16 @@ edits-keep P f T p (more {U = U} i v r) =
 module _ (x : ℕ) where
   edits-current : (T : Tables) {U : Tables} → In x (currentList T) → AnyEdits T U → In x (currentList U)
   unfolding editedState
-  edits-current = edits-keep (λ (s : State). In x (s .current)) (λ T i v m. m)
+  edits-current = edits-keep (λ (s : State). In x (s .current)) (λ T i v m. rw (portSet-ports T i v (stateOf T)) m)
 
   edits-following : (T : Tables) {U : Tables} → In x (followingList T) → AnyEdits T U → In x (followingList U)
   unfolding editedState
-  edits-following = edits-keep (λ (s : State). In x (s .following)) (λ T i v m. m)
+  edits-following = edits-keep (λ (s : State). In x (s .following)) (λ T i v m. rw (portSet-ports T i v (stateOf T)) m)
 
   edits-standing : (T : Tables) {U : Tables} → In x (standingList T) → AnyEdits T U → In x (standingList U)
   unfolding editedState
-  edits-standing = edits-keep (λ (s : State). In x (s .standing)) (λ T i v m. appendNew-kept i x (standingList T) m)
+  edits-standing = edits-keep (λ (s : State). In x (s .standing))
+      (λ T i v m. rw (portSet-ports T i v (stateOf T)) (appendNew-kept i x (standingList T) m))
 
 -- An edit that is not refused names its component in the standing list.
 pub editTables-stands : (T : Tables) (i v : ℕ) → editNumber T i v ≡ 0 → In i (standingList (editTables T i v))
@@ -137,7 +138,7 @@ unfolding editedState
 editTables-stands T i v e =
     let p : stateOf (editTables T i v) ≡ editedState T i v (stateOf T)
     = ap stateOf (editTables-done T i v e) ∙ stateOf-leave T (editedState T i v (stateOf T)) in
-    subst (λ (s : State). In i (s .standing)) (sym p) (appendNew-has i (standingList T))
+    subst (λ (s : State). In i (s .standing)) (sym p) (rw (portSet-ports T i v (stateOf T)) (appendNew-has i (standingList T)))
 
 -- After an edit of component i that is not refused, one of the next three rounds evaluates it: with U₁, U₂ and U₃ the
 -- tables on which those rounds are called, the current list of one of them names i. Any edits may come before each.

@@ -26,7 +26,7 @@ use Rattle.primitive.specs.Own.{Own}
 use Rattle.primitive.proofs.FitLaws.{outputsAfter-length, outputsAfter-fits}
 use Rattle.tables.specs.declared.Wire.{Wire}
 use Rattle.tables.specs.Tables.{Tables, fieldsAt, firstInput, firstOutput, inputPlace, outputPlace, inputsAt, outputsAt, wiresIn}
-use Rattle.rounds.specs.Round.{State, wiresFrom, evaluated, send, visit, round}
+use Rattle.rounds.specs.Round.{State, withInputs, withFollowing, wiresFrom, evaluated, send, visit, round}
 use Rattle.rounds.proofs.Ports.{off-apart, sets-at-ne, sets-at, numbers-length, numbers-at, numbers-fit}
 use Rattle.rounds.proofs.Evaluation.{const-outputs, outputsAfter-const}
 use Rattle.rounds.proofs.Sound.{outputsEnd, inputsEnd, Sound, output-off, inputs-off, input-room}
@@ -80,13 +80,7 @@ Agree T s w = carried T s w ≡ received T s w
 -- The store of one wire.
 unfoldable pub written : Tables → State → Wire → State
 written T s w =
-    record {
-      inputs = set (s .inputs) (inputPlace T (w .dst)) (carried T s w);
-      outputs = s .outputs;
-      current = s .current;
-      following = appendNew (w .dst .comp .0) (s .following);
-      standing = s .standing;
-    }
+    withInputs (set (s .inputs) (inputPlace T (w .dst)) (carried T s w)) (withFollowing (appendNew (w .dst .comp .0) (s .following)) s)
 
 -- A wire either agrees, and nothing is done, or it does not, and its input is written.
 pub data SendCase (T : Tables) (s : State) (w : Wire) : Type 0 where

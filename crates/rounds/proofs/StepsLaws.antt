@@ -30,7 +30,7 @@ use Rattle.tables.proofs.NamedLaws.{overlay-list, overlay-count}
 use Rattle.tables.specs.Words.{uncounted, wireIn}
 use Rattle.net.specs.Net.{names}
 use Rattle.net.proofs.NetLaws.{names-existing}
-use Rattle.rounds.specs.Round.{State, wiresFrom, evaluated, send, visit}
+use Rattle.rounds.specs.Round.{State, withCurrent, withStanding, wiresFrom, evaluated, send, visit}
 use Rattle.rounds.specs.Steps.{wiring, stateAt, CanEvaluate, CanSend, CanRun, ListFits, Step}
 use Rattle.rounds.proofs.Ports.{numbers-length}
 use Rattle.rounds.proofs.Held.{foldl-keeps, carried, received, written, SendCase, agrees, writes, send-case}
@@ -256,20 +256,7 @@ module _ (cs ws : List ℕ) (m : Counts) where
 
 -- What a step leaves beside: sends leave the standing list, and no step reads or writes the current one.
 abbrev beside : (List ℕ → List ℕ) → (List ℕ → List ℕ) → State → State
-beside f g s =
-    record {
-      inputs = s .inputs;
-      outputs = s .outputs;
-      current = f (s .current);
-      following = s .following;
-      standing = g (s .standing);
-    }
-
-abbrev standingAs : List ℕ → State → State
-standingAs d = beside (λ l. l) (λ l. d)
-
-abbrev currentAs : List ℕ → State → State
-currentAs d = beside (λ l. d) (λ l. l)
+beside f g s = withCurrent (f (s .current)) (withStanding (g (s .standing)) s)
 
 foldl-beside : {A : Type 0} (g : State → State) (f : State → A → State) → ((s : State) (a : A) → f (g s) a ≡ g (f s a))
     → (s : State) (xs : List A) → foldl f (g s) xs ≡ g (foldl f s xs)
@@ -286,14 +273,14 @@ module _ (T : Tables) where
       by-test false = refl
 
   visit-current : (ws : List Wire) (t : ℕ) (d : List ℕ) (s : State) (i : ℕ)
-      → visit T ws t (currentAs d s) i ≡ currentAs d (visit T ws t s i)
+      → visit T ws t (withCurrent d s) i ≡ withCurrent d (visit T ws t s i)
   unfolding visit evaluated
   visit-current ws t d s i =
-      foldl-beside (currentAs d) (send T) (send-beside (λ l. d) (λ l. l)) (evaluated T t i s) (wiresFrom i ws)
+      foldl-beside (withCurrent d) (send T) (send-beside (λ l. d) (λ l. l)) (evaluated T t i s) (wiresFrom i ws)
 
   pub visits-current : (ws : List Wire) (t : ℕ) (d : List ℕ) (s : State) (xs : List ℕ)
-      → foldl (visit T ws t) (currentAs d s) xs ≡ currentAs d (foldl (visit T ws t) s xs)
-  visits-current ws t d s xs = foldl-beside (currentAs d) (visit T ws t) (visit-current ws t d) s xs
+      → foldl (visit T ws t) (withCurrent d s) xs ≡ withCurrent d (foldl (visit T ws t) s xs)
+  visits-current ws t d s xs = foldl-beside (withCurrent d) (visit T ws t) (visit-current ws t d) s xs
 
   -- A component of the list, from its evaluation and its wires.
   pub visited : (ws : List Wire) (t i : ℕ) (ins outs fol std ins' outs' fol' std' : List ℕ)
@@ -305,8 +292,8 @@ module _ (T : Tables) where
       let o : outs' ≡ evaluated T t i (stateAt ins outs [] std) .outputs = ap (λ (u : State). u .outputs) e in
       let d : std' ≡ evaluated T t i (stateAt ins outs [] std) .standing = ap (λ (u : State). u .standing) e in
       let v : stateAt ins outs' fol std' ≡ evaluated T t i (stateAt ins outs fol std) = rw (o, d) in
-      ap (standingAs std') f
-      ∙ sym (foldl-beside (standingAs std') (send T) (send-beside (λ l. l) (λ l. std')) (stateAt ins outs' fol [])
+      ap (withStanding std') f
+      ∙ sym (foldl-beside (withStanding std') (send T) (send-beside (λ l. l) (λ l. std')) (stateAt ins outs' fol [])
       (wiresFrom i ws))
       ∙ ap (λ (u : State). foldl (send T) u (wiresFrom i ws)) v
 

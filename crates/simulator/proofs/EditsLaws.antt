@@ -22,7 +22,7 @@ use Rattle.tables.specs.Tables.{Tables, tablesOf, fieldsAt, firstInput, firstOu
 use Rattle.tables.specs.Words.{fieldsIn, firstInputIn, firstOutputIn}
 use Rattle.net.specs.Net.{netNumber}
 use Rattle.net.proofs.NetLaws.{netNumber-net, netNumber-sizes}
-use Rattle.rounds.specs.Round.{leave, editedState}
+use Rattle.rounds.specs.Round.{State, withInputs, withOutputs, stateOf, leave, portSet, editedState}
 use Rattle.simulator.specs.Calls.{driven, editNumber, editTables, Edits}
 use Rattle.simulator.specs.declared.questions.Tip.the-variants.{Target}
 use Rattle.simulator.specs.Asked.{ends, editRefusal}
@@ -138,6 +138,19 @@ module _ (T : Tables) (i v : ℕ) (z : editNumber T i v ≡ 0) where
       append-room T i (standingList T) (T .standing) (netNumber-net T edit-is-net .standing) edit-there
       (net-within T edit-is-net .components) (netNumber-sizes T edit-is-net .standing)
 
+-- Both tables of ports after a port is set; the lists are left.
+pub portSet-ports : (T : Tables) (i v : ℕ) (s : State)
+    → portSet T i v s ≡ withInputs (cond (is Switch (fieldsAt T i)) (s .inputs) (set (s .inputs) (firstInput T i) v))
+    (withOutputs (cond (is Switch (fieldsAt T i)) (set (s .outputs) (firstOutput T i) v) (s .outputs)) s)
+unfolding portSet
+portSet-ports T i v s = by-kind (is Switch (fieldsAt T i))
+  where
+    by-kind : (b : Bool) → cond b (withOutputs (set (s .outputs) (firstOutput T i) v) s) (withInputs (set (s .inputs) (firstInput T i) v) s)
+        ≡ withInputs (cond b (s .inputs) (set (s .inputs) (firstInput T i) v))
+        (withOutputs (cond b (set (s .outputs) (firstOutput T i) v) (s .outputs)) s)
+    by-kind true = refl
+    by-kind false = refl
+
 -- A table with its own list at its front.
 overlay-same : (n : ℕ) (t : List ℕ) → n ≤ length t → overlay (take n t) t ≡ t
 unfolding overlay
@@ -176,6 +189,7 @@ module _ (cs ins outs ws cur fol std : List ℕ) (m : Counts) (i v : ℕ) where
         let net = edit-is-net came i v z in
         rw (
           z,
+          portSet-ports came i v (stateOf came),
           ei,
           eo,
           en,
