@@ -13,7 +13,7 @@ use Rattle.tables.specs.Tables.{fullSize, endAt, wiresIn, currentList, followin
 use Rattle.load.specs.Load.{drawingTables, loadVerdict, loadTables}
 use Rattle.load.proofs.FlatWires.{wire}
 use Rattle.net.specs.Net.{countsWithin, kindsObeyed, idsDistinct, portsFollow, valuesFit, constsHeld, wiresFit, inputsOnce, names, isNet, netNumber}
-use Rattle.rounds.specs.Round.{leave, evaluated, send, visit, round, editedState, calm, roundOf}
+use Rattle.rounds.specs.Round.{leave, evaluated, send, visit, round, portSet, editedState, calm, roundOf}
 use Rattle.simulator.specs.Calls.{roundTables, editNumber, editTables, run}
 use Rattle.demands.specs.Lamp.{lamp, lampLoaded, lampSet}
 
@@ -43,5 +43,5 @@ lamp-run = refl
 pub lamp-timing :
     currentList (lampSet 0) ∷ currentList (lampSet 1) ∷ currentList (lampSet 2) ∷ currentList (lampSet 3) ∷ currentList (lampSet 4) ∷ currentList (lampSet 5) ∷ []
     ≡ [] ∷ [] ∷ (0 ∷ []) ∷ (0 ∷ 2 ∷ []) ∷ (3 ∷ []) ∷ [] ∷ []
-unfolding loadTables loadVerdict drawingTables verdict overlay fullSize deepest obeys outputBelow inputsBelow comesFrom goesTo roundTables netNumber isNet countsWithin kindsObeyed idsDistinct portsFollow valuesFit constsHeld wiresFit inputsOnce names roundOf leave round visit evaluated send outputsAfter functionOf appendNew strike editTables editNumber editedState
+unfolding loadTables loadVerdict drawingTables verdict overlay fullSize deepest obeys outputBelow inputsBelow comesFrom goesTo roundTables netNumber isNet countsWithin kindsObeyed idsDistinct portsFollow valuesFit constsHeld wiresFit inputsOnce names roundOf leave round visit evaluated send outputsAfter functionOf appendNew strike editTables editNumber editedState portSet
 lamp-timing = refl

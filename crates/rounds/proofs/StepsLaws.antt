@@ -357,15 +357,15 @@ module _ (cs ws : List ℕ) (m : Counts) where
       names-existing (wiring cs ws m) (take n t) (l .named) i
       (subst (λ (x : ℕ). In x (take n t)) (getD-take n t k 0 h ∙ sym e) (in-getD (take n t) k 0 b))
 
--- A loop over the current list: what is still to come.
-module _ (T : Tables) (ws : List Wire) (t : ℕ) (cur : List ℕ) (q n : ℕ) (s x : State) where
-  pub visits-next : (u : State) (i : ℕ) → q < n → n ≤ length cur → i ≡ getD cur q 0 → u ≡ visit T ws t s i
-      → foldl (visit T ws t) s (slice q n cur) ≡ x → foldl (visit T ws t) u (slice (q + 1) n cur) ≡ x
+-- A loop over a list of components: what is still to come.
+module _ (T : Tables) (ws : List Wire) (t : ℕ) (list : List ℕ) (q n : ℕ) (s x : State) where
+  pub visits-next : (u : State) (i : ℕ) → q < n → n ≤ length list → i ≡ getD list q 0 → u ≡ visit T ws t s i
+      → foldl (visit T ws t) s (slice q n list) ≡ x → foldl (visit T ws t) u (slice (q + 1) n list) ≡ x
   visits-next u i h l e eu so-far =
-      let y : foldl (visit T ws t) s (slice q n cur) ≡ foldl (visit T ws t) (visit T ws t s (getD cur q 0))
-      (slice (q + 1) n cur) =
-      rw (slice-cons q n cur 0 h l, add-one) in
+      let y : foldl (visit T ws t) s (slice q n list) ≡ foldl (visit T ws t) (visit T ws t s (getD list q 0))
+      (slice (q + 1) n list) =
+      rw (slice-cons q n list 0 h l, add-one) in
       rw (eu, e) (sym y ∙ so-far)
 
-  pub visits-end : q ≡ n → foldl (visit T ws t) s (slice q n cur) ≡ x → s ≡ x
-  visits-end h so-far = ap (foldl (visit T ws t) s) (sym (ap (λ (k : ℕ). slice k n cur) h ∙ slice-empty n cur)) ∙ so-far
+  pub visits-end : q ≡ n → foldl (visit T ws t) s (slice q n list) ≡ x → s ≡ x
+  visits-end h so-far = ap (foldl (visit T ws t) s) (sym (ap (λ (k : ℕ). slice k n list) h ∙ slice-empty n list)) ∙ so-far

@@ -156,11 +156,12 @@ fn visit(
     }
 }
 
-// Every component of the current list, in its order.
+// Every component of a list of `count` entries, in its order.
 fn visit_all(
     components: &[u64],
     wires: &[u16],
-    current: &[u16],
+    list: &[u16],
+    count: usize,
     inputs: &mut [u64],
     outputs: &mut [u64],
     following: &mut [u16],
@@ -170,19 +171,19 @@ fn visit_all(
     time: u64,
 ) -> Sizes
     requires { ⌜ CanRun (wiring (now components) (now wires) counts) (now inputs) (now outputs)
-        × ListFits (wiring (now components) (now wires) counts) (counts .current) (now current)
+        × ListFits (wiring (now components) (now wires) counts) count (now list)
         × ListFits (wiring (now components) (now wires) counts) (sizes .following) (now following) × (sizes .standing ≤ length (now standing)) ⌝ }
     ensures { λ r. ⌜ Visited r (now (following .exit)) (now (standing .exit))
         (stateAt (now (inputs .exit)) (now (outputs .exit)) (take (r .following) (now (following .exit))) (take (r .standing) (now (standing .exit))))
         (foldl (visit (wiring (now (components .entry)) (now (wires .entry)) counts)
         (wiresIn (wiring (now (components .entry)) (now (wires .entry)) counts)) time)
         (stateAt (now (inputs .entry)) (now (outputs .entry)) (take (sizes .following) (now (following .entry)))
-        (take (sizes .standing) (now (standing .entry)))) (take (counts .current) (now (current .entry)))) ⌝ }
+        (take (sizes .standing) (now (standing .entry)))) (take count (now (list .entry)))) ⌝ }
 {
     let mut reached = sizes;
     let mut k: usize = 0;
-    while k < counts.current {
-        let i = tables::entry(current, k);
+    while k < count {
+        let i = tables::entry(list, k);
         reached = visit(
             components,
             wires,
@@ -261,6 +262,7 @@ pub fn net_round(
         components,
         wires,
         current,
+        counts.current,
         inputs,
         outputs,
         &mut next,

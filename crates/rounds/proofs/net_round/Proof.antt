@@ -69,8 +69,8 @@ end-round-requires c κs =
     let s = at-copy .before .before .before .before .before .before .before .before .before .before in
     let f = netNumber-sizes (came s) (s .pre) in
     let v = at-visit-all .visit-all in
-    let n = v .kept .1 .1 .1 .1 .1 .0 ∙ at-copy .copy .kept .1 .1 .0 in
-    let l = v .kept .1 .1 .1 .1 .1 .1 .0 ∙ at-copy2 .copy2 .kept .1 .1 .0 in (
+    let n = v .kept .1 .1 .1 .1 .1 .1 .0 ∙ at-copy .copy .kept .1 .1 .0 in
+    let l = v .kept .1 .1 .1 .1 .1 .1 .1 .0 ∙ at-copy2 .copy2 .kept .1 .1 .0 in (
       v .ensures .following,
       v .ensures .standing,
       omega (arith, v .ensures .following, n, f .current),

@@ -15,22 +15,22 @@ use Rattle.rounds.proofs.visit_all.Statement.{statement}
 use Rattle.rounds.proofs.visit_all.Tie as tie
 
 abbrev Inv-loop : tie.InvT-loop
-Inv-loop components wires current inputs₀ outputs₀ following₀ standing₀ counts time reached₀ k₀
+Inv-loop components wires list count inputs₀ outputs₀ following₀ standing₀ counts time reached₀ k₀
     inputs outputs following standing reached k =
-    (k ≤ counts .current) × (length inputs ≡ length inputs₀) × (length outputs ≡ length outputs₀)
+    (k ≤ count) × (length inputs ≡ length inputs₀) × (length outputs ≡ length outputs₀)
     × (length following ≡ length following₀) × (length standing ≡ length standing₀)
     × ListFits (wiring components wires counts) (reached .following) following × (reached .standing ≤ length standing)
     × (foldl (visit (wiring components wires counts) (wiresIn (wiring components wires counts)) time)
     (stateAt inputs outputs (take (reached .following) following) (take (reached .standing) standing))
-    (slice k (counts .current) current)
+    (slice k count list)
     ≡ foldl (visit (wiring components wires counts) (wiresIn (wiring components wires counts)) time)
     (stateAt inputs₀ outputs₀ (take (reached₀ .following) following₀) (take (reached₀ .standing) standing₀))
-    (take (counts .current) current))
+    (take count list))
 
 abbrev μ-loop : tie.MeasureT-loop
-μ-loop components wires current inputs₀ outputs₀ following₀ standing₀ counts time reached₀ k₀
+μ-loop components wires list count inputs₀ outputs₀ following₀ standing₀ counts time reached₀ k₀
     inputs outputs following standing reached k =
-    counts .current - k
+    count - k
 
 loop-holds : tie.Need-loop-holds Inv-loop μ-loop
 loop-holds c =
@@ -43,16 +43,16 @@ entry-requires c κs = search needs
 visit-requires : tie.Need-visit-requires Inv-loop μ-loop
 visit-requires c κs =
     let at-entry = c .before .before .before .before in
-    let at-if1 = at-entry .before in
-    let at-loop = at-if1 .before .before in
+    let at-test = at-entry .before in
+    let at-loop = at-test .before in
     let s = at-loop .before .before .before .before .before .before .before .before in
     let l = at-loop .loop in (
       runs-kept (s .args .components .now) (s .args .wires .now) (s .args .counts) (s .args .inputs .now)
           (s .args .outputs .now) (l .inputs) (l .outputs) (s .pre .0) (l .inv .1) (l .inv .2),
       l .inv .5,
       l .inv .6,
-      listed-at (s .args .components .now) (s .args .wires .now) (s .args .counts) (s .args .counts .current)
-          (s .args .current .now) (l .k) _ (s .pre .1) (at-if1 .if1 .taken) (at-entry .entry .ensures),
+      listed-at (s .args .components .now) (s .args .wires .now) (s .args .counts) (s .args .count)
+          (s .args .list .now) (l .k) _ (s .pre .1) (at-test .loop-test .taken) (at-entry .entry .ensures),
     )
 
 add-k : tie.Need-add-k Inv-loop μ-loop
@@ -65,12 +65,12 @@ loop-again : tie.Need-loop-again Inv-loop μ-loop
 loop-again c =
     let at-visit = c .before .before .before .before .before .before .before .before in
     let at-entry = at-visit .before .before .before .before .before in
-    let at-if1 = at-entry .before in
-    let at-loop = at-if1 .before .before in
+    let at-test = at-entry .before in
+    let at-loop = at-test .before in
     let s = at-loop .before .before .before .before .before .before .before .before in
     let l = at-loop .loop in
     let v = at-visit .visit in
-    let b = at-if1 .if1 .taken in
+    let b = at-test .loop-test .taken in
     let T = wiring (s .args .components .now) (s .args .wires .now) (s .args .counts) in
     let g =
     runs-kept (s .args .components .now) (s .args .wires .now) (s .args .counts) (s .args .inputs .now)
@@ -84,7 +84,7 @@ loop-again c =
           (l .following) _ _ _ _ (l .reached .following) (v .result .following) _ g (l .inv .5) refl (v .ensures .state)
           (v .ensures .following) (v .kept .1 .1 .1 .1 .0),
       v .ensures .standing,
-      visits-next T (wiresIn T) (s .args .time) (s .args .current .now) (l .k) (s .args .counts .current) _ _ _ _ b
+      visits-next T (wiresIn T) (s .args .time) (s .args .list .now) (l .k) (s .args .count) _ _ _ _ b
           (s .pre .1 .count) (at-entry .entry .ensures) (v .ensures .state) (l .inv .7),
     )
 
@@ -102,13 +102,13 @@ same-length-4 c = search needs
 
 returns : tie.Need-returns Inv-loop μ-loop
 returns c =
-    let s = c .before .before .before .before .before .before .before .before .before .before in
-    let l = c .before .before .loop in
+    let s = c .before .before .before .before .before .before .before .before .before in
+    let l = c .before .loop in
     let T = wiring (s .args .components .now) (s .args .wires .now) (s .args .counts) in
     record {
       following = l .inv .5 .count;
       standing = l .inv .6;
-      state = visits-end T (wiresIn T) (s .args .time) (s .args .current .now) (l .k) (s .args .counts .current) _ _
+      state = visits-end T (wiresIn T) (s .args .time) (s .args .list .now) (l .k) (s .args .count) _ _
           (omega arith) (l .inv .7);
     }
 
