@@ -49,6 +49,7 @@ determinacy = (
   λ T id. answer indexGives indexGives-is _,
   λ T side i port. answer valueGives valueGives-is _,
   λ v. equation _,
+  λ v w. equation _,
   λ v i. equation _,
   λ v. equation _,
   λ v high. equation _,

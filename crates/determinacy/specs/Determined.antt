@@ -6,7 +6,7 @@ use mathlib.Core.Bool.{Bool}
 use mathlib.Core.List.{List}
 use Rattle.value.specs.declared.Value.{Value}
 use Rattle.value.specs.declared.Fit.{Fit}
-use Rattle.value.specs.Value.{fitted, bit, complement, setTo}
+use Rattle.value.specs.Value.{fits, fitsIn, fitted, bit, complement, setTo}
 use Rattle.primitive.specs.declared.table.Fields.{Fields}
 use Rattle.primitive.specs.Evaluate.{Evaluates}
 use Rattle.flatten.specs.Verdict.{Judges, Speaks}
@@ -41,7 +41,8 @@ Determinacy =
     × ((T : Tables) → DeterminedAnswer (AsksCalm T))
     × ((T : Tables) (id : ℕ) → DeterminedAnswer (AsksIndex T id))
     × ((T : Tables) (side : Side) (i port : ℕ) → DeterminedAnswer (AsksValue T side i port))
-    × ((v : Value) → DeterminedAnswer (λ (r : Fit). r ≡ fitted v))
+    × ((v : Value) → DeterminedAnswer (λ (r : Fit). r ≡ fitted v (fits v)))
+    × ((v : Value) (w : ℕ) → DeterminedAnswer (λ (r : Fit). r ≡ fitted v (fitsIn w v)))
     × ((v : Value) (i : ℕ) → DeterminedAnswer (λ (r : Value). r ≡ bit v i))
     × ((v : Value) → DeterminedAnswer (λ (r : Value). r ≡ complement v))
     × ((v : Value) (high : Bool) → DeterminedAnswer (λ (r : Value). r ≡ setTo v high))

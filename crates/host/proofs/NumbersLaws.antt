@@ -10,7 +10,7 @@ use lib.ListN.{length}
 use lib.Dec.{eqb, leb, ltb}
 use Rattle.lists.specs.Lists.{refusal, _if_}
 use Rattle.primitive.specs.declared.table.Fields.{Fields}
-use Rattle.value.specs.Value.{below, level}
+use Rattle.value.specs.Value.{level, ofWidth, fits}
 use Rattle.primitive.specs.declared.kinds.Kind.the-variants.{Switch, Input}
 use Rattle.primitive.specs.Kinds.{is, forCustom, unknown, primitive, obeys, inputWidth, outputWidth}
 use Rattle.primitive.specs.Given.{Given, done, declined, refusedBy, giving, spoken}
@@ -67,7 +67,7 @@ edit-number-small T i v =
     (refusal-small
     ((17 if leb (T .counts .components) i)
     ∷ (18 if not (is Switch (fieldsAt T i) || (is Input (fieldsAt T i) && not (driven T i))))
-    ∷ (19 if not (below v (cond (is Switch (fieldsAt T i)) (outputWidth (fieldsAt T i)) (inputWidth (fieldsAt T i))))) ∷ [])
+    ∷ (19 if not (fits (ofWidth (cond (is Switch (fieldsAt T i)) (outputWidth (fieldsAt T i)) (inputWidth (fieldsAt T i))) v))) ∷ [])
     (omega arith, (omega arith, (omega arith, omega arith))))
 
 list-number-small : (T : Tables) (i : ℕ) (ls : List ℕ) → listNumber T i ls ≤ 19

@@ -16,7 +16,7 @@ use Rattle.lists.proofs.OverlayLaws.{slice-at}
 use Rattle.primitive.specs.declared.kinds.Kind.the-variants.{Clock, Const}
 use Rattle.primitive.specs.declared.table.Fields.{Fields}
 use Rattle.primitive.specs.Kinds.{is, inputWidth, outputWidth}
-use Rattle.primitive.proofs.FitLaws.{allBelow}
+use Rattle.value.specs.Value.{allFit}
 use Rattle.component.specs.declared.Record.{Record}
 use Rattle.component.specs.Record.{fieldsOf, inputsOf, isPrimitive}
 use Rattle.flatten.specs.Descent.{flat}
@@ -62,15 +62,15 @@ module _ (at : ℕ → Record) (n : ℕ) (d : Passed at n) (T : Tables) where
   unfolding valuesFit
   loaded-valuesFit =
       drawn-every at n L (loaded-drawn at n d T)
-      (λ i. allBelow (inputWidth (fieldsAt L i)) (inputsAt L (L .inputs) i)
-      && allBelow (outputWidth (fieldsAt L i)) (outputsAt L (L .outputs) i))
+      (λ i. allFit (inputWidth (fieldsAt L i)) (inputsAt L (L .inputs) i)
+      && allFit (outputWidth (fieldsAt L i)) (outputsAt L (L .outputs) i))
       (λ c e.
       let own = loaded-fields at n d T c e in
       let ins = loaded-inputs at n d T c e in
       let outs = loaded-outputs at n d T c e in
-      (λ j. allBelow (inputWidth (own j)) (ins j) && allBelow (outputWidth (own j)) (outs j))
+      (λ j. allFit (inputWidth (own j)) (ins j) && allFit (outputWidth (own j)) (outs j))
       ∙ rw (
-        zeros-fit (inputWidth (fieldsOf (at c))) (inputsOf (at c)),
+        zeros-fit (fieldsOf (at c)) (primitive-obeyed at n d c e) (inputsOf (at c)),
         starting-fits (fieldsOf (at c)) (primitive-obeyed at n d c e),
       ))
 

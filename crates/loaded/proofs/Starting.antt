@@ -9,24 +9,32 @@ use native.Mathlib.Omega.{arith}
 use borrow.Author.Tests.{eqb-true, lt-ltb}
 use lib.ListN.{replicate}
 use lib.Pow.{pow-pos}
-use Rattle.value.specs.Value.{widest, below}
+use Rattle.lists.proofs.ListsLaws.{and-right}
+use Rattle.value.specs.Value.{widest, below, allFit}
 use Rattle.primitive.specs.declared.kinds.Kind.the-variants.{Const}
 use Rattle.primitive.specs.declared.table.Fields.{Fields}
-use Rattle.primitive.specs.Kinds.{numberOf, kindOf, is, primitive, obeys, outputWidth}
+use Rattle.primitive.specs.Kinds.{numberOf, kindOf, is, primitive, obeys, inputWidth, outputWidth}
 use Rattle.primitive.specs.Evaluate.{starting}
 use Rattle.primitive.proofs.KindsLaws.{kindOf-numberOf}
 use Rattle.primitive.proofs.UpdateLaws.{obeyed-row}
-use Rattle.primitive.proofs.FitLaws.{allBelow}
+use Rattle.primitive.proofs.FitLaws.{allBelow, inputs-below, outputs-below}
 
--- 0 fits every width, as often as it stands.
-pub zeros-fit : (w k : ℕ) → allBelow w (replicate k 0) ≡ true
-zeros-fit w zero = refl
-zeros-fit w (suc k) = rw (lt-ltb 0 (2 ^ w) (pow-pos w)) (zeros-fit w k)
+-- 0 lies below every power, as often as it stands.
+zeros-below : (w k : ℕ) → allBelow w (replicate k 0) ≡ true
+zeros-below w zero = refl
+zeros-below w (suc k) = rw (lt-ltb 0 (2 ^ w) (pow-pos w)) (zeros-below w k)
 
 module _ (f : Fields) (o : (primitive f && obeys f) ≡ true) where
-  -- A Const's value fits its width.
-  pub const-fits : is Const f ≡ true → below (f .parameter) (outputWidth f) ≡ true
-  const-fits e =
+  obeyed : obeys f ≡ true
+  obeyed = and-right (primitive f) (obeys f) o
+
+  -- Inputs that are all 0 fit.
+  pub zeros-fit : (k : ℕ) → allFit (inputWidth f) (replicate k 0) ≡ true
+  zeros-fit k = inputs-below f obeyed (replicate k 0) ∙ zeros-below (inputWidth f) k
+
+  -- A Const's value lies below its power.
+  const-below : is Const f ≡ true → below (f .parameter) (outputWidth f) ≡ true
+  const-below e =
       let k = eqb-true (f .kind) (numberOf Const) e in
       let r = obeyed-row f Const o k in
       let q : kindOf (f .kind) ≡ Const = ap kindOf k ∙ kindOf-numberOf Const in
@@ -34,14 +42,14 @@ module _ (f : Fields) (o : (primitive f && obeys f) ≡ true) where
       let most : f .parameter ≤ 2 ^ (f .width) - 1 = rw narrow at (r .parameter .most) in
       rw q (lt-ltb (f .parameter) (2 ^ (f .width)) (omega (arith, pow-pos (f .width))))
 
-  -- So do all starting values.
-  pub starting-fits : allBelow (outputWidth f) (starting f) ≡ true
-  starting-fits = by-kind (is Const f) refl
+  -- All starting values fit.
+  pub starting-fits : allFit (outputWidth f) (starting f) ≡ true
+  starting-fits = outputs-below f obeyed (starting f) ∙ by-kind (is Const f) refl
     where
       by-kind : (b : Bool) → is Const f ≡ b
           → allBelow (outputWidth f) (cond b (f .parameter ∷ []) (replicate (f .outputs) 0)) ≡ true
-      by-kind true e = rw (const-fits e)
-      by-kind false e = zeros-fit (outputWidth f) (f .outputs)
+      by-kind true e = rw (const-below e)
+      by-kind false e = zeros-below (outputWidth f) (f .outputs)
 
   -- A Const starts with its value alone.
   pub starting-const : is Const f ≡ true → starting f ≡ f .parameter ∷ []

@@ -14,7 +14,7 @@ use lib.Dec.{eqb, ltb}
 use Rattle.lists.specs.Lists.{from, every, distinct}
 use Rattle.lists.proofs.ListsLaws.{and-left, and-right, every-from, refusal-first, refusal-rest}
 use Rattle.lists.proofs.MembersLaws.{In, Distinct, every-sound, map-complete, distinct-sound, distinct-bound, from-length, from0-complete}
-use Rattle.value.specs.Value.{below}
+use Rattle.value.specs.Value.{allFit}
 use Rattle.primitive.specs.declared.kinds.Kind.the-variants.{Const}
 use Rattle.primitive.specs.Kinds.{is, inputWidth, outputWidth}
 use Rattle.tables.specs.declared.End.{End}
@@ -108,15 +108,15 @@ module _ (T : Tables) (e : valuesFit T ≡ true) (i : ℕ) (h : i < T .counts .c
   unfolding valuesFit
   fit-at = every-from (fitAt (T .components) (T .inputs) (T .outputs)) (T .counts .components) e i h
 
-  pub valuesFit-inputs : every (λ x. below x (inputWidth (fieldsAt T i))) (inputsAt T (T .inputs) i) ≡ true
+  pub valuesFit-inputs : allFit (inputWidth (fieldsAt T i)) (inputsAt T (T .inputs) i) ≡ true
   valuesFit-inputs =
-      and-left (every (λ x. below x (inputWidth (fieldsAt T i))) (inputsAt T (T .inputs) i))
-      (every (λ x. below x (outputWidth (fieldsAt T i))) (outputsAt T (T .outputs) i)) fit-at
+      and-left (allFit (inputWidth (fieldsAt T i)) (inputsAt T (T .inputs) i))
+      (allFit (outputWidth (fieldsAt T i)) (outputsAt T (T .outputs) i)) fit-at
 
-  pub valuesFit-outputs : every (λ x. below x (outputWidth (fieldsAt T i))) (outputsAt T (T .outputs) i) ≡ true
+  pub valuesFit-outputs : allFit (outputWidth (fieldsAt T i)) (outputsAt T (T .outputs) i) ≡ true
   valuesFit-outputs =
-      and-right (every (λ x. below x (inputWidth (fieldsAt T i))) (inputsAt T (T .inputs) i))
-      (every (λ x. below x (outputWidth (fieldsAt T i))) (outputsAt T (T .outputs) i)) fit-at
+      and-right (allFit (inputWidth (fieldsAt T i)) (inputsAt T (T .inputs) i))
+      (allFit (outputWidth (fieldsAt T i)) (outputsAt T (T .outputs) i)) fit-at
 
 -- "each Const's output is its value"
 pub constsHeld-at : (T : Tables) → constsHeld T ≡ true → (i : ℕ) → i < T .counts .components → is Const (fieldsAt T i)

@@ -4,24 +4,28 @@ ghost use mathlib.Core.Bool.{true};
 ghost use mathlib.Core.List.{[]};
 ghost use Prim.Native.Nat.{_+_, _<_, _≤_};
 ghost use lib.ListN.{length};
-ghost use Rattle.lists.specs.Lists.{every};
-ghost use Rattle.value.specs.Value.{below};
+ghost use Rattle.value.specs.Value.{allFit};
 ghost use Rattle.tables.specs.Tables.{numbers};
 ghost use Rattle.tables.specs.Words.{fieldsFit, fieldsIn};
 ghost use Rattle.net.specs.Net.{kindsObeyed, valuesFit, constsHeld};
 ghost use Rattle.net.specs.Parts.{lent, InputsInside, OutputsInside, PortsInside, fitAt, heldAt};
 use primitive::Kind;
 use tables::Counts;
+use value::Value;
 
-// Whether the numbers of `count` ports that start at `start` lie below 2^width.
-fn all_below(ports: &[u64], start: usize, count: usize, width: u64) -> bool
+// Whether the values of `count` ports of a width that start at `start` fit.
+fn all_fit(ports: &[u64], start: usize, count: usize, width: u64) -> bool
     requires { ⌜ start + count ≤ length (now ports) ⌝ }
-    ensures { λ r. ⌜ r ≡ every (λ x. below x width) (numbers (now (ports .entry)) start count) ⌝ }
+    ensures { λ r. ⌜ r ≡ allFit width (numbers (now (ports .entry)) start count) ⌝ }
 {
     let end = start + count;
     let mut i = start;
     while i < end {
-        if !value::lies_below(ports[i], width) {
+        let held = Value {
+            number: ports[i],
+            width,
+        };
+        if !held.fits().fits {
             return false;
         }
         i += 1;
@@ -40,8 +44,8 @@ fn row_fits(components: &[u64], inputs: &[u64], outputs: &[u64], i: usize) -> bo
     let first_output = tables::first_output(components, i);
     let entering = primitive::input_width(f);
     let leaving = primitive::output_width(f);
-    all_below(inputs, first_input, f.inputs as usize, entering)
-        & all_below(outputs, first_output, f.outputs as usize, leaving)
+    all_fit(inputs, first_input, f.inputs as usize, entering)
+        & all_fit(outputs, first_output, f.outputs as usize, leaving)
 }
 
 // Whether all values fit.

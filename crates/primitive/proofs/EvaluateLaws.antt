@@ -12,7 +12,7 @@ use lib.Seq.{sets, sets-eq, length-take-le}
 use lib.Dec.{eqb, ltb}
 use Rattle.lists.specs.Lists.{from, every, refusal, _if_}
 use Rattle.lists.proofs.ListsLaws.{or-left, or-right, refusal-first, refusal-rest, every-fails, every-next, every-end}
-use Rattle.value.specs.Value.{below}
+use Rattle.value.specs.Value.{ofWidth, fitsIn}
 use Rattle.primitive.specs.declared.table.Fields.{Fields}
 use Rattle.primitive.specs.declared.answers.Evaluated.the-variants.{Done, Refused}
 use Rattle.primitive.specs.Kinds.{forCustom, unknown, primitive, obeys, inputWidth, outputWidth}
@@ -20,9 +20,9 @@ use Rattle.primitive.specs.Evaluate.{fitting, outputsAfter, evaluateNumb
 use Rattle.primitive.specs.Own.{Own}
 use Rattle.primitive.specs.Given.{giving}
 
--- Value i has width w and a number below 2^w.
+-- Value i fits a port of w bits.
 abbrev pub fitsAt : ℕ → List ℕ → List ℕ → ℕ → Bool
-fitsAt w ns ws i = eqb (getD ws i 0) w && below (getD ns i 0) w
+fitsAt w ns ws i = fitsIn w (ofWidth (getD ws i 0) (getD ns i 0))
 
 -- The values from i on fit exactly if all do.
 abbrev pub FitFrom : ℕ → ℕ → List ℕ → List ℕ → ℕ → Type 0
@@ -48,8 +48,8 @@ module _ (f : Fields) (xs vs ys ws : List ℕ) where
   abbrev pub lacking : Bool
   lacking = ltb (length xs) (f .inputs) || ltb (length vs) (f .inputs) || ltb (length ys) (f .outputs) || ltb (length ws) (f .outputs)
 
-  abbrev pub allFit : Bool
-  allFit = fitting (inputWidth f) (f .inputs) xs vs && fitting (outputWidth f) (f .outputs) ys ws
+  abbrev pub bothFit : Bool
+  bothFit = fitting (inputWidth f) (f .inputs) xs vs && fitting (outputWidth f) (f .outputs) ys ws
 
   -- The number at each return.
   pub number-7 : forCustom (f .kind) ≡ true → 7 ≡ evaluateNumber f xs vs ys ws
@@ -71,11 +71,11 @@ module _ (f : Fields) (xs vs ys ws : List ℕ) where
         unfolding evaluateNumber
         number-2 e = rw (d, a, b, e)
 
-        pub number-19 : lacking ≡ false → allFit ≡ false → 19 ≡ evaluateNumber f xs vs ys ws
+        pub number-19 : lacking ≡ false → bothFit ≡ false → 19 ≡ evaluateNumber f xs vs ys ws
         unfolding evaluateNumber
         number-19 e h = rw (d, a, b, e, h)
 
-        pub number-0 : lacking ≡ false → allFit ≡ true → 0 ≡ evaluateNumber f xs vs ys ws
+        pub number-0 : lacking ≡ false → bothFit ≡ true → 0 ≡ evaluateNumber f xs vs ys ws
         unfolding evaluateNumber
         number-0 e h = rw (d, a, b, e, h)
 
@@ -107,24 +107,24 @@ module _ (f : Fields) (xs vs ys ws : List ℕ) where
   -- What the number 0 says.
   module _ (z : evaluateNumber f xs vs ys ws ≡ 0) where
     checks : List (ℕ × Bool)
-    checks = (9 if not (primitive f && obeys f)) ∷ (2 if lacking) ∷ (19 if not allFit) ∷ []
+    checks = (9 if not (primitive f && obeys f)) ∷ (2 if lacking) ∷ (19 if not bothFit) ∷ []
 
     past-8 : refusal checks ≡ 0
     unfolding evaluateNumber checks
     past-8 =
-        refusal-rest 8 (unknown (f .kind)) ((9 if not (primitive f && obeys f)) ∷ (2 if lacking) ∷ (19 if not allFit) ∷ []) (λ q. omega arith)
-        (refusal-rest 7 (forCustom (f .kind)) ((8 if unknown (f .kind)) ∷ (9 if not (primitive f && obeys f)) ∷ (2 if lacking) ∷ (19 if not allFit) ∷ []) (λ q. omega arith) z)
+        refusal-rest 8 (unknown (f .kind)) ((9 if not (primitive f && obeys f)) ∷ (2 if lacking) ∷ (19 if not bothFit) ∷ []) (λ q. omega arith)
+        (refusal-rest 7 (forCustom (f .kind)) ((8 if unknown (f .kind)) ∷ (9 if not (primitive f && obeys f)) ∷ (2 if lacking) ∷ (19 if not bothFit) ∷ []) (λ q. omega arith) z)
 
     pub passed-obeys : (primitive f && obeys f) ≡ true
     unfolding checks
-    passed-obeys = not-false _ (refusal-first 9 (not (primitive f && obeys f)) ((2 if lacking) ∷ (19 if not allFit) ∷ []) (λ q. omega arith) past-8)
+    passed-obeys = not-false _ (refusal-first 9 (not (primitive f && obeys f)) ((2 if lacking) ∷ (19 if not bothFit) ∷ []) (λ q. omega arith) past-8)
 
-    past-9 : refusal ((2 if lacking) ∷ (19 if not allFit) ∷ []) ≡ 0
+    past-9 : refusal ((2 if lacking) ∷ (19 if not bothFit) ∷ []) ≡ 0
     unfolding checks
-    past-9 = refusal-rest 9 (not (primitive f && obeys f)) ((2 if lacking) ∷ (19 if not allFit) ∷ []) (λ q. omega arith) past-8
+    past-9 = refusal-rest 9 (not (primitive f && obeys f)) ((2 if lacking) ∷ (19 if not bothFit) ∷ []) (λ q. omega arith) past-8
 
     pub passed-there : lacking ≡ false
-    passed-there = refusal-first 2 lacking ((19 if not allFit) ∷ []) (λ q. omega arith) past-9
+    passed-there = refusal-first 2 lacking ((19 if not bothFit) ∷ []) (λ q. omega arith) past-9
 
     pub passed-own : Own f (take (f .inputs) xs) (take (f .outputs) ys)
     passed-own =

@@ -1,29 +1,62 @@
--- An evaluation leaves as many outputs as the component has, and each fits its width.
+-- An evaluation leaves as many outputs as the component has, and each fits its width. A port of a component that obeys the table of kinds has
+-- 1 to `widest` bits, so a number fits it exactly where it lies below 2^width.
 -- Assumes nothing.
 use mathlib.Core.Path.{_≡_, refl, sym, ap, subst, _∙_}
 use mathlib.Core.Bool.{Bool, true, false, not, false≢true}
 use mathlib.Core.List.{List, [], _∷_, map}
 use Prim.Native.Nat.{ℕ, zero, suc, _<_, _^_}
 use native.Mathlib.Omega.{arith}
-use borrow.Author.Tests.{lt-ltb}
+use borrow.Author.Tests.{le-leb, lt-ltb}
 use lib.ListN.{length, getD}
-use Rattle.lists.specs.Lists.{from, every}
-use Rattle.lists.proofs.ListsLaws.{and-left}
-use Rattle.value.specs.Value.{below, bitOf, complement}
+use Rattle.lists.specs.Lists.{within, from, every}
+use Rattle.lists.proofs.ListsLaws.{and-left, and-right}
+use Rattle.value.specs.Value.{widest, below, ofWidth, allFit, bitOf, complement}
 use Rattle.value.proofs.ValueLaws.{bitOf-fits, complement-fits}
 use Rattle.primitive.specs.declared.kinds.Kind.{Kind}
 use Rattle.primitive.specs.declared.kinds.Kind.the-variants.{Composite, And, Or, Not, Nand, Nor, Xor, Switch, Input, Output, Splitter, Joiner, Clock, Const}
 use Rattle.primitive.specs.declared.table.Fields.{Fields}
-use Rattle.primitive.specs.Kinds.{numberOf, kindOf, row, only, inputWidth, outputWidth}
+use Rattle.primitive.specs.Kinds.{numberOf, kindOf, row, only, _to_, primitive, obeys, inputWidth, outputWidth}
 use Rattle.primitive.specs.Evaluate.{one, allHigh, anyHigh, oddHigh, clockHigh, join, rule, outputsAfter}
 use Rattle.primitive.specs.Own.{Own}
 use Rattle.primitive.proofs.KindsLaws.{numberOf-kindOf}
 use Rattle.primitive.proofs.RulesLaws.{join-lt}
-use Rattle.primitive.proofs.UpdateLaws.{Inside, InRow, obeyed-row, obeyed-primitive, obeyed-kind, leaves, outputsAfter-rule, outputsAfter-left}
+use Rattle.primitive.proofs.UpdateLaws.{Inside, InRow, obeys-row, obeyed-row, obeyed-primitive, obeyed-kind, leaves, outputsAfter-rule, outputsAfter-left}
 
 -- All numbers of a list lie below 2^w.
 abbrev pub allBelow : ℕ → List ℕ → Bool
 allBelow w xs = every (λ x. below x w) xs
+
+-- A port has so many bits.
+abbrev Bits : ℕ → Type 0
+Bits w = within 1 widest w ≡ true
+
+bits : (w : ℕ) → Inside (1 to widest) w → Bits w
+bits w i = rw (le-leb 1 w (i .least), le-leb w widest (i .most))
+
+row-bits : (f : Fields) (k : Kind) → InRow (row k (f .width) (f .parameter)) f
+    → Bits (row k (f .width) (f .parameter) .inward) × Bits (row k (f .width) (f .parameter) .outward)
+row-bits f Composite r = (refl, refl)
+row-bits f And r = (refl, refl)
+row-bits f Or r = (refl, refl)
+row-bits f Not r = (refl, refl)
+row-bits f Nand r = (refl, refl)
+row-bits f Nor r = (refl, refl)
+row-bits f Xor r = (refl, refl)
+row-bits f Switch r = (refl, refl)
+row-bits f Input r = (bits (f .parameter) (r .parameter), bits (f .parameter) (r .parameter))
+row-bits f Output r = (bits (f .parameter) (r .parameter), bits (f .parameter) (r .parameter))
+row-bits f Splitter r = (bits (f .parameter) (r .parameter), refl)
+row-bits f Joiner r = (refl, bits (f .parameter) (r .parameter))
+row-bits f Clock r = (refl, refl)
+row-bits f Const r = (refl, bits (f .width) (r .width))
+
+-- So numbers fit the ports of a component that obeys the table exactly where they lie below 2^width.
+module _ (f : Fields) (o : obeys f ≡ true) (xs : List ℕ) where
+  pub inputs-below : allFit (inputWidth f) xs ≡ allBelow (inputWidth f) xs
+  inputs-below = rw (row-bits f (kindOf (f .kind)) (obeys-row f o) .0)
+
+  pub outputs-below : allFit (outputWidth f) xs ≡ allBelow (outputWidth f) xs
+  outputs-below = rw (row-bits f (kindOf (f .kind)) (obeys-row f o) .1)
 
 only-is : (a x : ℕ) → Inside (only a) x → x ≡ a
 only-is a x i = omega (arith, i .least, i .most)
@@ -79,7 +112,7 @@ module _ (f : Fields) (xs : List ℕ) (t : ℕ) (all : length xs ≡ f .inputs) 
   rule-fits Or r l e = one-below (anyHigh xs)
   rule-fits Not r l e =
       let b : below (getD xs 0 0) 1 ≡ true = first-below 1 xs (all ∙ only-is 1 (f .inputs) (r .inputs)) e in
-      single 1 (complement (record { number = getD xs 0 0; width = 1 }) .number) (complement-fits (record { number = getD xs 0 0; width = 1 }) b)
+      single 1 (complement (ofWidth 1 (getD xs 0 0)) .number) (complement-fits (ofWidth 1 (getD xs 0 0)) b)
   rule-fits Nand r l e = one-below (not (allHigh xs))
   rule-fits Nor r l e = one-below (not (anyHigh xs))
   rule-fits Xor r l e = one-below (oddHigh xs)
@@ -122,8 +155,12 @@ module _ (f : Fields) (xs ys : List ℕ) (t : ℕ) (own : Own f xs ys) where
       (λ l e. ap length (sym e) ∙ rule-length f xs t (own .all-inputs) k in-row l not-composite)
 
   -- They fit their widths, where inputs and old outputs do.
-  pub outputsAfter-fits : allBelow (inputWidth f) xs ≡ true → allBelow (outputWidth f) ys ≡ true
-      → allBelow (outputWidth f) (outputsAfter f xs ys t) ≡ true
+  pub outputsAfter-fits : allFit (inputWidth f) xs ≡ true → allFit (outputWidth f) ys ≡ true
+      → allFit (outputWidth f) (outputsAfter f xs ys t) ≡ true
   outputsAfter-fits i o =
-      by-leaving (λ e. ap (allBelow (outputWidth f)) (sym e) ∙ o)
-      (λ l e. ap (allBelow (outputWidth f)) (sym e) ∙ rule-fits f xs t (own .all-inputs) k in-row l i)
+      by-leaving (λ e. ap (allFit (outputWidth f)) (sym e) ∙ o)
+      (λ l e. ap (allFit (outputWidth f)) (sym e) ∙ outputs-below f obeyed (rule k (f .parameter) xs t)
+      ∙ rule-fits f xs t (own .all-inputs) k in-row l (sym (inputs-below f obeyed xs) ∙ i))
+    where
+      obeyed : obeys f ≡ true
+      obeyed = and-right (primitive f) (obeys f) (own .obeyed)

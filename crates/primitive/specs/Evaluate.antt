@@ -12,7 +12,7 @@ use lib.ListN.{length, getD, take, replicate}
 use lib.Seq.{sets}
 use lib.Dec.{eqb, ltb}
 use Rattle.lists.specs.Lists.{from, every, total, refusal, _if_}
-use Rattle.value.specs.Value.{level, below, bitOf, complement}
+use Rattle.value.specs.Value.{level, bitOf, complement, ofWidth, fitsIn}
 use Rattle.primitive.specs.declared.kinds.Kind.{Kind}
 use Rattle.primitive.specs.declared.kinds.Kind.the-variants.{Composite, And, Or, Not, Nand, Nor, Xor, Switch, Input, Output, Splitter, Joiner, Clock, Const}
 use Rattle.primitive.specs.declared.table.Fields.{Fields}
@@ -61,7 +61,7 @@ abbrev pub rule : Kind → ℕ → List ℕ → ℕ → List ℕ
 rule Composite p xs t = []
 rule And p xs t = one (allHigh xs)
 rule Or p xs t = one (anyHigh xs)
-rule Not p xs t = complement (record { number = getD xs 0 0; width = 1 }) .number ∷ []
+rule Not p xs t = complement (ofWidth 1 (getD xs 0 0)) .number ∷ []
 rule Nand p xs t = one (not (allHigh xs))
 rule Nor p xs t = one (not (anyHigh xs))
 rule Xor p xs t = one (oddHigh xs)
@@ -85,9 +85,9 @@ outputsAfter f xs ys t = cond (is Switch f || is Const f) ys (functionOf f xs t)
 abbrev pub starting : Fields → List ℕ
 starting f = cond (is Const f) (f .parameter ∷ []) (replicate (f .outputs) 0)
 
--- The first k of these numbers, with these widths, fit ports of w bits: 19 is "another width, or not below 2^width".
+-- The values of the first k ports, with these numbers and widths, fit ports of w bits.
 unfoldable pub fitting : ℕ → ℕ → List ℕ → List ℕ → Bool
-fitting w k ns ws = every (λ i. eqb (getD ws i 0) w && below (getD ns i 0) w) (from 0 k)
+fitting w k ns ws = every (λ i. fitsIn w (ofWidth (getD ws i 0) (getD ns i 0))) (from 0 k)
 
 -- "Evaluating a single component .. checks 7, 8, 9 (kind 0 gives 9), 2 (fewer values than its ports), 19":
 -- input numbers xs of widths vs, output numbers ys of widths ws.

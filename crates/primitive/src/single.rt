@@ -13,15 +13,20 @@ use crate::table::input_width;
 use crate::table::is_primitive;
 use crate::table::obeys;
 use crate::table::output_width;
+use value::Value;
 
-// Whether the first count of these numbers, with these widths, fit ports of a width.
+// Whether the values of the first count ports, with these numbers and widths, fit ports of a width.
 fn all_fit(width: u64, count: usize, numbers: &[u64], widths: &[u64]) -> bool
     requires { ⌜ (count ≤ length (now numbers)) × (count ≤ length (now widths)) ⌝ }
     ensures { λ r. ⌜ r ≡ fitting width count (now (numbers .entry)) (now (widths .entry)) ⌝ }
 {
     let mut i: usize = 0;
     while i < count {
-        if !((widths[i] == width) & value::lies_below(numbers[i], width)) {
+        let held = Value {
+            number: numbers[i],
+            width: widths[i],
+        };
+        if !held.fits_in(width).fits {
             return false;
         }
         i += 1;

@@ -15,7 +15,7 @@ use lib.Dec.{eqb}
 use Rattle.lists.proofs.ListsLaws.{and-left, and-right}
 use Rattle.lists.proofs.MembersLaws.{In, or-cases, any-none}
 use Rattle.lists.proofs.NamesLaws.{names-append}
-use Rattle.value.specs.Value.{below}
+use Rattle.value.specs.Value.{fits, ofWidth}
 use Rattle.primitive.specs.declared.kinds.Kind.the-variants.{Switch, Input, Const}
 use Rattle.primitive.specs.Kinds.{is, inputWidth, outputWidth}
 use Rattle.tables.specs.declared.Wire.{Wire}
@@ -31,7 +31,7 @@ use Rattle.rounds.proofs.Held.{Held}
 pub record Editable (T : Tables) (i v : ℕ) : Type 0 where
   pub exists : i < T .counts .components
   pub settable : (is Switch (fieldsAt T i) ≡ true) ⊎ ((is Input (fieldsAt T i) ≡ true) × (driven T i ≡ false))
-  pub value : below v (cond (is Switch (fieldsAt T i)) (outputWidth (fieldsAt T i)) (inputWidth (fieldsAt T i))) ≡ true
+  pub value : fits (ofWidth (cond (is Switch (fieldsAt T i)) (outputWidth (fieldsAt T i)) (inputWidth (fieldsAt T i))) v) ≡ true
 
 -- What an edit that is given 0 passed.
 pub editNumber-editable : (T : Tables) (i v : ℕ) → editNumber T i v ≡ 0 → Editable T i v
@@ -65,9 +65,9 @@ fed T i v s = stood i (withInputs (set (s .inputs) (firstInput T i) v) s)
 
 -- An edit is one of the two.
 pub data EditCase (T : Tables) (i v : ℕ) (s : State) : Type 0 where
-  switch : is Switch (fieldsAt T i) ≡ true → below v (outputWidth (fieldsAt T i)) ≡ true
+  switch : is Switch (fieldsAt T i) ≡ true → fits (ofWidth (outputWidth (fieldsAt T i)) v) ≡ true
       → editedState T i v s ≡ switched T i v s → EditCase T i v s
-  input : is Input (fieldsAt T i) ≡ true → driven T i ≡ false → below v (inputWidth (fieldsAt T i)) ≡ true
+  input : is Input (fieldsAt T i) ≡ true → driven T i ≡ false → fits (ofWidth (inputWidth (fieldsAt T i)) v) ≡ true
       → editedState T i v s ≡ fed T i v s
       → EditCase T i v s
 
@@ -76,7 +76,7 @@ unfolding editedState portSet switched fed
 edit-case T i v s a = by-kind (a .settable) (a .value)
   where
     by-kind : (is Switch (fieldsAt T i) ≡ true) ⊎ ((is Input (fieldsAt T i) ≡ true) × (driven T i ≡ false))
-        → below v (cond (is Switch (fieldsAt T i)) (outputWidth (fieldsAt T i)) (inputWidth (fieldsAt T i))) ≡ true
+        → fits (ofWidth (cond (is Switch (fieldsAt T i)) (outputWidth (fieldsAt T i)) (inputWidth (fieldsAt T i))) v) ≡ true
         → EditCase T i v s
     by-kind (inl q) b = switch q (rw q at b) (rw q)
     by-kind (inr q) b =
@@ -101,16 +101,16 @@ module _ (n i v : ℕ) (first count : ℕ → ℕ) (one : count i ≡ 1)
       (λ j u. only-others d j q ne u)
 
   -- Values still fit.
-  only-fits : (width : ℕ → ℕ) → first i < length l → below v (width i) ≡ true
-      → ((d : ℕ) → d < n → (j : ℕ) → j < count d → below (getD l (first d + j) 0) (width d) ≡ true)
-      → (d : ℕ) → d < n → (j : ℕ) → j < count d → below (getD (set l (first i) v) (first d + j) 0) (width d) ≡ true
-  only-fits width room b fits d q j u = by-name (ℕ-discrete d i)
+  only-fits : (width : ℕ → ℕ) → first i < length l → fits (ofWidth (width i) v) ≡ true
+      → ((d : ℕ) → d < n → (j : ℕ) → j < count d → fits (ofWidth (width d) (getD l (first d + j) 0)) ≡ true)
+      → (d : ℕ) → d < n → (j : ℕ) → j < count d → fits (ofWidth (width d) (getD (set l (first i) v) (first d + j) 0)) ≡ true
+  only-fits width room b others d q j u = by-name (ℕ-discrete d i)
     where
-      by-name : Dec (d ≡ i) → below (getD (set l (first i) v) (first d + j) 0) (width d) ≡ true
+      by-name : Dec (d ≡ i) → fits (ofWidth (width d) (getD (set l (first i) v) (first d + j) 0)) ≡ true
       by-name (yes e) =
           let p : first d + j ≡ first i = omega (arith, ap first e, ap count e) in
           rw (p, getD-set-same l (first i) v 0 room, e) b
-      by-name (no ne) = rw (only-others d j q ne u) (fits d q j u)
+      by-name (no ne) = rw (only-others d j q ne u) (others d q j u)
 
 module _ (T : Tables) (g : Sound T) (i v : ℕ) (h : i < T .counts .components) (s : State) (a : Held T s) where
   abbrev n : ℕ
@@ -136,7 +136,7 @@ module _ (T : Tables) (g : Sound T) (i v : ℕ) (h : i < T .counts .components) 
         only-left n i v (firstOutput T) (outputCount T) one-output output-elsewhere (s .outputs) d q ne
         (omega (arith, a .outputs-length, g .outputs-in d q))
 
-    switched-held : below v (outputWidth (fieldsAt T i)) ≡ true → Held T (switched T i v s)
+    switched-held : fits (ofWidth (outputWidth (fieldsAt T i)) v) ≡ true → Held T (switched T i v s)
     unfolding switched
     switched-held b =
         record {
@@ -184,7 +184,7 @@ module _ (T : Tables) (g : Sound T) (i v : ℕ) (h : i < T .counts .components) 
         only-left n i v (firstInput T) (inputCount T) one-input input-elsewhere (s .inputs) d q ne
         (omega (arith, a .inputs-length, g .inputs-in d q))
 
-    fed-held : below v (inputWidth (fieldsAt T i)) ≡ true → Held T (fed T i v s)
+    fed-held : fits (ofWidth (inputWidth (fieldsAt T i)) v) ≡ true → Held T (fed T i v s)
     unfolding fed
     fed-held b =
         record {

@@ -18,7 +18,7 @@ use lib.Dec.{eqb}
 use Rattle.lists.specs.Lists.{appendNew, strike}
 use Rattle.lists.proofs.MembersLaws.{In, in-getD, every-sound, keep-sound}
 use Rattle.lists.proofs.NamesLaws.{Names, names-append, names-strike}
-use Rattle.value.specs.Value.{below}
+use Rattle.value.specs.Value.{fits, ofWidth}
 use Rattle.primitive.specs.declared.kinds.Kind.the-variants.{Clock, Const}
 use Rattle.primitive.specs.Kinds.{is, inputWidth, outputWidth}
 use Rattle.primitive.specs.Evaluate.{outputsAfter}
@@ -39,10 +39,10 @@ foldl-keeps P f (x ∷ xs) k s p = foldl-keeps P f xs (λ u a m. k u a (inr m)) 
 
 -- Input j of component i fits its width in a table of inputs; output j does in one of outputs.
 abbrev pub inputFits : Tables → List ℕ → ℕ → ℕ → Bool
-inputFits T l i j = below (getD l (firstInput T i + j) 0) (inputWidth (fieldsAt T i))
+inputFits T l i j = fits (ofWidth (inputWidth (fieldsAt T i)) (getD l (firstInput T i + j) 0))
 
 abbrev pub outputFits : Tables → List ℕ → ℕ → ℕ → Bool
-outputFits T l i j = below (getD l (firstOutput T i + j) 0) (outputWidth (fieldsAt T i))
+outputFits T l i j = fits (ofWidth (outputWidth (fieldsAt T i)) (getD l (firstOutput T i + j) 0))
 
 pub record Held (T : Tables) (s : State) : Type 0 where
   pub inputs-length : length (s .inputs) ≡ length (T .inputs)
@@ -109,9 +109,9 @@ module _ (T : Tables) (g : Sound T) where
   unfolding written
   send-held s w m a = by-case (send-case T s w)
     where
-      value : below (carried T s w) (inputWidth (fieldsAt T (w .dst .comp .0))) ≡ true
+      value : fits (ofWidth (inputWidth (fieldsAt T (w .dst .comp .0))) (carried T s w)) ≡ true
       value =
-          ap (below (carried T s w)) (sym (g .widths w m))
+          ap (λ (b : ℕ). fits (ofWidth b (carried T s w))) (sym (g .widths w m))
           ∙ a .outputs-fit (w .src .comp .0) (g .source w m) (w .src .port) (g .source-port w m)
 
       room : inputPlace T (w .dst) < length (s .inputs)
@@ -121,13 +121,13 @@ module _ (T : Tables) (g : Sound T) where
           → Dec (firstInput T i + j ≡ inputPlace T (w .dst))
           → inputFits T (written T s w .inputs) i j ≡ true
       at-input i j e h l (yes p) =
-          ap (λ (k : ℕ). below (getD (written T s w .inputs) k 0) (inputWidth (fieldsAt T i))) p
-          ∙ ap (λ (x : ℕ). below x (inputWidth (fieldsAt T i)))
+          ap (λ (k : ℕ). fits (ofWidth (inputWidth (fieldsAt T i)) (getD (written T s w .inputs) k 0))) p
+          ∙ ap (λ (x : ℕ). fits (ofWidth (inputWidth (fieldsAt T i)) x))
           (getD-set-same (s .inputs) (inputPlace T (w .dst)) (carried T s w) 0 room)
-          ∙ ap (λ (k : ℕ). below (carried T s w) (inputWidth (fieldsAt T k))) e
+          ∙ ap (λ (k : ℕ). fits (ofWidth (inputWidth (fieldsAt T k)) (carried T s w))) e
           ∙ value
       at-input i j e h l (no p) =
-          ap (λ (x : ℕ). below x (inputWidth (fieldsAt T i)))
+          ap (λ (x : ℕ). fits (ofWidth (inputWidth (fieldsAt T i)) x))
           (getD-set-other (s .inputs) (inputPlace T (w .dst)) (firstInput T i + j) (carried T s w) 0 p)
           ∙ a .inputs-fit i h j l
 
@@ -135,7 +135,7 @@ module _ (T : Tables) (g : Sound T) where
           → inputFits T (written T s w .inputs) i j ≡ true
       fit i h j l (yes e) = at-input i j e h l (ℕ-discrete (firstInput T i + j) (inputPlace T (w .dst)))
       fit i h j l (no e) =
-          ap (λ (x : ℕ). below x (inputWidth (fieldsAt T i)))
+          ap (λ (x : ℕ). fits (ofWidth (inputWidth (fieldsAt T i)) x))
           (getD-set-other (s .inputs) (inputPlace T (w .dst)) (firstInput T i + j) (carried T s w) 0
           (off-apart (firstInput T i) (fieldsAt T i .inputs) (inputPlace T (w .dst)) j
           (inputs-off T g i w h m (λ q. e (sym q))) l))
@@ -184,9 +184,9 @@ module _ (T : Tables) (g : Sound T) where
     made-length = outputsAfter-length (fieldsAt T i) (inputsAt T (s .inputs) i) (outputsAt T (s .outputs) i) t own
 
     made-fits : (j : ℕ) → j < fieldsAt T i .outputs
-        → below (getD (made T t s i) j 0) (outputWidth (fieldsAt T i)) ≡ true
+        → fits (ofWidth (outputWidth (fieldsAt T i)) (getD (made T t s i) j 0)) ≡ true
     made-fits j l =
-        every-sound (λ x. below x (outputWidth (fieldsAt T i))) (getD (made T t s i) j 0) (made T t s i)
+        every-sound (λ x. fits (ofWidth (outputWidth (fieldsAt T i)) x)) (getD (made T t s i) j 0) (made T t s i)
         (outputsAfter-fits (fieldsAt T i) (inputsAt T (s .inputs) i) (outputsAt T (s .outputs) i) t own
         (numbers-fit (s .inputs) (firstInput T i) (fieldsAt T i .inputs) inputs-room (inputWidth (fieldsAt T i))
         (a .inputs-fit i h))
@@ -223,7 +223,7 @@ module _ (T : Tables) (g : Sound T) where
       where
         fit-own : (j : ℕ) → j < fieldsAt T i .outputs
             → outputFits T (outputsMade T t s i) i j ≡ true
-        fit-own j l = ap (λ (x : ℕ). below x (outputWidth (fieldsAt T i))) (own-outputs j l) ∙ made-fits j l
+        fit-own j l = ap (λ (x : ℕ). fits (ofWidth (outputWidth (fieldsAt T i)) x)) (own-outputs j l) ∙ made-fits j l
 
         fit : (d : ℕ) → d < T .counts .components → (j : ℕ) → j < fieldsAt T d .outputs → Dec (d ≡ i)
             → outputFits T (outputsMade T t s i) d j ≡ true
@@ -231,7 +231,7 @@ module _ (T : Tables) (g : Sound T) where
             subst (λ (k : ℕ). j < fieldsAt T k .outputs
             → outputFits T (outputsMade T t s i) k j ≡ true)
             (sym e) (fit-own j) l
-        fit d q j l (no ne) = ap (λ (x : ℕ). below x (outputWidth (fieldsAt T d))) (others-left d j q ne l)
+        fit d q j l (no ne) = ap (λ (x : ℕ). fits (ofWidth (outputWidth (fieldsAt T d)) x)) (others-left d j q ne l)
             ∙ a .outputs-fit d q j l
 
         one : (d : ℕ) → d < T .counts .components → is Const (fieldsAt T d) ≡ true → 0 < fieldsAt T d .outputs

@@ -9,11 +9,10 @@ use native.Mathlib.Omega.{arith}
 use borrow.Author.Tests.{eq-eqb}
 use lib.ListN.{length, getD}
 use lib.Dec.{eqb}
-use Rattle.lists.specs.Lists.{every}
 use Rattle.lists.proofs.MembersLaws.{every-complete, from0-sound}
 use Rattle.lists.proofs.NamesLaws.{Names, names-sound, names-complete, names-length}
 use Rattle.lists.proofs.OverlayLaws.{overlay-length, overlay-front}
-use Rattle.value.specs.Value.{below}
+use Rattle.value.specs.Value.{allFit}
 use Rattle.primitive.specs.declared.kinds.Kind.the-variants.{Const}
 use Rattle.primitive.specs.Kinds.{is, inputWidth, outputWidth}
 use Rattle.tables.specs.Tables.{Tables, fullSize, fieldsAt, firstInput, firstOutput, inputsAt, outputsAt, indexes, currentList, followingList, standingList}
@@ -85,11 +84,11 @@ module _ (T : Tables) (full : fullSize T ≡ true) (net : isNet T ≡ true) wher
   sound = isNet-wiring T full net
 
   -- In a table of inputs, those of component i fit; in one of outputs, its outputs do.
-  abbrev inputs-below : List ℕ → ℕ → Bool
-  inputs-below l i = every (λ x. below x (inputWidth (fieldsAt T i))) (inputsAt T l i)
+  abbrev inputs-fit : List ℕ → ℕ → Bool
+  inputs-fit l i = allFit (inputWidth (fieldsAt T i)) (inputsAt T l i)
 
-  abbrev outputs-below : List ℕ → ℕ → Bool
-  outputs-below l i = every (λ x. below x (outputWidth (fieldsAt T i))) (outputsAt T l i)
+  abbrev outputs-fit : List ℕ → ℕ → Bool
+  outputs-fit l i = allFit (outputWidth (fieldsAt T i)) (outputsAt T l i)
 
   -- In a table of outputs, the first of component i holds its parameter.
   abbrev holds : List ℕ → ℕ → Bool
@@ -172,15 +171,15 @@ module _ (T : Tables) (full : fullSize T ≡ true) (net : isNet T ≡ true) wher
     pub valuesFit-kept : valuesFit (leave T s) ≡ true
     unfolding leave valuesFit
     valuesFit-kept =
-        every-complete (λ i. inputs-below (s .inputs) i && outputs-below (s .outputs) i) (indexes T)
+        every-complete (λ i. inputs-fit (s .inputs) i && outputs-fit (s .outputs) i) (indexes T)
         (λ i m. each i (from0-sound n i m))
       where
-        each : (i : ℕ) → i < n → (inputs-below (s .inputs) i && outputs-below (s .outputs) i) ≡ true
+        each : (i : ℕ) → i < n → (inputs-fit (s .inputs) i && outputs-fit (s .outputs) i) ≡ true
         each i h =
-            let p : inputs-below (s .inputs) i ≡ true
+            let p : inputs-fit (s .inputs) i ≡ true
             = numbers-fit (s .inputs) (firstInput T i) (fieldsAt T i .inputs)
             (omega (arith, a .inputs-length, sound .inputs-in i h)) (inputWidth (fieldsAt T i)) (a .inputs-fit i h) in
-            let q : outputs-below (s .outputs) i ≡ true
+            let q : outputs-fit (s .outputs) i ≡ true
             = numbers-fit (s .outputs) (firstOutput T i) (fieldsAt T i .outputs)
             (omega (arith, a .outputs-length, sound .outputs-in i h)) (outputWidth (fieldsAt T i))
             (a .outputs-fit i h) in

@@ -10,8 +10,7 @@ use native.Mathlib.Omega.{arith}
 use lib.ListN.{length, getD, take, set, length-set}
 use lib.Seq.{sets, length-sets, getD-set-same, getD-set-other, getD-take, getD-drop, length-slice, ext-getD}
 use Rattle.lists.proofs.MembersLaws.{In, in-getD, getD-in, every-sound, every-complete}
-use Rattle.value.specs.Value.{below}
-use Rattle.primitive.proofs.FitLaws.{allBelow}
+use Rattle.value.specs.Value.{fits, ofWidth, allFit}
 use Rattle.tables.specs.Tables.{numbers}
 
 -- j is none of the k places from a.
@@ -52,21 +51,21 @@ module _ (l : List ℕ) (a k : ℕ) (room : a + k ≤ length l) where
   numbers-at i h = getD-drop a (take (a + k) l) i 0 ∙ getD-take (a + k) l (a + i) 0 (omega arith)
 
   -- All numbers fit a width exactly where each place's does.
-  pub numbers-fit-at : (w : ℕ) → allBelow w (numbers l a k) ≡ true → (i : ℕ) → i < k → below (getD l (a + i) 0) w ≡ true
+  pub numbers-fit-at : (w : ℕ) → allFit w (numbers l a k) ≡ true → (i : ℕ) → i < k → fits (ofWidth w (getD l (a + i) 0)) ≡ true
   numbers-fit-at w e i h =
-      let b : below (getD (numbers l a k) i 0) w ≡ true
-      = every-sound (λ x. below x w) (getD (numbers l a k) i 0) (numbers l a k) e
+      let b : fits (ofWidth w (getD (numbers l a k) i 0)) ≡ true
+      = every-sound (λ x. fits (ofWidth w x)) (getD (numbers l a k) i 0) (numbers l a k) e
       (in-getD (numbers l a k) i 0 (omega (arith, numbers-length))) in
-      ap (λ (x : ℕ). below x w) (sym (numbers-at i h)) ∙ b
+      ap (λ (x : ℕ). fits (ofWidth w x)) (sym (numbers-at i h)) ∙ b
 
-  pub numbers-fit : (w : ℕ) → ((i : ℕ) → i < k → below (getD l (a + i) 0) w ≡ true) → allBelow w (numbers l a k) ≡ true
-  numbers-fit w f = every-complete (λ x. below x w) (numbers l a k) each
+  pub numbers-fit : (w : ℕ) → ((i : ℕ) → i < k → fits (ofWidth w (getD l (a + i) 0)) ≡ true) → allFit w (numbers l a k) ≡ true
+  numbers-fit w f = every-complete (λ x. fits (ofWidth w x)) (numbers l a k) each
     where
-      each : (x : ℕ) → In x (numbers l a k) → below x w ≡ true
+      each : (x : ℕ) → In x (numbers l a k) → fits (ofWidth w x) ≡ true
       each x h =
           let r = getD-in x (numbers l a k) 0 h in
           let u : r .0 < k = omega (arith, r .1, numbers-length) in
-          ap (λ (y : ℕ). below y w) (r .2 ∙ numbers-at (r .0) u) ∙ f (r .0) u
+          ap (λ (y : ℕ). fits (ofWidth w y)) (r .2 ∙ numbers-at (r .0) u) ∙ f (r .0) u
 
 -- Tables that hold the same at the k places from a have the same numbers there.
 pub numbers-cong : (l m : List ℕ) (a k : ℕ) → a + k ≤ length l → a + k ≤ length m

@@ -11,7 +11,7 @@ use lib.Seq.{length-take-le}
 use lib.Dec.{leb}
 use Rattle.lists.specs.Lists.{refusal, _if_, appendNew, overlay}
 use Rattle.lists.proofs.ListsLaws.{and-left, refusal-first, refusal-rest}
-use Rattle.value.specs.Value.{below}
+use Rattle.value.specs.Value.{fits, ofWidth}
 use Rattle.primitive.specs.declared.kinds.Kind.the-variants.{Switch, Input}
 use Rattle.primitive.specs.declared.table.Fields.{Fields}
 use Rattle.primitive.specs.Kinds.{is, primitive, obeys, inputWidth, outputWidth}
@@ -33,7 +33,7 @@ use Rattle.rounds.proofs.StepsLaws.{append-room}
 use Rattle.simulator.proofs.QuestionsLaws.{number-refused, number-net, number-passed}
 
 -- On a net: 17; then, of a component that is a Switch or not (s), an Input or not (q), driven or not (d), 18; then, of
--- a number that lies below the port's width or not (b), 19; and 0 where none is given.
+-- a value that fits the port or not (b), 19; and 0 where none is given.
 module _ (cs ws : List ℕ) (m : Counts) (i v : ℕ) where
   pub edit-17 : m .components ≤ i → 17 ≡ editRefusal cs ws m i v
   unfolding editRefusal
@@ -47,17 +47,17 @@ module _ (cs ws : List ℕ) (m : Counts) (i v : ℕ) where
     edit-18 e = rw (lt-leb (m .components) i h, ← es, ← eq, ← ed, e)
 
     module _ (e : not (s || (q && not d)) ≡ false) (f : Fields) (w : ℕ) (b : Bool) (ef : f ≡ fieldsIn cs i)
-        (ew : w ≡ cond s (outputWidth f) (inputWidth f)) (eb : b ≡ below v w) where
-      fits : b ≡ below v (cond s (outputWidth (fieldsIn cs i)) (inputWidth (fieldsIn cs i)))
-      fits = eb ∙ ap (below v) (ew ∙ ap (λ (g : Fields). cond s (outputWidth g) (inputWidth g)) ef)
+        (ew : w ≡ cond s (outputWidth f) (inputWidth f)) (eb : b ≡ fits (ofWidth w v)) where
+      value : b ≡ fits (ofWidth (cond s (outputWidth (fieldsIn cs i)) (inputWidth (fieldsIn cs i))) v)
+      value = eb ∙ ap (λ (u : ℕ). fits (ofWidth u v)) (ew ∙ ap (λ (g : Fields). cond s (outputWidth g) (inputWidth g)) ef)
 
       pub edit-19 : not b ≡ true → 19 ≡ editRefusal cs ws m i v
       unfolding editRefusal
-      edit-19 l = rw (lt-leb (m .components) i h, ← es, ← eq, ← ed, e, ← fits, l)
+      edit-19 l = rw (lt-leb (m .components) i h, ← es, ← eq, ← ed, e, ← value, l)
 
       pub edit-0 : not b ≡ false → 0 ≡ editRefusal cs ws m i v
       unfolding editRefusal
-      edit-0 l = rw (lt-leb (m .components) i h, ← es, ← eq, ← ed, e, ← fits, l)
+      edit-0 l = rw (lt-leb (m .components) i h, ← es, ← eq, ← ed, e, ← value, l)
 
 -- On any tables.
 module _ (T : Tables) (i v : ℕ) where
@@ -65,7 +65,7 @@ module _ (T : Tables) (i v : ℕ) where
   settable = is Switch (fieldsAt T i) || (is Input (fieldsAt T i) && not (driven T i))
 
   abbrev fitting : Bool
-  fitting = below v (cond (is Switch (fieldsAt T i)) (outputWidth (fieldsAt T i)) (inputWidth (fieldsAt T i)))
+  fitting = fits (ofWidth (cond (is Switch (fieldsAt T i)) (outputWidth (fieldsAt T i)) (inputWidth (fieldsAt T i))) v)
 
   abbrev from-19 : List (ℕ × Bool)
   from-19 = (19 if not fitting) ∷ []
@@ -109,8 +109,7 @@ module _ (T : Tables) (i v : ℕ) (z : editNumber T i v ≡ 0) where
   edit-settable =
       not-false (settable T i v) (refusal-first 18 (not (settable T i v)) (from-19 T i v) (λ q. omega arith) to-18)
 
-  pub edit-fits : below v (cond (is Switch (fieldsAt T i)) (outputWidth (fieldsAt T i)) (inputWidth (fieldsAt T i)))
-      ≡ true
+  pub edit-fits : fits (ofWidth (cond (is Switch (fieldsAt T i)) (outputWidth (fieldsAt T i)) (inputWidth (fieldsAt T i))) v) ≡ true
   edit-fits = not-false (fitting T i v) (refusal-first 19 (not (fitting T i v)) [] (λ q. omega arith) to-19)
 
   obeyed : (primitive (fieldsAt T i) && obeys (fieldsAt T i)) ≡ true

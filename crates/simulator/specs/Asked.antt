@@ -16,7 +16,7 @@ use mathlib.Core.List.{List, [], _∷_}
 use lib.ListN.{getD}
 use lib.Dec.{eqb, leb}
 use Rattle.lists.specs.Lists.{from, keep, any, refusal, _if_}
-use Rattle.value.specs.Value.{below}
+use Rattle.value.specs.Value.{fits, ofWidth}
 use Rattle.primitive.specs.declared.kinds.Kind.the-variants.{Switch, Input}
 use Rattle.primitive.specs.Kinds.{is, inputWidth, outputWidth}
 use Rattle.tables.specs.declared.Counts.{Counts}
@@ -63,6 +63,5 @@ editRefusal cs ws m i v =
     refusal
     ((17 if leb (m .components) i)
     ∷ (18 if not (is Switch (fieldsIn cs i) || (is Input (fieldsIn cs i) && not (ends ws (m .wires) Target i))))
-    ∷ (19 if not (below v
-    (cond (is Switch (fieldsIn cs i)) (outputWidth (fieldsIn cs i)) (inputWidth (fieldsIn cs i)))))
+    ∷ (19 if not (fits (ofWidth (cond (is Switch (fieldsIn cs i)) (outputWidth (fieldsIn cs i)) (inputWidth (fieldsIn cs i))) v)))
     ∷ [])

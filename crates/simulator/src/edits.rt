@@ -16,6 +16,7 @@ use primitive::Refusal;
 use tables::Answer;
 use tables::Counts;
 use tables::FlatIdx;
+use value::Value;
 
 // Whether one of the first `count` wires enters component i.
 fn is_driven(wires: &[u16], count: usize, i: usize) -> bool
@@ -33,7 +34,7 @@ fn is_driven(wires: &[u16], count: usize, i: usize) -> bool
 }
 
 // What an edit of a net checks: 17 where there is no component i; 18 where it is neither a Switch nor an Input without a wire;
-// 19 where the number does not fit the port that is set.
+// 19 where its value does not fit the port that is set.
 fn edit_number(components: &[u64], wires: &[u16], counts: Counts, i: usize, number: u64) -> u32
     requires { ⌜ (i < counts .components → fieldsFit (fieldsIn (now components) i) ≡ true) ⌝ }
     ensures { λ r. ⌜ r ≡ editRefusal (now (components .entry)) (now (wires .entry)) counts i number ⌝ }
@@ -52,7 +53,8 @@ fn edit_number(components: &[u64], wires: &[u16], counts: Counts, i: usize, numb
     } else {
         primitive::input_width(f)
     };
-    if !value::lies_below(number, width) {
+    let set = Value { number, width };
+    if !set.fits().fits {
         return 19;
     }
     0

@@ -1,4 +1,4 @@
--- `row_fits`: the numbers of its ports, each side against its width.
+-- `row_fits`: the values of its ports, side by side.
 -- Assumes nothing.
 use mathlib.Core.Path.{ap}
 use native.Mathlib.Omega.{arith}
@@ -22,11 +22,11 @@ input-width-requires c κs = search needs
 output-width-requires : tie.Need-output-width-requires
 output-width-requires c κs = search needs
 
-cast-all-below : tie.Need-cast-all-below
-cast-all-below c = search needs
+cast-all-fit : tie.Need-cast-all-fit
+cast-all-fit c = search needs
 
-all-below-requires : tie.Need-all-below-requires
-all-below-requires c κs =
+all-fit-requires : tie.Need-all-fit-requires
+all-fit-requires c κs =
     let s = c .before .before .before .before .before .before .before .before .before in
     let f = c .before .before .before .before .before .fields-at in
     omega (
@@ -37,11 +37,11 @@ all-below-requires c κs =
           (f .ensures),
     )
 
-cast-all-below-2 : tie.Need-cast-all-below-2
-cast-all-below-2 c = search needs
+cast-all-fit-2 : tie.Need-cast-all-fit-2
+cast-all-fit-2 c = search needs
 
-all-below-requires-2 : tie.Need-all-below-requires-2
-all-below-requires-2 c κs =
+all-fit-requires-2 : tie.Need-all-fit-requires-2
+all-fit-requires-2 c κs =
     let s = c .before .before .before .before .before .before .before .before .before .before .before in
     let f = c .before .before .before .before .before .before .before .fields-at in
     omega (
@@ -54,9 +54,9 @@ all-below-requires-2 c κs =
 
 returns : tie.Need-returns
 returns c =
-    let a1 = c .before .before .all-below .ensures in
+    let a1 = c .before .before .all-fit .ensures in
     rw (
-      c .all-below2 .ensures,
+      c .all-fit2 .ensures,
       a1,
       c .before .before .before .before .output-width .ensures,
       c .before .before .before .before .before .input-width .ensures,
@@ -74,8 +74,8 @@ row-fits-spec =
     first-output-requires
     input-width-requires
     output-width-requires
-    cast-all-below
-    all-below-requires
-    cast-all-below-2
-    all-below-requires-2
+    cast-all-fit
+    all-fit-requires
+    cast-all-fit-2
+    all-fit-requires-2
     returns)

@@ -2,13 +2,11 @@
 -- Assumes nothing.
 use borrow.Author.Needs.{needs}
 use borrow.Author.Tests.{not-true, not-false}
-use mathlib.Core.Path.{_≡_, sym, ap, _∙_}
-use mathlib.Core.Bool.{Bool, _&&_}
+use mathlib.Core.Path.{sym, ap, _∙_}
 use Prim.Native.Nat.{_-_, _≤_}
 use native.Mathlib.Omega.{arith}
-use lib.ListN.{getD}
-use lib.Dec.{eqb}
-use Rattle.primitive.proofs.EvaluateLaws.{fitsAt, FitFrom, fitFrom-start, fitFrom-fails, fitFrom-step, fitFrom-end}
+use Rattle.value.specs.declared.Fit.{Fit}
+use Rattle.primitive.proofs.EvaluateLaws.{FitFrom, fitFrom-start, fitFrom-fails, fitFrom-step, fitFrom-end}
 use Rattle.primitive.proofs.single.all_fit.Statement.{statement}
 use Rattle.primitive.proofs.single.all_fit.Tie as tie
 
@@ -21,28 +19,27 @@ abbrev μ-loop : tie.MeasureT-loop
 loop-holds : tie.Need-loop-holds Inv-loop μ-loop
 loop-holds c = (omega arith, fitFrom-start _ _ _ _)
 
-mul-if1 : tie.Need-mul-if1 Inv-loop μ-loop
-mul-if1 c = search needs
+mul-t8 : tie.Need-mul-t8 Inv-loop μ-loop
+mul-t8 c = search needs
 
-shared-slice-read-if1 : tie.Need-shared-slice-read-if1 Inv-loop μ-loop
-shared-slice-read-if1 c = search needs
+shared-slice-read-t10 : tie.Need-shared-slice-read-t10 Inv-loop μ-loop
+shared-slice-read-t10 c = search needs
 
-mul-lies-below : tie.Need-mul-lies-below Inv-loop μ-loop
-mul-lies-below c = search needs
+mul-t11 : tie.Need-mul-t11 Inv-loop μ-loop
+mul-t11 c = search needs
 
-shared-slice-read-lies-below : tie.Need-shared-slice-read-lies-below Inv-loop μ-loop
-shared-slice-read-lies-below c = search needs
+shared-slice-read-t13 : tie.Need-shared-slice-read-t13 Inv-loop μ-loop
+shared-slice-read-t13 c = search needs
 
-lies-below-requires : tie.Need-lies-below-requires Inv-loop μ-loop
-lies-below-requires c κs = search needs
+fits-in-requires : tie.Need-fits-in-requires Inv-loop μ-loop
+fits-in-requires c κs = search needs
 
 returns : tie.Need-returns Inv-loop μ-loop
 returns c =
-    let a = c .before .before .before .before .before .before .before .before .args in
-    let i = c .before .before .before .before .before .loop .i in
-    let e : (eqb (getD (a .widths .now) i 0) (a .width) && c .before .lies-below .result) ≡ fitsAt (a .width) (a .numbers .now) (a .widths .now) i =
-    ap (λ (b : Bool). eqb (getD (a .widths .now) i 0) (a .width) && b) (c .before .lies-below .ensures) in
-    fitFrom-fails (a .width) (a .count) (a .numbers .now) (a .widths .now) i (c .before .before .before .before .before .loop .inv .1) (omega arith) (sym e ∙ not-true _ (c .if1 .taken))
+    let at-loop = c .before .before .before .before .before .before in
+    let a = at-loop .before .before .before .args in
+    fitFrom-fails (a .width) (a .count) (a .numbers .now) (a .widths .now) (at-loop .loop .i) (at-loop .loop .inv .1) (omega arith)
+    (sym (ap (λ (f : Fit). f .fits) (c .before .before .fits-in .ensures)) ∙ not-true _ (c .if1 .taken))
 
 add-i : tie.Need-add-i Inv-loop μ-loop
 add-i c = search needs
@@ -52,12 +49,11 @@ loop-less c = search needs
 
 loop-again : tie.Need-loop-again Inv-loop μ-loop
 loop-again c =
-    let a = c .before .before .before .before .before .before .before .before .args in
-    let i = c .before .before .before .before .before .loop .i in
-    let e : (eqb (getD (a .widths .now) i 0) (a .width) && c .before .lies-below .result) ≡ fitsAt (a .width) (a .numbers .now) (a .widths .now) i =
-    ap (λ (b : Bool). eqb (getD (a .widths .now) i 0) (a .width) && b) (c .before .lies-below .ensures) in (
+    let at-loop = c .before .before .before .before .before .before in
+    let a = at-loop .before .before .before .args in (
       omega arith,
-      fitFrom-step (a .width) (a .count) (a .numbers .now) (a .widths .now) i (c .before .before .before .before .before .loop .inv .1) (omega arith) (sym e ∙ not-false _ (c .if1 .left)),
+      fitFrom-step (a .width) (a .count) (a .numbers .now) (a .widths .now) (at-loop .loop .i) (at-loop .loop .inv .1) (omega arith)
+          (sym (ap (λ (f : Fit). f .fits) (c .before .before .fits-in .ensures)) ∙ not-false _ (c .if1 .left)),
     )
 
 returns-2 : tie.Need-returns-2 Inv-loop μ-loop
@@ -72,11 +68,11 @@ all-fit-spec =
     Inv-loop
     μ-loop
     loop-holds
-    mul-if1
-    shared-slice-read-if1
-    mul-lies-below
-    shared-slice-read-lies-below
-    lies-below-requires
+    mul-t8
+    shared-slice-read-t10
+    mul-t11
+    shared-slice-read-t13
+    fits-in-requires
     returns
     add-i
     loop-less

@@ -5,7 +5,7 @@ use borrow.Author.Tests.{not-true, not-false}
 use mathlib.Core.Path.{_≡_, sym, _∙_}
 use mathlib.Core.Bool.{true, false, _&&_}
 use Rattle.primitive.specs.Kinds.{forCustom, unknown, primitive, obeys}
-use Rattle.primitive.proofs.EvaluateLaws.{allFit, number-7, number-8, number-9, number-2, number-19, number-0, there-inputs, there-entering, there-outputs, there-leaving}
+use Rattle.primitive.proofs.EvaluateLaws.{bothFit, number-7, number-8, number-9, number-2, number-19, number-0, there-inputs, there-entering, there-outputs, there-leaving}
 use Rattle.primitive.proofs.single.evaluate_number.Statement.{statement}
 use Rattle.primitive.proofs.single.evaluate_number.Tie as tie
 
@@ -23,7 +23,7 @@ obeyed : (c : tie.Else3) → (primitive (c .before .before .before .before .befo
 obeyed c = sym (tested (c .before)) ∙ not-false _ (c .if3 .left)
 
 fitted : (c : tie.After-all-fit2) → (c .before .before .all-fit .result && c .all-fit2 .result)
-    ≡ allFit (c .before .before .before .before .before .before .before .before .before .before .before .before .before .before .before .before .before .before .args .f) (c .before .before .before .before .before .before .before .before .before .before .before .before .before .before .before .before .before .before .args .inputs .now) (c .before .before .before .before .before .before .before .before .before .before .before .before .before .before .before .before .before .before .args .entering .now) (c .before .before .before .before .before .before .before .before .before .before .before .before .before .before .before .before .before .before .args .outputs .now) (c .before .before .before .before .before .before .before .before .before .before .before .before .before .before .before .before .before .before .args .leaving .now)
+    ≡ bothFit (c .before .before .before .before .before .before .before .before .before .before .before .before .before .before .before .before .before .before .args .f) (c .before .before .before .before .before .before .before .before .before .before .before .before .before .before .before .before .before .before .args .inputs .now) (c .before .before .before .before .before .before .before .before .before .before .before .before .before .before .before .before .before .before .args .entering .now) (c .before .before .before .before .before .before .before .before .before .before .before .before .before .before .before .before .before .before .args .outputs .now) (c .before .before .before .before .before .before .before .before .before .before .before .before .before .before .before .before .before .before .args .leaving .now)
 fitted c = rw (c .before .before .all-fit .ensures, c .before .before .before .input-width .ensures, c .all-fit2 .ensures, c .before .output-width .ensures)
 
 cast-n : tie.Need-cast-n

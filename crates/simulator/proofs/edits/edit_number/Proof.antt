@@ -1,8 +1,9 @@
 -- `edit_number`: the numbers in their order.
 -- Assumes nothing.
-use mathlib.Core.Path.{_≡_, _∙_}
+use mathlib.Core.Path.{_≡_, ap, _∙_}
 use mathlib.Core.Bool.{cond}
 use mathlib.Core.Logic.{⊎-elim}
+use Rattle.value.specs.declared.Fit.{Fit}
 use Rattle.primitive.specs.Kinds.{inputWidth, outputWidth}
 use Rattle.simulator.proofs.EditsLaws.{edit-17, edit-18, edit-19, edit-0}
 use borrow.Author.Needs.{needs}
@@ -53,12 +54,12 @@ output-width-requires c κs = search needs
 input-width-requires : tie.Need-input-width-requires
 input-width-requires c κs = search needs
 
-lies-below-requires : tie.Need-lies-below-requires
-lies-below-requires c κs = search needs
+fits-requires : tie.Need-fits-requires
+fits-requires c κs = search needs
 
 returns-3 : tie.Need-returns-3
 returns-3 c =
-    let at-if2 = c .before .before .before .before in
+    let at-if2 = c .before .before .before .before .before in
     let at-is-driven = at-if2 .before in
     let at-is-kind2 = at-is-driven .before in
     let at-is-kind = at-is-kind2 .before in
@@ -68,12 +69,12 @@ returns-3 c =
     edit-19 (a .components .now) (a .wires .now) (a .counts) (a .i) (a .number) (at-if1 .if1 .left) _ _ _
     (at-is-kind .is-kind .ensures)
     (at-is-kind2 .is-kind2 .ensures) (at-is-driven .is-driven .ensures) (at-if2 .if2 .left) _ _ _
-    (c .before .before .before .fields-at .ensures) (wide (c .before .before))
-    (c .before .lies-below .ensures) (c .if4 .taken)
+    (c .before .before .before .before .fields-at .ensures) (wide (c .before .before .before))
+    (ap (λ (f : Fit). f .fits) (c .before .before .fits2 .ensures)) (c .if4 .taken)
 
 returns-4 : tie.Need-returns-4
 returns-4 c =
-    let at-if2 = c .before .before .before .before in
+    let at-if2 = c .before .before .before .before .before in
     let at-is-driven = at-if2 .before in
     let at-is-kind2 = at-is-driven .before in
     let at-is-kind = at-is-kind2 .before in
@@ -83,8 +84,8 @@ returns-4 c =
     edit-0 (a .components .now) (a .wires .now) (a .counts) (a .i) (a .number) (at-if1 .if1 .left) _ _ _
     (at-is-kind .is-kind .ensures)
     (at-is-kind2 .is-kind2 .ensures) (at-is-driven .is-driven .ensures) (at-if2 .if2 .left) _ _ _
-    (c .before .before .before .fields-at .ensures) (wide (c .before .before))
-    (c .before .lies-below .ensures) (c .if4 .left)
+    (c .before .before .before .before .fields-at .ensures) (wide (c .before .before .before))
+    (ap (λ (f : Fit). f .fits) (c .before .before .fits2 .ensures)) (c .if4 .left)
 
 pub edit-number-spec : {M : Type 1} → statement M
 edit-number-spec =
@@ -98,6 +99,6 @@ edit-number-spec =
     fields-at-requires
     output-width-requires
     input-width-requires
-    lies-below-requires
+    fits-requires
     returns-3
     returns-4)

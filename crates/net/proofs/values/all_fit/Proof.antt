@@ -1,21 +1,22 @@
--- `all_below`: the numbers still to come lie below 2^width exactly if all do.
+-- `all_fit`: the values still to come fit exactly if all do.
 -- Assumes nothing.
 use borrow.Author.Tests.{not-true, not-false}
-use mathlib.Core.Path.{_≡_, refl, sym, _∙_}
+use mathlib.Core.Path.{_≡_, refl, sym, ap, _∙_}
 use mathlib.Core.Bool.{Bool}
 use Prim.Native.Nat.{ℕ, _+_, _-_, _≤_}
 use native.Mathlib.Omega.{arith}
 use lib.Seq.{slice}
 use Rattle.lists.specs.Lists.{every}
-use Rattle.value.specs.Value.{below}
+use Rattle.value.specs.declared.Fit.{Fit}
+use Rattle.value.specs.Value.{fits, ofWidth}
 use Rattle.net.proofs.LoopsLaws.{everySlice-fails, everySlice-next, everySlice-end}
 use borrow.Author.Needs.{needs}
-use Rattle.net.proofs.values.all_below.Statement.{statement}
-use Rattle.net.proofs.values.all_below.Tie as tie
+use Rattle.net.proofs.values.all_fit.Statement.{statement}
+use Rattle.net.proofs.values.all_fit.Tie as tie
 
--- A number lies below 2^w.
+-- A number fits a port of w bits.
 abbrev fitsBits : ℕ → ℕ → Bool
-fitsBits w x = below x w
+fitsBits w x = fits (ofWidth w x)
 
 abbrev Inv-loop : tie.InvT-loop
 Inv-loop ports start count width end i₀ i =
@@ -30,22 +31,22 @@ add-end c = search needs
 loop-holds : tie.Need-loop-holds Inv-loop μ-loop
 loop-holds c = (omega arith, refl)
 
-mul-lies-below : tie.Need-mul-lies-below Inv-loop μ-loop
-mul-lies-below c = search needs
+mul-t9 : tie.Need-mul-t9 Inv-loop μ-loop
+mul-t9 c = search needs
 
-shared-slice-read-lies-below : tie.Need-shared-slice-read-lies-below Inv-loop μ-loop
-shared-slice-read-lies-below c = search needs
+shared-slice-read-t11 : tie.Need-shared-slice-read-t11 Inv-loop μ-loop
+shared-slice-read-t11 c = search needs
 
-lies-below-requires : tie.Need-lies-below-requires Inv-loop μ-loop
-lies-below-requires c κs = search needs
+fits-requires : tie.Need-fits-requires Inv-loop μ-loop
+fits-requires c κs = search needs
 
 returns : tie.Need-returns Inv-loop μ-loop
 returns c =
-    let a = c .before .before .before .before .before .before .args in
-    let l = c .before .before .before .before .loop in
+    let a = c .before .before .before .before .before .before .before .args in
+    let l = c .before .before .before .before .before .loop in
     everySlice-fails (fitsBits (a .width)) (a .ports .now) (l .i) (a .start + a .count) _ (omega arith) (l .inv .1)
     (omega arith)
-    (sym (c .before .lies-below .ensures) ∙ not-true _ (c .if1 .taken))
+    (sym (ap (λ (f : Fit). f .fits) (c .before .before .fits2 .ensures)) ∙ not-true _ (c .if1 .taken))
 
 add-i : tie.Need-add-i Inv-loop μ-loop
 add-i c = search needs
@@ -55,12 +56,12 @@ loop-less c = search needs
 
 loop-again : tie.Need-loop-again Inv-loop μ-loop
 loop-again c =
-    let a = c .before .before .before .before .before .before .args in
-    let l = c .before .before .before .before .loop in (
+    let a = c .before .before .before .before .before .before .before .args in
+    let l = c .before .before .before .before .before .loop in (
       omega arith,
       everySlice-next (fitsBits (a .width)) (a .ports .now) (l .i) (a .start + a .count) _ (omega arith) (l .inv .1)
           (omega arith)
-          (sym (c .before .lies-below .ensures) ∙ not-false _ (c .if1 .left)),
+          (sym (ap (λ (f : Fit). f .fits) (c .before .before .fits2 .ensures)) ∙ not-false _ (c .if1 .left)),
     )
 
 returns-2 : tie.Need-returns-2 Inv-loop μ-loop
@@ -69,17 +70,17 @@ returns-2 c =
     everySlice-end (fitsBits (a .width)) (a .ports .now) (c .before .loop .i) (a .start + a .count) _ (omega arith)
     (c .before .loop .inv .1) (omega arith)
 
-pub all-below-spec : {M : Type 1} → statement M
-all-below-spec =
+pub all-fit-spec : {M : Type 1} → statement M
+all-fit-spec =
     tie.close
     (tie.spec
     Inv-loop
     μ-loop
     add-end
     loop-holds
-    mul-lies-below
-    shared-slice-read-lies-below
-    lies-below-requires
+    mul-t9
+    shared-slice-read-t11
+    fits-requires
     returns
     add-i
     loop-less
