@@ -107,6 +107,9 @@ module _ (t : Record) (g : Stands) (e : StandsAs g t) where
     pub seen-is : t ≡ apart o (Component i f)
     seen-is = rw h at e
 
+    pub seen-fields : fieldsOf t ≡ f
+    seen-fields = ap fieldsOf seen-is
+
   pub unseen-primitive : g ≡ Nothing → false ≡ isPrimitive t
   unseen-primitive h = rw (unseen-test h)
 

@@ -1,4 +1,5 @@
 pub mod DescentLaws
+pub mod TargetsLaws
 pub mod JudgementLaws
 pub mod Accepted
 pub mod Components

@@ -1,13 +1,17 @@
 // From a connection's ends down to primitives, and check 15. Rules: docs/SPECIFICATION.md, "Flattening" and "Numbers given back".
 // Source: flatten.rs, `reindex_connections`.
 ghost use mathlib.Core.Path.{_≡_};
+ghost use Prim.Native.Nat.{_+_, _≤_};
+ghost use lib.ListN.{length};
 ghost use Rattle.lists.specs.Lists.{any};
 ghost use Rattle.component.specs.Record.{recordAt, recordCount};
 ghost use Rattle.component.specs.Index.{IsIndex};
 ghost use Rattle.component.specs.Checks.{given};
 ghost use Rattle.flatten.specs.Descent.{outputBelow, inputsBelow, fails15};
 ghost use Rattle.flatten.specs.Searches.{entered, unlike};
+ghost use Rattle.flatten.specs.Targets.{targetPlace, Listed};
 use crate::Pin;
+use crate::targets::lay_target;
 use component::Reading;
 use component::Says;
 use component::Stands;
@@ -67,6 +71,43 @@ pub fn enter(file: &[u8], index: &[u16], c: usize, i: u16, q: usize) -> Entered
         return Entered::Nothing;
     }
     Entered::To(child_of(file, index, c, to), input)
+}
+
+// Lists the primitive inputs that input i of component c leads to, through input maps and with the depth left: in map order, all that one
+// map reaches before the next, from entry `at` of the table on. The answer is the number of the next entry. Crates flatten and load call
+// it, with the index filled and room in the table.
+pub fn list_targets(
+    file: &[u8],
+    index: &[u16],
+    depth: u8,
+    c: usize,
+    i: u16,
+    targets: &mut [u16],
+    at: usize,
+) -> usize
+    requires { ⌜ IsIndex (now file) (now index) × (recordCount (now file) ≤ 1024) ⌝ }
+    requires { ⌜ targetPlace (at + length (inputsBelow (recordAt (now file)) (recordCount (now file)) depth c i)) ≤ length (now targets) ⌝ }
+    ensures { λ r. ⌜ Listed (now (targets .entry)) at (inputsBelow (recordAt (now (file .entry))) (recordCount (now (file .entry))) depth c i)
+        (now (targets .exit)) r ⌝ }
+{
+    if depth == 0 {
+        return at;
+    }
+    if is_primitive_at(file, c) {
+        lay_target(targets, at, Pin { comp: c, port: i });
+        return at + 1;
+    }
+    let maps = stretch_of(index, file.len() / 24, c);
+    let end = maps.end;
+    let mut next = at;
+    let mut q = maps.first;
+    while q < end {
+        if let Entered::To(inner, input) = enter(file, index, c, i, q) {
+            next = list_targets(file, index, depth - 1, inner, input, targets, next);
+        }
+        q += 1;
+    }
+    next
 }
 
 // Whether input i of component c leads, through input maps and with the depth left, to an input of another width.

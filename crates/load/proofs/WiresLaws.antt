@@ -18,7 +18,7 @@ use lib.ListN.{length, length-append}
 use lib.Seq.{sets, length-sets}
 use lib.Dec.{eqb}
 use Rattle.lists.specs.Lists.{from, joined, overlay}
-use Rattle.lists.proofs.OverlayLaws.{joined-append, joined-width}
+use Rattle.lists.proofs.OverlayLaws.{sets-append, joined-append, joined-width}
 use Rattle.component.specs.declared.ChildNo.{ChildNo}
 use Rattle.component.specs.declared.Record.{Record}
 use Rattle.component.specs.declared.Says.{Says}
@@ -49,7 +49,7 @@ use Rattle.tables.specs.Words.{wirePlace}
 use Rattle.load.specs.Load.{flatPin, flatWires}
 use Rattle.load.specs.Laying.{Written, Ready, leadWords, wiresGiven}
 use Rattle.load.proofs.FlatWires.{flatWire, flatWires-bound}
-use Rattle.load.proofs.LayingLaws.{sets-append, Laid, laid-room, laid-step, laid-end, laid-count}
+use Rattle.load.proofs.LayingLaws.{Laid, laid-room, laid-step, laid-end, laid-count}
 
 abbrev pub led : List ℕ → ℕ → End → List Pin → List ℕ
 led s n f ts = joined (leadWords (recordAt s) n f) ts
