@@ -1,7 +1,7 @@
 pub mod DescentLaws
 pub mod TargetsLaws
-pub mod JudgementLaws
 pub mod Accepted
+pub mod JudgementLaws
 pub mod Components
 pub mod DescentLeads
 pub mod Wires
@@ -9,4 +9,6 @@ pub mod Primitives
 pub mod EnteredOnce
 pub mod Ends
 pub mod Bound
+pub mod ConnectionLaws
+pub mod WidthsLaws
 pub mod WireTheorems

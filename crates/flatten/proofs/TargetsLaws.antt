@@ -137,7 +137,10 @@ module _ (t : List ℕ) (ts : List Pin) (u : List ℕ) (m : ℕ) (h : Listed t 0
   pub listed-count : m ≡ length ts
   listed-count = omega (arith, h .next)
 
-  pub listed-read : targetPlace (length ts) ≤ length t → targetsIn u m ≡ ts
+  pub listed-length : length u ≡ length t
+  listed-length = ap (λ (l : List ℕ). length l) (h .table) ∙ length-sets t 0 (joined targetWords ts)
+
+  pub listed-read : targetPlace (0 + length ts) ≤ length t → targetsIn u m ≡ ts
   listed-read room =
       ap (λ (j : ℕ). targetsIn u j) listed-count ∙ map-indexes (targetIn u) (pin 0 0) ts (λ i l. at-entry i l)
     where

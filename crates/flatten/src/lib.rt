@@ -2,9 +2,8 @@
 mod descent;
 mod judgement;
 mod targets;
+mod widths;
 
-pub use descent::Entered;
-pub use descent::enter;
 pub use descent::list_targets;
 pub use descent::source_of;
 pub use judgement::is_sized;
