@@ -313,9 +313,6 @@ module _ (s : List ℕ) where
       pub outputs-none : 0 ≡ cond (isPrimitive (recordAt s p)) (outputsOf (recordAt s p)) 0
       outputs-none = rw (unseen-test (recordAt s p) g e h)
 
-      pub composite-other : false ≡ composite (recordAt s p)
-      composite-other = rw (unseen-test (recordAt s p) g e h)
-
       pub inputs-other : (i : ℕ) → false ≡ ltb i (inputsOf (recordAt s p))
       inputs-other i = sym (ap (λ (f : Fields). ltb i (f .inputs)) (unseen-fields (recordAt s p) g e h) ∙ le-ltb i 0 (omega arith))
 
@@ -365,9 +362,6 @@ module _ (s : List ℕ) where
       pub fails11-component : (b : Bool)
           → b ≡ (ltb 1024 (inputsBefore (recordAt s) (p + 1)) || ltb 1024 (outputsBefore (recordAt s) (p + 1))) → b ≡ fails11 (recordAt s) p
       fails11-component b k = k ∙ rw (add-one p, form-is)
-
-      pub composite-component : eqb (f .kind) 0 ≡ composite (recordAt s p)
-      composite-component = rw (seen-is (recordAt s p) g e o i f h)
 
       pub inputs-component : (j : ℕ) → ltb j (f .inputs) ≡ ltb j (inputsOf (recordAt s p))
       inputs-component j = rw (seen-is (recordAt s p) g e o i f h)

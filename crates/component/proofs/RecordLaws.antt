@@ -17,7 +17,6 @@ use Rattle.component.specs.Record.{le16, le32, le64, numbersIn, bare, we
 use Rattle.component.specs.Reading.{ownerOf, formOf, apart, formBy, said, number, StandsAs}
 use Rattle.component.specs.Checks.{given}
 use Rattle.component.specs.Record.{isPrimitive}
-use Rattle.primitive.specs.Kinds.{primitive}
 use Rattle.component.specs.declared.Record.{Record}
 use Rattle.primitive.specs.declared.Id.{Id}
 use Rattle.component.specs.declared.Says.{Says}
@@ -107,11 +106,11 @@ module _ (t : Record) (g : Stands) (e : StandsAs g t) where
     pub seen-is : t ≡ apart o (Component i f)
     seen-is = rw h at e
 
+    pub seen-fields : fieldsOf t ≡ f
+    seen-fields = ap fieldsOf seen-is
+
   pub unseen-primitive : g ≡ Nothing → false ≡ isPrimitive t
   unseen-primitive h = rw (unseen-test h)
-
-  pub seen-primitive : (o : ℕ) (i : Id) (f : Fields) (b : Bool) → g ≡ StandsComponent o i f → b ≡ primitive f → b ≡ isPrimitive t
-  seen-primitive o i f b h k = k ∙ rw (seen-is o i f h)
 
 -- Seeing one: the record is refused; it is none; it is one.
 module _ (t : Record) (r : Reading) (e : said r ≡ t) where

@@ -21,6 +21,7 @@ use crate::Stands;
 use crate::index::child_of;
 use crate::index::is_owned;
 use crate::reader::component_at;
+use crate::reader::fields_at;
 use crate::reader::record_at;
 use primitive::Id;
 
@@ -120,10 +121,7 @@ fn holds(file: &[u8], f: usize, o: usize, q: usize) -> bool
 fn is_composite_at(file: &[u8], p: usize) -> bool
     ensures { λ r. ⌜ r ≡ composite (recordAt (now (file .entry)) p) ⌝ }
 {
-    let Stands::Component { fields, .. } = component_at(file, p) else {
-        return false;
-    };
-    fields.kind == 0
+    fields_at(file, p).kind == 0
 }
 
 // 5: the root's owner is 0; any other is a composite, a component's one that is the component before or holds it.

@@ -200,7 +200,7 @@ pub fn out_map_of(file: &[u8], index: &[u16], c: usize, i: u16) -> usize
 }
 
 // The positions at which the input maps of composite c stand, of n records: those of the index, and all where it has no word of c.
-// Crates flatten and load call it likewise.
+// Crate flatten calls it likewise.
 pub fn stretch_of(index: &[u16], n: usize, c: usize) -> Stretch
     requires { ⌜ length (now index) ≡ 82432 ⌝ }
     ensures { λ r. ⌜ (r .first ≡ stretchFirst (now (index .entry)) c) × (r .end ≡ stretchEnd (now (index .entry)) n c) ⌝ }

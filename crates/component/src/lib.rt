@@ -15,6 +15,7 @@ use primitive::Fields;
 use primitive::Id;
 use primitive::Refusal;
 pub use reader::component_at;
+pub use reader::fields_at;
 pub use reader::is_primitive_at;
 pub use reader::record_at;
 

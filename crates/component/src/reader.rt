@@ -5,7 +5,7 @@ ghost use lib.ListN.{length};
 ghost use mathlib.Core.Bool.{true};
 ghost use lib.Dec.{eqb};
 ghost use Rattle.component.specs.Record.{le16, le32, le64, numbersIn, wellFormed, recordIn, recordAt};
-ghost use Rattle.component.specs.Record.{isPrimitive};
+ghost use Rattle.component.specs.Record.{fieldsOf, isPrimitive};
 ghost use Rattle.component.specs.Reading.{apart, said, number, StandsAs};
 ghost use Rattle.component.specs.Drawing.{fails3};
 ghost use Rattle.component.specs.Checks.{given};
@@ -161,12 +161,25 @@ pub fn component_at(file: &[u8], p: usize) -> Stands
     Stands::Component { owner, id, fields }
 }
 
+// The fields of the component at a position of the file; those of no component where none stands there.
+pub fn fields_at(file: &[u8], p: usize) -> Fields
+    ensures { λ r. ⌜ r ≡ fieldsOf (recordAt (now (file .entry)) p) ⌝ }
+{
+    let Stands::Component { fields, .. } = component_at(file, p) else {
+        return Fields {
+            kind: 255,
+            inputs: 0,
+            outputs: 0,
+            width: 0,
+            parameter: 0,
+        };
+    };
+    fields
+}
+
 // Whether a component of kinds 1 to 13 stands at a position of the file.
 pub fn is_primitive_at(file: &[u8], p: usize) -> bool
     ensures { λ r. ⌜ r ≡ isPrimitive (recordAt (now (file .entry)) p) ⌝ }
 {
-    let Stands::Component { fields, .. } = component_at(file, p) else {
-        return false;
-    };
-    primitive::is_primitive(fields)
+    primitive::is_primitive(fields_at(file, p))
 }

@@ -1,23 +1,27 @@
--- What it means that a file is accepted: no record fails any check. docs/SPECIFICATION.md, "Numbers given back".
+-- What it means that checks accept: no record fails any of them. docs/SPECIFICATION.md, "Numbers given back".
 --   checkNumbered at n k   the check whose number is k
---   Passed at n            n records, record p being `at p`, of which none fails a check
--- `judged-passes` says it once, for any list of checks; `accepted-passed` says it of a file.
+--   Passed at n            n records, record p being `at p`, of which none fails a check before 15
+-- `judged-passes` says it once, for any list of checks; `accepted-check` says it of an accepted file and all checks, and `accepted-passed`
+-- of the checks before 15, as `passed-before` does where those alone have passed. So what rests on `Passed` is known to check 15 itself.
 -- Assumes nothing.
-use mathlib.Core.Path.{_≡_, refl, ap, _∙_}
+use mathlib.Core.Path.{_≡_, refl, sym, ap, _∙_}
 use mathlib.Core.Logic.{_⊎_, inl, inr}
 use mathlib.Core.Bool.{Bool, true, false, cond}
 use mathlib.Core.List.{List, [], _∷_, map}
 use mathlib.Core.Option.{Option, none, some}
 use Prim.Native.Nat.{ℕ, _-_, _≤_, _<_}
 use native.Mathlib.Omega.{arith}
-use borrow.Author.Tests.{le-ltb}
-use lib.ListN.{length, getD}
+use borrow.Author.Tests.{le-ltb, ltb-true}
+use lib.Dec.{ltb}
+use lib.ListN.{length, getD, take}
+use lib.Seq.{getD-take}
 use Rattle.lists.specs.Lists.{from, first}
 use Rattle.lists.proofs.MembersLaws.{In, first-none, from0-complete, getD-cases}
 use Rattle.component.specs.declared.Record.{Record}
 use Rattle.component.specs.declared.Verdict.the-variants.{Accepted}
 use Rattle.component.specs.Record.{noRecord, recordAt, recordCount}
 use Rattle.flatten.specs.Verdict.{Check, check, checks, refused, orLater, judged, sized, verdict}
+use Rattle.flatten.specs.Searches.{PassedBefore}
 
 -- A refusal is no acceptance.
 pub refused-not : (k p : ℕ) → refused k p ≡ Accepted → ⊥
@@ -39,18 +43,46 @@ judged-passes n (j ∷ ks) e k h p l =
         ∙ first-none (j .fails) p (from 0 n) z (from0-complete n p l)
     by-found later none z e (inr u) = later e u
 
+-- No check, which never fails.
+abbrev pub noCheck : Check
+noCheck = check 0 (λ p. false)
+
+-- No record fails the check at a place of the list; past its end there is none.
+judged-place : (n : ℕ) (ks : List Check) → judged n ks ≡ Accepted → (j p : ℕ) → p < n → getD ks j noCheck .fails p ≡ false
+judged-place n ks e j p l = by-place (getD-cases ks j noCheck)
+  where
+    by-place : (getD ks j noCheck ≡ noCheck) ⊎ ((j < length ks) × In (getD ks j noCheck) ks) → getD ks j noCheck .fails p ≡ false
+    by-place (inl u) = ap (λ (c : Check). c .fails p) u
+    by-place (inr h) = judged-passes n ks e _ (h .1) p l
+
 -- The check of a number; one that never fails where there is none.
 abbrev pub checkNumbered : (ℕ → Record) → ℕ → ℕ → Check
-checkNumbered at n k = getD (checks at n) (k - 3) (check 0 (λ p. false))
+checkNumbered at n k = getD (checks at n) (k - 3) noCheck
 
 -- The checks of a drawing have the numbers 3 to 15, in order.
 pub checks-numbers : (at : ℕ → Record) (n : ℕ) → map (λ (k : Check). k .number) (checks at n) ≡ from 3 13
 checks-numbers at n = refl
 
--- A drawing that passes every check, and has no record past its end.
+-- A drawing that passes every check before 15, and has no record past its end: with d : Passed at n, `d .passes 4 refl p` says of record p
+-- that it does not fail check 4.
 pub record Passed (at : ℕ → Record) (n : ℕ) : Type 0 where
   pub past : (p : ℕ) → n ≤ p → at p ≡ noRecord
-  pub passes : (k p : ℕ) → p < n → checkNumbered at n k .fails p ≡ false
+  pub passes : (k : ℕ) → ltb k 15 ≡ true → (p : ℕ) → p < n → checkNumbered at n k .fails p ≡ false
+
+recordAt-past : (file : List ℕ) (p : ℕ) → recordCount file ≤ p → recordAt file p ≡ noRecord
+recordAt-past file p h = rw (le-ltb p (recordCount file) h)
+
+pub passed-before : (file : List ℕ) → PassedBefore (recordAt file) (recordCount file) 15 → Passed (recordAt file) (recordCount file)
+passed-before file e =
+    record {
+      past = recordAt-past file;
+      passes = λ k h p l.
+          ap (λ (c : Check). c .fails p) (sym (getD-take 12 all (k - 3) noCheck (omega (arith, ltb-true k 15 h))))
+          ∙ judged-place (recordCount file) (take 12 all) e (k - 3) p l;
+    }
+  where
+    all : List Check
+    all = checks (recordAt file) (recordCount file)
 
 -- An accepted file has a size that check 1 passes.
 pub accepted-sized : (file : List ℕ) → verdict file ≡ Accepted → sized file ≡ true
@@ -63,24 +95,14 @@ accepted-sized file accepted = by-size (sized file) accepted
     by-size true e = refl
     by-size false e = absurd (refused-not 1 0 e)
 
--- Of an accepted file no record fails a check: with d : Passed at n, `d .passes 4 p` says so of record p and check 4.
-pub accepted-passed : (file : List ℕ) → verdict file ≡ Accepted → Passed (recordAt file) (recordCount file)
-unfolding verdict
-accepted-passed file accepted =
-    record {
-      past = λ p h. rw (le-ltb p (recordCount file) h);
-      passes = λ k p l. by-place k p l (getD-cases all (k - 3) (check 0 (λ p. false)));
-    }
-  where
-    all : List Check
-    all = checks (recordAt file) (recordCount file)
+module _ (file : List ℕ) (accepted : verdict file ≡ Accepted) where
+  judged-all : judged (recordCount file) (checks (recordAt file) (recordCount file)) ≡ Accepted
+  unfolding verdict
+  judged-all = rw (accepted-sized file accepted) at accepted
 
-    judged-all : judged (recordCount file) all ≡ Accepted
-    judged-all = rw (accepted-sized file accepted) at accepted
+  -- Of an accepted file no record p fails the check numbered k, for any p and k.
+  pub accepted-check : (k p : ℕ) → p < recordCount file → checkNumbered (recordAt file) (recordCount file) k .fails p ≡ false
+  accepted-check k p l = judged-place (recordCount file) (checks (recordAt file) (recordCount file)) judged-all (k - 3) p l
 
-    by-place : (k p : ℕ) → p < recordCount file
-        → (checkNumbered (recordAt file) (recordCount file) k ≡ check 0 (λ p. false))
-        ⊎ ((k - 3 < length all) × In (checkNumbered (recordAt file) (recordCount file) k) all)
-        → checkNumbered (recordAt file) (recordCount file) k .fails p ≡ false
-    by-place k p l (inl e) = ap (λ (c : Check). c .fails p) e
-    by-place k p l (inr h) = judged-passes (recordCount file) all judged-all _ (h .1) p l
+  pub accepted-passed : Passed (recordAt file) (recordCount file)
+  accepted-passed = record { past = recordAt-past file; passes = λ k h. accepted-check k }

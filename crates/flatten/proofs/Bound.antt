@@ -1,10 +1,10 @@
--- At most 1,024 wires: no two enter one input, and there are at most 1,024 inputs.
+-- At most 1,024 wires, and targets of one connection: no two wires enter one input, and there are at most 1,024 inputs.
 -- docs/SPECIFICATION.md, "Numbers given back", checks 11 and 13, and the full size of the wire table.
 -- Assumes nothing.
 use mathlib.Core.Path.{_≡_, refl, sym, ap, _∙_, subst}
 use mathlib.Core.Bool.{Bool, true, false, cond}
 use mathlib.Core.List.{List, [], _∷_, _++_, map}
-use Prim.Native.Nat.{ℕ, _≤_}
+use Prim.Native.Nat.{ℕ, _≤_, _<_}
 use native.Mathlib.Omega.{arith}
 use lib.ListN.{length, length-map}
 use lib.Dec.{eqb}
@@ -20,8 +20,8 @@ use Rattle.flatten.specs.declared.Lead.{Lead}
 use Rattle.flatten.specs.Descent.{pin, goesTo, wiresAt, wires}
 use Rattle.flatten.proofs.Accepted.{Passed}
 use Rattle.flatten.proofs.Wires.{lead}
-use Rattle.flatten.proofs.EnteredOnce.{targetsAt, targetsAt-distinct}
-use Rattle.flatten.proofs.Ends.{IsInput, wires-enter}
+use Rattle.flatten.proofs.EnteredOnce.{targetsAt, goesTo-distinct, targetsAt-distinct}
+use Rattle.flatten.proofs.Ends.{IsInput, target-there, wires-enter}
 use Rattle.flatten.proofs.Primitives.{primitive-below, primitivesBefore-complete, inputs-bound}
 
 -- The inputs that wires enter.
@@ -73,6 +73,13 @@ module _ (at : ℕ → Record) (n : ℕ) (d : Passed at n) where
       (primitive-below at n d (t .comp) (i .of-primitive)))
       (map-complete (pin (t .comp)) (t .port) (from 0 (inputsOf (at (t .comp))))
       (from0-complete (inputsOf (at (t .comp))) (t .port) (i .there)))
+
+  -- A connection has at most 1,024 targets.
+  pub targets-bound : (p : ℕ) → p < n → formOf (at p) ≡ 2 → length (goesTo at n p) ≤ 1024
+  targets-bound p l e =
+      let r = distinct-bound (goesTo at n p) (inputPins at n) (goesTo-distinct at n d p)
+      (λ t h. inputPins-complete t (target-there at n d p l e t h)) in
+      omega (arith, inputPins-length at n, inputs-bound at n d)
 
   -- There are at most 1,024 wires.
   pub wires-bound : length (wires at n) ≤ 1024

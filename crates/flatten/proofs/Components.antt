@@ -1,4 +1,4 @@
--- Components of a drawing that passes every check: they stand first, an owner stands before what it owns, a child is
+-- Components of a drawing that passes the checks before 15: they stand first, an owner stands before what it owns, a child is
 -- owned by whom it is counted under, no two children share a place, none is numbered 256 or more, none is too deep.
 -- docs/SPECIFICATION.md, "The drawing file" and checks 3 to 8.
 -- Not here: the table of kinds, ids and numbers of ports (Primitives).
@@ -53,12 +53,12 @@ module _ (at : ℕ → Record) (n : ℕ) (d : Passed at n) where
   -- No component is numbered 256 or more, and none is deeper than allowed.
   pub component-number : (c : ℕ) → formOf (at c) ≡ 1 → c < 256
   component-number c e =
-      let six : (leb 256 c || deeper at deepest c) ≡ false = rw e at (d .passes 6 c (component-below c e)) in
+      let six : (leb 256 c || deeper at deepest c) ≡ false = rw e at (d .passes 6 refl c (component-below c e)) in
       leb-false 256 c (or-left-false (leb 256 c) (deeper at deepest c) six)
 
   pub component-deep : (c : ℕ) → formOf (at c) ≡ 1 → deeper at deepest c ≡ false
   component-deep c e =
-      let six : (leb 256 c || deeper at deepest c) ≡ false = rw e at (d .passes 6 c (component-below c e)) in
+      let six : (leb 256 c || deeper at deepest c) ≡ false = rw e at (d .passes 6 refl c (component-below c e)) in
       or-right-false (leb 256 c) (deeper at deepest c) six
 
   -- A component that is no primitive is a composite.
@@ -66,8 +66,8 @@ module _ (at : ℕ → Record) (n : ℕ) (d : Passed at n) where
   component-composite c e z =
       let k = fieldsOf (at c) .kind in
       let l = component-below c e in
-      let seven : forCustom k ≡ false = and-right-false _ _ (d .passes 7 c l) (eq-eqb (formOf (at c)) 1 e) in
-      let eight : unknown k ≡ false = and-right-false _ _ (d .passes 8 c l) (eq-eqb (formOf (at c)) 1 e) in
+      let seven : forCustom k ≡ false = and-right-false _ _ (d .passes 7 refl c l) (eq-eqb (formOf (at c)) 1 e) in
+      let eight : unknown k ≡ false = and-right-false _ _ (d .passes 8 refl c l) (eq-eqb (formOf (at c)) 1 e) in
       by-least (leb 1 k) refl (rw (seven, eight))
     where
       by-least : (b : Bool) → leb 1 (fieldsOf (at c) .kind) ≡ b → isKind (fieldsOf (at c) .kind) ≡ true
@@ -78,16 +78,16 @@ module _ (at : ℕ → Record) (n : ℕ) (d : Passed at n) where
   -- The owner of a connection or a map is a composite.
   pub owner-composite : (q : ℕ) → q < n → 2 ≤ formOf (at q) → composite (at (ownerOf (at q))) ≡ true
   owner-composite zero l h =
-      let z : formOf (at 0) ≡ 1 = eqb-true (formOf (at 0)) 1 (not-false _ (d .passes 4 0 l)) in absurd (omega arith)
+      let z : formOf (at 0) ≡ 1 = eqb-true (formOf (at 0)) 1 (not-false _ (d .passes 4 refl 0 l)) in absurd (omega arith)
   owner-composite (suc q) l h =
       let some = ne-eqb (formOf (at (suc q))) 0 (λ z. omega arith) in
-      and-left (composite (at (ownerOf (at (suc q))))) _ (not-false _ (rw some at (d .passes 5 (suc q) l)))
+      and-left (composite (at (ownerOf (at (suc q))))) _ (not-false _ (rw some at (d .passes 5 refl (suc q) l)))
 
   -- Components stand first: what stands before a component is one.
   component-before : (q : ℕ) → suc q < n → formOf (at (suc q)) ≡ 1 → formOf (at q) ≡ 1
   component-before q l e =
-      let four = ltb-false 1 (formOf (at q)) (or-left-false _ _ (rw e at (d .passes 4 (suc q) l))) in
-      let three = eqb-false (formOf (at q)) 0 (d .passes 3 q (omega arith)) in
+      let four = ltb-false 1 (formOf (at q)) (or-left-false _ _ (rw e at (d .passes 4 refl (suc q) l))) in
+      let three = eqb-false (formOf (at q)) 0 (d .passes 3 refl q (omega arith)) in
       omega arith
 
   pub components-first : (c q : ℕ) → formOf (at c) ≡ 1 → q ≤ c → formOf (at q) ≡ 1
@@ -115,7 +115,7 @@ module _ (at : ℕ → Record) (n : ℕ) (d : Passed at n) where
   owner-before-upto (suc m) (suc b) h p e =
       let o = ownerOf (at (suc b)) in
       let five : (composite (at o) && (eqb o b || holds at b o b)) ≡ true =
-      not-false _ (rw e at (d .passes 5 (suc b) (component-below (suc b) e))) in
+      not-false _ (rw e at (d .passes 5 refl (suc b) (component-below (suc b) e))) in
       let held = and-right (composite (at o)) (eqb o b || holds at b o b) five in
       ⊎-elim (λ u. omega (arith, eqb-true o b u))
       (λ u. let w = holds-before b o b

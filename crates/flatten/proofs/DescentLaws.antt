@@ -1,11 +1,11 @@
 -- Laws of `outputBelow` and `inputsBelow` of specs/Descent.antt, one for each way out of a function of src/descent.rt.
 --   given at n d c i q    what the record at q gives to the targets of input i of composite c, with depth d left below it
--- First lists one after the other; then the source; then the targets as lists, for any function that goes down through input maps;
--- then the same, and whether a test holds of one of them, in the form in which the functions have their facts.
+-- First lists one after the other; then the source; then the targets as lists; then the same in the form in which the functions have
+-- their facts.
 -- Assumes nothing.
 use mathlib.Core.Path.{_≡_, refl, sym, ap, _∙_}
-use mathlib.Core.Bool.{Bool, true, false, cond, not, _&&_, _||_}
-use mathlib.Core.List.{List, [], _∷_, _++_, append-nil, map}
+use mathlib.Core.Bool.{Bool, true, false, cond, _&&_}
+use mathlib.Core.List.{List, [], _∷_, _++_, append-nil}
 use Prim.Native.Nat.{ℕ, zero, suc, _+_, _-_, _/_, _≤_, _<_}
 use native.Mathlib.Decide.{decLt}
 use native.Mathlib.Omega.{arith}
@@ -14,40 +14,30 @@ use lib.Dec.{eqb}
 use lib.ListN.{length}
 use types.Run.{OneOf}
 use denote.Enum.Declared.{tagOf}
-use Rattle.lists.specs.Lists.{from, any, joined}
+use Rattle.lists.specs.Lists.{from, joined}
 use Rattle.lists.proofs.ListsLaws.{from-step, from-end}
 use Rattle.lists.proofs.OverlayLaws.{joined-append}
-use Rattle.lists.proofs.MembersLaws.{any-append, any-map, from-append}
-use Rattle.primitive.specs.Kinds.{primitive, inputWidth, outputWidth}
+use Rattle.lists.proofs.MembersLaws.{from-append}
 use Rattle.component.specs.declared.ChildNo.{ChildNo}
 use Rattle.component.specs.declared.Record.{Record}
 use Rattle.component.specs.declared.Says.{Says}
 use Rattle.component.specs.declared.Says.the-variants.{Connection, InputMap, OutputMap}
 use Rattle.component.specs.declared.Reading.{Reading}
 use Rattle.component.specs.declared.Reading.the-variants.{Taken, Refused}
-use Rattle.component.specs.declared.Stands.{Stands}
-use Rattle.component.specs.declared.Stands.the-variants.{Component as SeenComponent, Nothing as NotSeen}
-use Rattle.primitive.specs.declared.Id.{Id}
-use Rattle.primitive.specs.declared.table.Fields.{Fields}
-use Rattle.component.specs.Record.{recordAt, portOf, fieldsOf, fromOf, outputOf, toOf, inputOf, isPrimitive}
-use Rattle.component.specs.Reading.{ownerOf, formOf, apart, said, formBy, StandsAs}
+use Rattle.component.specs.Record.{recordAt, portOf, fromOf, outputOf, toOf, inputOf, isPrimitive}
+use Rattle.component.specs.Reading.{ownerOf, formOf, apart, said, formBy}
 use Rattle.component.specs.Drawing.{deepest, child, mapsIn, outMap}
 use Rattle.component.specs.Index.{IsIndex, stretchFirst, stretchEnd}
 use Rattle.component.specs.Record.{ownedAs}
 use Rattle.component.proofs.Says.{the-type}
-use Rattle.component.proofs.RecordLaws.{no-connection, no-input-map, no-output-map, refused-is, taken-is, taken-form, unseen-test, unseen-primitive, seen-primitive, seen-is}
+use Rattle.component.proofs.RecordLaws.{no-input-map, no-output-map, refused-is, taken-is, taken-form}
 use Rattle.flatten.specs.declared.Pin.{Pin}
-use Rattle.flatten.specs.declared.Lead.{Lead}
 use Rattle.flatten.specs.declared.descent.Entered.{Entered}
 use Rattle.flatten.specs.declared.descent.Entered.the-variants.{To, Nothing}
-use Rattle.flatten.specs.Descent.{pin, outputBelow, inputsBelow, comesFrom, goesTo, wiresAt, fails15}
-use Rattle.flatten.specs.Searches.{entered, unlike, IsStretch}
+use Rattle.flatten.specs.Descent.{pin, outputBelow, inputsBelow, comesFrom, goesTo}
+use Rattle.flatten.specs.Searches.{entered, IsStretch}
 
 -- Lists one after the other.
-
-or-false : (a : Bool) → (a || false) ≡ a
-or-false true = refl
-or-false false = refl
 
 module _ {B : Type 0} (g : ℕ → List B) where
   -- Positions that give nothing.
@@ -249,120 +239,25 @@ module _ (s : List ℕ) (n : ℕ) where
         pub entered-to : (u : ℕ) → o ≡ c → a ≡ i → u ≡ child (recordAt s) n c (t .0) → To u d ≡ entered (recordAt s) n c i q
         entered-to u y g z = rw (z, at-map, eq-eqb o c y, eq-eqb a i g)
 
-  -- whether a test F holds of a target: no depth left; a primitive; a composite, or no component, whose input maps are to be followed
-  module _ (F : Pin → Bool) where
-    pub target-bottom : (d c i : ℕ) → d ≡ 0 → false ≡ any F (inputsBelow (recordAt s) n d c i)
-    target-bottom d c i h = ap (any F) (sym (targets-bottom (recordAt s) n d c i h))
+  -- a connection at p, and its ends
+  pub connection-at : (p : ℕ) (r : Reading) → said r ≡ recordAt s p → (o a b : ℕ) (f t : ChildNo) (x : Says) → r ≡ Taken o x
+      → x ≡ Connection f a t b → recordAt s p ≡ apart o (Connection f a t b)
+  connection-at p r e o a b f t x h k = taken-is (recordAt s p) r e o x h ∙ ap (apart o) k
 
-    module _ (d c i : ℕ) (h : d ≡ 0 → ⊥) (g : Stands) (e : StandsAs g (recordAt s c)) where
-      pub target-here : (o : ℕ) (k : Id) (f : Fields) (b : Bool) → g ≡ SeenComponent o k f → b ≡ primitive f → b ≡ true
-          → F (pin c i) ≡ any F (inputsBelow (recordAt s) n d c i)
-      target-here o k f b l p t =
-          sym (or-false (F (pin c i)))
-          ∙ ap (any F) (sym (targets-ends (recordAt s) n d c i h (sym (seen-primitive (recordAt s c) g e o k f b l p) ∙ t)))
-
-      module _ (a u : ℕ) (z : IsStretch (recordAt s) n c a u) where
-        starts : isPrimitive (recordAt s c) ≡ false
-            → any F (joined (given (recordAt s) n (d - 1) c i) (from a (u - a))) ≡ any F (inputsBelow (recordAt s) n d c i)
-        starts p = ap (any F) (sym (targets-stretch (recordAt s) n d c i a u h p z))
-
-        pub target-none : g ≡ NotSeen
-            → any F (joined (given (recordAt s) n (d - 1) c i) (from a (u - a))) ≡ any F (inputsBelow (recordAt s) n d c i)
-        target-none k = starts (sym (unseen-primitive (recordAt s c) g e k))
-
-        pub target-composite : (o : ℕ) (k : Id) (f : Fields) (b : Bool) → g ≡ SeenComponent o k f → b ≡ primitive f → b ≡ false
-            → any F (joined (given (recordAt s) n (d - 1) c i) (from a (u - a))) ≡ any F (inputsBelow (recordAt s) n d c i)
-        target-composite o k f b l p t = starts (sym (seen-primitive (recordAt s c) g e o k f b l p) ∙ t)
-
-    -- one turn: it holds of a target of the map at q; of none; the record leads nowhere; and the end
-    module _ (d c i q e : ℕ) (x : Bool) (inv : any F (joined (given (recordAt s) n d c i) (from q (e - q))) ≡ x) where
-      module _ (g : Entered) (t j : ℕ) (y : Bool) (l : q < e) (k : g ≡ To t j) (h : g ≡ entered (recordAt s) n c i q)
-          (ey : y ≡ any F (inputsBelow (recordAt s) n d t j)) where
-        turn : (y || any F (joined (given (recordAt s) n d c i) (from (q + 1) (e - (q + 1))))) ≡ x
-        turn =
-            let rest = joined (given (recordAt s) n d c i) (from (q + 1) (e - (q + 1))) in
-            ap (λ (b : Bool). b || any F rest) ey
-            ∙ sym (any-append F (inputsBelow (recordAt s) n d t j) rest)
-            ∙ ap (any F) (sym (given-to (recordAt s) n d c i q e t j l (sym k ∙ h)))
-            ∙ inv
-
-        pub target-found : y ≡ true → true ≡ x
-        target-found b = rw b at turn
-
-        pub target-next : y ≡ false → any F (joined (given (recordAt s) n d c i) (from (q + 1) (e - (q + 1)))) ≡ x
-        target-next b = rw b at turn
-
-      pub target-nothing : (g : Entered) → q < e → g ≡ Nothing → g ≡ entered (recordAt s) n c i q
-          → any F (joined (given (recordAt s) n d c i) (from (q + 1) (e - (q + 1)))) ≡ x
-      target-nothing g l k h = ap (any F) (sym (given-nothing (recordAt s) n d c i q e l (sym k ∙ h))) ∙ inv
-
-      pub target-end : e ≤ q → false ≡ x
-      target-end l = ap (any F) (sym (joined-end (given (recordAt s) n d c i) q e l)) ∙ inv
-
-  -- a primitive whose inputs have another width
-  pub differs-here : (c w o v : ℕ) (g : Stands) (k : Id) (f : Fields) → StandsAs g (recordAt s c) → g ≡ SeenComponent o k f
-      → v ≡ inputWidth f → not (eqb w v) ≡ not (eqb w (inputWidth (fieldsOf (recordAt s c))))
-  differs-here c w o v g k f e l ev =
-      ap (λ (x : ℕ). not (eqb w x))
-      (ev ∙ sym (ap (λ (r : Record). inputWidth (fieldsOf r)) (seen-is (recordAt s c) g e o k f l)))
-
-  -- 15: no connection; a connection
-  pub fails15-refused : (p : ℕ) (r : Reading) {z : ℕ} → said r ≡ recordAt s p → r ≡ Refused z → false ≡ fails15 (recordAt s) n p
-  fails15-refused p r e k = rw (refused-is (recordAt s p) r e k)
-
-  pub fails15-other : (p o : ℕ) (r : Reading) (x : Says) → said r ≡ recordAt s p → r ≡ Taken o x → OneOf (0 ∷ 2 ∷ 3 ∷ []) (tagOf the-type x)
-      → false ≡ fails15 (recordAt s) n p
-  fails15-other p o r x e h k =
-      rw (ne-eqb (formOf (recordAt s p)) 2 (λ z. no-connection x k (sym (taken-form (recordAt s p) r e o x h) ∙ z)))
-
-  module _ (p : ℕ) (r : Reading) (e : said r ≡ recordAt s p) (o a b : ℕ) (f t : ChildNo) (x : Says) (h : r ≡ Taken o x)
-      (k : x ≡ Connection f a t b) where
-    at-connection : apart o (Connection f a t b) ≡ recordAt s p
-    at-connection = sym (taken-is (recordAt s p) r e o x h ∙ ap (apart o) k)
-
+  module _ (p o a b : ℕ) (f t : ChildNo) (e : recordAt s p ≡ apart o (Connection f a t b)) where
     pub source-is : (m c : ℕ) (x : Pin) → m ≡ deepest → c ≡ child (recordAt s) n o (f .0) → x ≡ outputBelow (recordAt s) n m c a
         → x ≡ comesFrom (recordAt s) n p
     unfolding comesFrom
     source-is m c x em ec ex =
         ex ∙ ap (λ (j : ℕ). outputBelow (recordAt s) n j c a) em ∙ ap (λ (j : ℕ). outputBelow (recordAt s) n deepest j a) ec
-        ∙ ap (λ (y : Record). outputBelow (recordAt s) n deepest (child (recordAt s) n (ownerOf y) (fromOf y)) (outputOf y)) at-connection
+        ∙ ap (λ (y : Record). outputBelow (recordAt s) n deepest (child (recordAt s) n (ownerOf y) (fromOf y)) (outputOf y)) (sym e)
 
     pub targets-are : (m c : ℕ) → m ≡ deepest → c ≡ child (recordAt s) n o (t .0)
         → inputsBelow (recordAt s) n m c b ≡ goesTo (recordAt s) n p
     unfolding goesTo
     targets-are m c em ec =
         ap (λ (j : ℕ). inputsBelow (recordAt s) n j c b) em ∙ ap (λ (j : ℕ). inputsBelow (recordAt s) n deepest j b) ec
-        ∙ ap (λ (y : Record). inputsBelow (recordAt s) n deepest (child (recordAt s) n (ownerOf y) (toOf y)) (inputOf y)) at-connection
+        ∙ ap (λ (y : Record). inputsBelow (recordAt s) n deepest (child (recordAt s) n (ownerOf y) (toOf y)) (inputOf y)) (sym e)
 
     pub form-is : formOf (recordAt s p) ≡ 2
-    form-is = sym (ap formOf at-connection)
-
-    differing : Lead → Bool
-    differing w = not (eqb (outputWidth (fieldsOf (recordAt s (w .src .comp)))) (inputWidth (fieldsOf (recordAt s (w .dst .comp)))))
-
-    module _ (m c : ℕ) (out : Pin) (v : Stands) (ec : c ≡ child (recordAt s) n o (f .0)) (em : m ≡ deepest)
-        (ex : out ≡ outputBelow (recordAt s) n m c a) (ev : StandsAs v (recordAt s (out .comp))) where
-      source-at : recordAt s (out .comp) ≡ recordAt s (comesFrom (recordAt s) n p .comp)
-      source-at = ap (λ (u : Pin). recordAt s (u .comp)) (source-is m c out em ec ex)
-
-      pub fails15-none : v ≡ NotSeen → false ≡ fails15 (recordAt s) n p
-      fails15-none k =
-          let z : eqb (formOf (recordAt s (comesFrom (recordAt s) n p .comp))) 1 ≡ false =
-          ap (λ (r : Record). eqb (formOf r) 1) (sym source-at) ∙ unseen-test (recordAt s (out .comp)) v ev k in
-          rw (eq-eqb (formOf (recordAt s p)) 2 form-is, z)
-
-      pub fails15-connection : (l g w q : ℕ) (i : Id) (fs : Fields) (y : Bool) → v ≡ SeenComponent q i fs → w ≡ outputWidth fs
-          → g ≡ child (recordAt s) n o (t .0) → l ≡ deepest → y ≡ any (unlike (recordAt s) w) (inputsBelow (recordAt s) n l g b)
-          → y ≡ fails15 (recordAt s) n p
-      unfolding differing
-      fails15-connection l g w q i fs y k ew eg el ey =
-          let at-source = sym source-at ∙ seen-is (recordAt s (out .comp)) v ev q i fs k in
-          let z : eqb (formOf (recordAt s (comesFrom (recordAt s) n p .comp))) 1 ≡ true = ap (λ (r : Record). eqb (formOf r) 1) at-source in
-          let width : w ≡ outputWidth (fieldsOf (recordAt s (comesFrom (recordAt s) n p .comp))) =
-          ew ∙ sym (ap (λ (r : Record). outputWidth (fieldsOf r)) at-source) in
-          let there : fails15 (recordAt s) n p ≡ any differing (wiresAt (recordAt s) n p) =
-          rw (eq-eqb (formOf (recordAt s p)) 2 form-is, z) in
-          ey ∙ ap (λ (u : ℕ). any (unlike (recordAt s) u) (inputsBelow (recordAt s) n l g b)) width
-          ∙ ap (any (unlike (recordAt s) (outputWidth (fieldsOf (recordAt s (comesFrom (recordAt s) n p .comp)))))) (targets-are l g el eg)
-          ∙ sym (any-map differing (λ (u : Pin). record { src = comesFrom (recordAt s) n p; dst = u }) (goesTo (recordAt s) n p))
-          ∙ sym there
+    form-is = ap formOf e

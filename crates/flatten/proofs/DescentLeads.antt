@@ -140,13 +140,13 @@ module _ (at : ℕ → Record) (n : ℕ) (d : Passed at n) where
   outMap-there c i e h =
       let q = outMap at n c i in
       let fourteen : not (eqb (outputsOf (at c)) (length (outMaps at n c))) ≡ false =
-      rw e at (d .passes 14 c (component-below at n d c (composite-component (at c) e))) in
+      rw e at (d .passes 14 refl c (component-below at n d c (composite-component (at c) e))) in
       let many : outputsOf (at c) ≡ length (outMaps at n c) = eqb-true _ _ (not-false _ fourteen) in
       let place : In q (outMaps at n c) = in-getD (outMaps at n c) i n (omega arith) in
       let l : q < n =
       from0-sound n q (keep-sound (λ q. eqb (formOf (at q)) 4 && eqb (ownerOf (at q)) c) q (from 0 n) place .1) in
       let m = outMap-sound at n c i l in
-      let twelve : not (fromThere at n (at q)) ≡ false = rw (m .0) at (d .passes 12 q l) in
+      let twelve : not (fromThere at n (at q)) ≡ false = rw (m .0) at (d .passes 12 refl q l) in
       (l, rw (m .1) at (ltb-true (outputOf (at q)) _ (not-false (fromThere at n (at q)) twelve)))
 
   -- The source found is where the output comes from.

@@ -1,9 +1,10 @@
--- The ends of each wire of a drawing that passes every check: they are ports of primitives, they are there, and they
--- have the same width. docs/SPECIFICATION.md, "Flattening" and checks 12 and 15.
+-- The ends of each wire of a drawing that passes the checks before 15: they are ports of primitives, and they are there; and where check 15
+-- passes too, they have the same width. docs/SPECIFICATION.md, "Flattening" and checks 12 and 15.
 -- Assumes nothing.
-use mathlib.Core.Path.{_≡_}
+use mathlib.Core.Path.{_≡_, refl, sym, subst}
 use mathlib.Core.Bool.{Bool, true, false, not}
 use Prim.Native.Nat.{ℕ, _<_}
+use native.Mathlib.Nat.{zero-add}
 use borrow.Author.Tests.{eq-eqb, eqb-true, not-false}
 use lib.Dec.{eqb}
 use Rattle.lists.specs.Lists.{any}
@@ -11,16 +12,17 @@ use Rattle.lists.proofs.MembersLaws.{In, any-none, map-complete}
 use Rattle.primitive.specs.Kinds.{inputWidth, outputWidth}
 use Rattle.component.specs.declared.Record.{Record}
 use Rattle.component.specs.Record.{fieldsOf, toOf, inputOf, inputsOf, outputsOf, isPrimitive}
-use Rattle.component.specs.Drawing.{child}
+use Rattle.component.specs.Reading.{formOf}
+use Rattle.component.specs.Drawing.{deepest, child}
 use Rattle.flatten.specs.declared.Pin.{Pin}
 use Rattle.flatten.specs.declared.Lead.{Lead}
-use Rattle.flatten.specs.Descent.{comesFrom, goesTo, wiresAt, wires}
+use Rattle.flatten.specs.Descent.{comesFrom, goesTo, wiresAt, wires, fails15}
 use Rattle.flatten.specs.Leads.{From, starts, through, Into, ends, maps}
 use Rattle.flatten.proofs.Accepted.{Passed}
 use Rattle.flatten.proofs.Components.{primitive-component, output-component, component-composite}
-use Rattle.flatten.proofs.DescentLeads.{mapsIn-sound, outMap-there}
+use Rattle.flatten.proofs.DescentLeads.{mapsIn-sound, targets-sound, outMap-there, source-sound}
 use Rattle.flatten.proofs.EnteredOnce.{entry-there}
-use Rattle.flatten.proofs.Wires.{lead, Yielded, wires-sound, connection-ends, wires-lead}
+use Rattle.flatten.proofs.Wires.{lead, Yielded, wires-sound, connection-ends}
 
 -- An output of a primitive that there is, and an input of one.
 pub record IsOutput (at : ℕ → Record) (s : Pin) : Type 0 where
@@ -30,6 +32,11 @@ pub record IsOutput (at : ℕ → Record) (s : Pin) : Type 0 where
 pub record IsInput (at : ℕ → Record) (t : Pin) : Type 0 where
   pub of-primitive : isPrimitive (at (t .comp)) ≡ true
   pub there : t .port < inputsOf (at (t .comp))
+
+-- The ends of each wire have the same width.
+abbrev pub SameWidths : (ℕ → Record) → ℕ → Type 0
+SameWidths at n =
+    (w : Lead) → In w (wires at n) → outputWidth (fieldsOf (at (w .src .comp))) ≡ inputWidth (fieldsOf (at (w .dst .comp)))
 
 module _ (at : ℕ → Record) (n : ℕ) (d : Passed at n) where
   -- An output that is there comes from a primitive's output that is there.
@@ -45,22 +52,32 @@ module _ (at : ℕ → Record) (n : ℕ) (d : Passed at n) where
       let s = mapsIn-sound at n c i q m in
       into-there (child at n c (toOf (at q))) (inputOf (at q)) t (rw (s .1) at (entry-there at n d q l (rw (s .0)))) r
 
-  -- Each wire leaves an output of a primitive that is there,
+  -- A connection comes from a primitive's output that is there,
+  pub source-there : (p : ℕ) → p < n → formOf (at p) ≡ 2 → IsOutput at (comesFrom at n p)
+  unfolding comesFrom
+  source-there p l e =
+      let there = connection-ends at n d p l e .0 in
+      from-there _ _ (comesFrom at n p) there (source-sound at n d 0 deepest _ _ (zero-add deepest) refl there)
+
+  -- and goes to primitives' inputs that are there.
+  pub target-there : (p : ℕ) → p < n → formOf (at p) ≡ 2 → (t : Pin) → In t (goesTo at n p) → IsInput at t
+  unfolding goesTo
+  target-there p l e t h = into-there _ _ t (connection-ends at n d p l e .1) (targets-sound at n deepest _ _ t h)
+
+  -- So each wire leaves an output of a primitive that is there,
   pub wires-leave : (w : Lead) → In w (wires at n) → IsOutput at (w .src)
   wires-leave w h =
-      let r = wires-lead at n d w h in
-      from-there _ _ (w .src) (connection-ends at n d (r .by) (r .in-file) (r .connects) .0) (r .source-is)
+      let y = wires-sound at n w h in
+      subst (IsOutput at) (sym (y .source-is)) (source-there (y .by) (y .in-file) (y .connects))
 
   -- and enters an input of a primitive that is there.
   pub wires-enter : (w : Lead) → In w (wires at n) → IsInput at (w .dst)
   wires-enter w h =
-      let r = wires-lead at n d w h in
-      into-there _ _ (w .dst) (connection-ends at n d (r .by) (r .in-file) (r .connects) .1) (r .target-is)
+      let y = wires-sound at n w h in target-there (y .by) (y .in-file) (y .connects) (w .dst) (y .target-is)
 
-  -- The ends of each wire have the same width (check 15).
-  pub wires-width : (w : Lead) → In w (wires at n)
-      → outputWidth (fieldsOf (at (w .src .comp))) ≡ inputWidth (fieldsOf (at (w .dst .comp)))
-  wires-width w h = yielded-width (wires-sound at n w h)
+  -- The ends of each wire have the same width, where check 15 passes too.
+  pub wires-width : ((p : ℕ) → p < n → fails15 at n p ≡ false) → SameWidths at n
+  wires-width passes w h = yielded-width (wires-sound at n w h)
     where
       differs : Lead → Bool
       differs v = not (eqb (outputWidth (fieldsOf (at (v .src .comp)))) (inputWidth (fieldsOf (at (v .dst .comp)))))
@@ -69,9 +86,8 @@ module _ (at : ℕ → Record) (n : ℕ) (d : Passed at n) where
           → outputWidth (fieldsOf (at (w .src .comp))) ≡ inputWidth (fieldsOf (at (w .dst .comp)))
       yielded-width y =
           let p = y .by in
-          let leaves : isPrimitive (at (comesFrom at n p .comp)) ≡ true = rw (y .source-is) at (wires-leave w h .of-primitive) in
-          let made = eq-eqb _ 1 (primitive-component (at (comesFrom at n p .comp)) leaves) in
-          let fifteen : any differs (wiresAt at n p) ≡ false = rw (y .connects, made) at (d .passes 15 p (y .in-file)) in
+          let made = eq-eqb _ 1 (primitive-component (at (comesFrom at n p .comp)) (source-there p (y .in-file) (y .connects) .of-primitive)) in
+          let fifteen : any differs (wiresAt at n p) ≡ false = rw (y .connects, made) at (passes p (y .in-file)) in
           let yielded : In w (wiresAt at n p) =
           rw (y .source-is) (map-complete (lead (comesFrom at n p)) (w .dst) (goesTo at n p) (y .target-is)) in
           eqb-true _ _ (not-false _ (any-none differs w (wiresAt at n p) fifteen yielded))

@@ -1,4 +1,4 @@
--- No input is entered twice: the targets of all wires of a drawing that passes every check have no repeats.
+-- No input is entered twice: the targets of all wires of a drawing that passes the checks before 15 have no repeats.
 -- docs/SPECIFICATION.md, "Numbers given back", checks 12 and 13, and "Flattening".
 --   entry at n q       the input that record q enters
 --   start at q         the input that input map q starts at
@@ -62,10 +62,10 @@ module _ (at : ℕ → Record) (n : ℕ) (d : Passed at n) where
       (or-cases (eqb (formOf (at p)) 2) (eqb (formOf (at p)) 3) e))
     where
       by-connection : formOf (at p) ≡ 2 → toThere at n (at p) ≡ true
-      by-connection u = and-right (fromThere at n (at p)) (toThere at n (at p)) (not-false _ (rw u at (d .passes 12 p l)))
+      by-connection u = and-right (fromThere at n (at p)) (toThere at n (at p)) (not-false _ (rw u at (d .passes 12 refl p l)))
 
       by-map : formOf (at p) ≡ 3 → toThere at n (at p) ≡ true
-      by-map u = and-right (portThere at (at p)) (toThere at n (at p)) (not-false _ (rw u at (d .passes 12 p l)))
+      by-map u = and-right (portThere at (at p)) (toThere at n (at p)) (not-false _ (rw u at (d .passes 12 refl p l)))
 
   entry-component : (p : ℕ) → p < n → entering (at p) ≡ true → formOf (at (child at n (ownerOf (at p)) (toOf (at p)))) ≡ 1
   entry-component p l e = input-component (at (child at n (ownerOf (at p)) (toOf (at p)))) _ (entry-there p l e)
@@ -73,7 +73,7 @@ module _ (at : ℕ → Record) (n : ℕ) (d : Passed at n) where
   entry-earlier : (p q : ℕ) → p < q → q < n → entering (at p) ≡ true → entering (at q) ≡ true
       → ownerOf (at p) ≡ ownerOf (at q) → toOf (at p) ≡ toOf (at q) → inputOf (at p) ≡ inputOf (at q) → ⊥
   entry-earlier p q l m a b o t i =
-      let thirteen : any (λ z. enteringAs (at q) (at z)) (from 0 q) ≡ false = rw b at (d .passes 13 q m) in
+      let thirteen : any (λ z. enteringAs (at q) (at z)) (from 0 q) ≡ false = rw b at (d .passes 13 refl q m) in
       let same : enteringAs (at q) (at p) ≡ true = rw (a, eq-eqb _ _ o, eq-eqb _ _ t, eq-eqb _ _ i) in
       true≢false (sym same ∙ any-none (λ z. enteringAs (at q) (at z)) p (from 0 q) thirteen (from0-complete q p l))
 
@@ -194,6 +194,10 @@ module _ (at : ℕ → Record) (n : ℕ) (d : Passed at n) where
           distinct-joined (λ q. cond (mapsIn at c i q) (onward q) []) (from 0 n) (distinct-from 0 n)
           (λ q u. by-map each (mapsIn at c i q) q) apart
 
+  pub goesTo-distinct : (p : ℕ) → Distinct (goesTo at n p)
+  unfolding goesTo
+  goesTo-distinct p = targets-distinct deepest (child at n (ownerOf (at p)) (toOf (at p))) (inputOf (at p))
+
   -- No input is the target of two connections, or twice of one.
   pub targetsAt-distinct : Distinct (joined (targetsAt at n) (from 0 n))
   unfolding goesTo
@@ -201,7 +205,7 @@ module _ (at : ℕ → Record) (n : ℕ) (d : Passed at n) where
       distinct-joined (targetsAt at n) (from 0 n) (distinct-from 0 n) (λ p u. by-form (eqb (formOf (at p)) 2) p) apart
     where
       by-form : (b : Bool) (p : ℕ) → Distinct (cond b (goesTo at n p) [])
-      by-form true p = targets-distinct deepest (child at n (ownerOf (at p)) (toOf (at p))) (inputOf (at p))
+      by-form true p = goesTo-distinct p
       by-form false p = tt
 
       path : (p : ℕ) (t : Pin) → In t (goesTo at n p) → Under at n (entry at n p) t

@@ -3,15 +3,15 @@
 -- Assumes nothing.
 use mathlib.Core.Path.{_≡_, refl, sym, ap, _∙_}
 use mathlib.Core.Bool.{Bool, true, false, cond, not, _&&_, false≢true}
-use mathlib.Core.List.{List, [], _∷_, map}
+use mathlib.Core.List.{List, [], _∷_, _++_, map}
 use mathlib.Core.Option.{Option, none, some}
 use Prim.Native.Nat.{ℕ, zero, suc, _+_, _-_, _/_, _%_, _≤_, _<_}
 use native.Mathlib.Nat.{sub-zero}
 use native.Mathlib.Omega.{arith}
 use borrow.Author.Tests.{not-true, not-false, ltb-true, leb-true}
 use lib.Dec.{eqb, ltb, leb}
-use lib.ListN.{length, getD, drop}
-use lib.Seq.{drop-cons}
+use lib.ListN.{length, getD, take, drop, take-append-drop}
+use lib.Seq.{drop-cons, take-suc}
 use Rattle.lists.specs.Lists.{from, every, first}
 use Rattle.lists.proofs.ListsLaws.{and-left, and-right, first-here, first-next, first-none}
 use Rattle.primitive.specs.declared.answers.Refusal.{Refusal}
@@ -22,11 +22,8 @@ use Rattle.component.specs.Record.{recordAt}
 use Rattle.component.specs.Checks.{given, failsBy}
 use Rattle.component.proofs.ChecksLaws.{given-number, given-failed, given-passed}
 use Rattle.flatten.specs.Verdict.{Check, check, checks, refused, orLater, judged, sized, verdict, verdictGives, Judges}
-use Rattle.flatten.specs.Searches.{failsAt}
-
--- Past the list of checks.
-abbrev noCheck : Check
-noCheck = check 0 (λ p. false)
+use Rattle.flatten.specs.Searches.{failsAt, PassedBefore}
+use Rattle.flatten.proofs.Accepted.{refused-not, noCheck}
 
 -- What is found is one of the positions looked at.
 first-below : (f : ℕ → Bool) (q k p : ℕ) → first f (from q k) ≡ some p → p < q + k
@@ -79,46 +76,52 @@ later-refused : (k : ℕ) (x : Option ℕ) (v : Verdict) (r : Refusal) → orLat
 later-refused k (some p) v r e = e
 later-refused k none v r e = let z : _≡_ {A = ℕ} 0 1 = cc in absurd (omega arith)
 
-later-accepted : (k : ℕ) (x : Option ℕ) (v : Verdict) → orLater k x Accepted ≡ Accepted → orLater k x v ≡ v
-later-accepted k (some p) v e = let z : _≡_ {A = ℕ} 0 1 = cc in absurd (omega arith)
-later-accepted k none v e = refl
+-- Checks that accept leave the judgement to those behind them.
+judged-append : (n : ℕ) (xs ys : List Check) → judged n xs ≡ Accepted → judged n (xs ++ ys) ≡ judged n ys
+judged-append n [] ys e = refl
+judged-append n (x ∷ xs) ys e = by-found (judged-append n xs ys) (first (x .fails) (from 0 n)) e
+  where
+    by-found : (judged n xs ≡ Accepted → judged n (xs ++ ys) ≡ judged n ys) → (found : Option ℕ)
+        → orLater (x .number) found (judged n xs) ≡ Accepted → orLater (x .number) found (judged n (xs ++ ys)) ≡ judged n ys
+    by-found later (some q) e = absurd (refused-not (x .number) q e)
+    by-found later none e = later e
 
--- The loop over the checks, of which those from place k - 3 on are still to be made.
-module _ (s : List ℕ) (n k : ℕ) where
-  judged-step : 3 ≤ k → k < 16
-      → judged n (drop (k - 3) (checks (recordAt s) n))
-      ≡ orLater k (first (failsAt (recordAt s) n k) (from 0 n)) (judged n (drop (k + 1 - 3) (checks (recordAt s) n)))
+-- The loop over the checks, of which those before k have passed and those from place k - 3 on are still to be made.
+module _ (s : List ℕ) (n k : ℕ) (passed : PassedBefore (recordAt s) n k) where
+  abbrev all : List Check
+  all = checks (recordAt s) n
+
+  check-at : 3 ≤ k → k < 16 → getD all (k - 3) noCheck ≡ check k (failsAt (recordAt s) n k)
   unfolding failsAt failsBy
-  judged-step h l =
-      let y : suc (k - 3) ≡ k + 1 - 3 = omega arith in
-      let z : getD (checks (recordAt s) n) (k - 3) noCheck .number ≡ k =
-      let e = number-at (checks (recordAt s) n) 3 (k - 3) refl (omega arith) in omega arith in
-      let f : getD (checks (recordAt s) n) (k - 3) noCheck .fails ≡ failsAt (recordAt s) n k =
-      fails-at (failsAt (recordAt s) n) (checks (recordAt s) n) (k - 3) refl (omega arith) ∙ ap (failsAt (recordAt s) n) z in
-      ap (judged n) (drop-cons (checks (recordAt s) n) (k - 3) noCheck (omega arith))
-      ∙ ap (λ (g : ℕ → Bool). orLater (getD (checks (recordAt s) n) (k - 3) noCheck .number) (first g (from 0 n))
-      (judged n (drop (suc (k - 3)) (checks (recordAt s) n)))) f
-      ∙ ap (λ (m : ℕ). orLater m (first (failsAt (recordAt s) n k) (from 0 n)) (judged n (drop (suc (k - 3)) (checks (recordAt s) n)))) z
-      ∙ ap (λ (m : ℕ). orLater k (first (failsAt (recordAt s) n k) (from 0 n)) (judged n (drop m (checks (recordAt s) n)))) y
+  check-at h l =
+      let z : getD all (k - 3) noCheck .number ≡ k = let e = number-at all 3 (k - 3) refl (omega arith) in omega arith in
+      let f : getD all (k - 3) noCheck .fails ≡ failsAt (recordAt s) n k =
+      fails-at (failsAt (recordAt s) n) all (k - 3) refl (omega arith) ∙ ap (failsAt (recordAt s) n) z in
+      λ j. check (z j) (f j)
 
   -- a record fails check k; none does; all checks are made
-  module _ (g v : Verdict) (inv : judged n (drop (k - 3) (checks (recordAt s) n)) ≡ v) where
-    pub judged-here : (r : Refusal) → 3 ≤ k → k < 16 → g ≡ orLater k (first (failsAt (recordAt s) n k) (from 0 n)) Accepted
-        → g ≡ Refused r → Refused r ≡ v
-    judged-here r h l e d =
-        sym (later-refused k (first (failsAt (recordAt s) n k) (from 0 n)) (judged n (drop (k + 1 - 3) (checks (recordAt s) n))) r (sym e ∙ d))
-        ∙ sym (judged-step h l) ∙ inv
+  module _ (g : Verdict) (e : g ≡ orLater k (first (failsAt (recordAt s) n k) (from 0 n)) Accepted) where
+    pub judged-here : (r : Refusal) → 3 ≤ k → k < 16 → g ≡ Refused r → Refused r ≡ judged n (checks (recordAt s) n)
+    judged-here r h l d =
+        let later = drop (suc (k - 3)) all in
+        sym (later-refused k (first (failsAt (recordAt s) n k) (from 0 n)) (judged n later) r (sym e ∙ d))
+        ∙ ap (λ (c : Check). judged n (c ∷ later)) (sym (check-at h l))
+        ∙ ap (judged n) (sym (drop-cons all (k - 3) noCheck (omega arith)))
+        ∙ sym (judged-append n (take (k - 3) all) (drop (k - 3) all) passed)
+        ∙ ap (judged n) (take-append-drop (k - 3) all)
 
-    pub judged-next : 3 ≤ k → k < 16 → g ≡ orLater k (first (failsAt (recordAt s) n k) (from 0 n)) Accepted
-        → g ≡ Accepted → judged n (drop (k + 1 - 3) (checks (recordAt s) n)) ≡ v
-    judged-next h l e d =
-        sym (later-accepted k (first (failsAt (recordAt s) n k) (from 0 n)) (judged n (drop (k + 1 - 3) (checks (recordAt s) n))) (sym e ∙ d))
-        ∙ sym (judged-step h l) ∙ inv
+    pub passed-next : 3 ≤ k → k < 16 → g ≡ Accepted → PassedBefore (recordAt s) n (k + 1)
+    passed-next h l d =
+        let y : k + 1 - 3 ≡ suc (k - 3) = omega arith in
+        ap (λ (m : ℕ). judged n (take m all)) y
+        ∙ ap (judged n) (take-suc all (k - 3) noCheck (omega arith))
+        ∙ judged-append n (take (k - 3) all) (getD all (k - 3) noCheck ∷ []) passed
+        ∙ ap (λ (c : Check). judged n (c ∷ [])) (check-at h l) ∙ sym e ∙ d
 
-  pub judged-all : (v : Verdict) → judged n (drop (k - 3) (checks (recordAt s) n)) ≡ v → k ≤ 16 → 16 ≤ k → Accepted ≡ v
-  judged-all v inv h l =
-      let z : 13 ≡ k - 3 = omega arith in
-      ap (λ (m : ℕ). judged n (drop m (checks (recordAt s) n))) z ∙ inv
+  pub judged-all : k ≤ 16 → 16 ≤ k → Accepted ≡ judged n (checks (recordAt s) n)
+  judged-all h l =
+      let z : k - 3 ≡ 13 = omega arith in
+      sym (ap (λ (m : ℕ). judged n (take m (checks (recordAt s) n))) (sym z) ∙ passed)
 
 -- Check 1.
 module _ (s : List ℕ) (b : Bool) (e : b ≡ sized s) where

@@ -1,6 +1,7 @@
 pub mod DescentLaws
-pub mod JudgementLaws
+pub mod TargetsLaws
 pub mod Accepted
+pub mod JudgementLaws
 pub mod Components
 pub mod DescentLeads
 pub mod Wires
@@ -8,4 +9,6 @@ pub mod Primitives
 pub mod EnteredOnce
 pub mod Ends
 pub mod Bound
+pub mod ConnectionLaws
+pub mod WidthsLaws
 pub mod WireTheorems

@@ -148,7 +148,7 @@ module _ (at : ℕ → Record) (n : ℕ) (d : Passed at n) where
   ports-checked p h e =
       let inputs = ltb 1024 (inputsBefore at (suc p)) in
       let outputs = ltb 1024 (outputsBefore at (suc p)) in
-      let eleven : (inputs || outputs) ≡ false = rw e at (d .passes 11 p h) in
+      let eleven : (inputs || outputs) ≡ false = rw e at (d .passes 11 refl p h) in
       (ltb-false 1024 _ (or-left-false inputs outputs eleven), ltb-false 1024 _ (or-right-false inputs outputs eleven))
 
   -- All primitives together have at most 1,024 inputs and at most 1,024 outputs (check 11).
@@ -161,7 +161,7 @@ module _ (at : ℕ → Record) (n : ℕ) (d : Passed at n) where
   -- Each component obeys the table of kinds, and is of a kind that there is (check 9).
   pub component-obeys : (c : ℕ) → formOf (at c) ≡ 1 → obeys (fieldsOf (at c)) ≡ true
   component-obeys c e =
-      let nine : not (obeys (fieldsOf (at c))) ≡ false = and-right-false _ _ (d .passes 9 c (component-below at n d c e)) (eq-eqb (formOf (at c)) 1 e) in
+      let nine : not (obeys (fieldsOf (at c))) ≡ false = and-right-false _ _ (d .passes 9 refl c (component-below at n d c e)) (eq-eqb (formOf (at c)) 1 e) in
       not-false _ nine
 
   pub primitive-obeys : (c : ℕ) → isPrimitive (at c) ≡ true → obeys (fieldsOf (at c)) ≡ true
@@ -175,7 +175,7 @@ module _ (at : ℕ → Record) (n : ℕ) (d : Passed at n) where
   id-earlier : (b c : ℕ) → b < c → formOf (at b) ≡ 1 → formOf (at c) ≡ 1 → idOf (at b) ≡ idOf (at c) → ⊥
   id-earlier b c h f e s =
       let ten : any (λ q. hasId (idOf (at c)) (at q)) (from 0 c) ≡ false =
-      rw e at (d .passes 10 c (component-below at n d c e)) in
+      rw e at (d .passes 10 refl c (component-below at n d c e)) in
       eqb-false (idOf (at b)) (idOf (at c))
       (rw f at (any-none (λ q. hasId (idOf (at c)) (at q)) b (from 0 c) ten (from0-complete c b h))) s
 

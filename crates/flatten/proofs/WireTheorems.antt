@@ -8,7 +8,7 @@ use mathlib.Core.List.{List, map}
 use Prim.Native.Nat.{ℕ, _≤_, _<_}
 use lib.ListN.{length}
 use Rattle.lists.proofs.MembersLaws.{In, Distinct}
-use Rattle.primitive.specs.Kinds.{obeys, inputWidth, outputWidth}
+use Rattle.primitive.specs.Kinds.{obeys}
 use Rattle.component.specs.declared.Record.{Record}
 use Rattle.component.specs.declared.Verdict.the-variants.{Accepted}
 use Rattle.component.specs.Record.{recordAt, recordCount, fieldsOf, isPrimitive}
@@ -19,9 +19,9 @@ use Rattle.flatten.specs.declared.Lead.{Lead}
 use Rattle.flatten.specs.Descent.{wires, flat}
 use Rattle.flatten.specs.Leads.{Leads}
 use Rattle.flatten.specs.Verdict.{verdict}
-use Rattle.flatten.proofs.Accepted.{Passed, checkNumbered, accepted-passed}
+use Rattle.flatten.proofs.Accepted.{Passed, accepted-check, accepted-passed}
 use Rattle.flatten.proofs.Wires.{lead, wires-lead, leads-wires}
-use Rattle.flatten.proofs.Ends.{IsOutput, IsInput, wires-leave, wires-enter, wires-width}
+use Rattle.flatten.proofs.Ends.{IsOutput, IsInput, SameWidths, wires-leave, wires-enter, wires-width}
 use Rattle.flatten.proofs.Bound.{entered, wires-distinct, wires-bound}
 use Rattle.flatten.proofs.Primitives.{flat-below, flat-inj, primitives-bound, inputs-bound, outputs-bound}
 use Rattle.flatten.proofs.Primitives.{primitive-obeys, ids-distinct}
@@ -36,10 +36,6 @@ module _ (file : List ℕ) where
   module _ (accepted : verdict file ≡ Accepted) where
     passed : Passed at n
     passed = accepted-passed file accepted
-
-    -- No record p of the file fails the check numbered k, for any p and k.
-    pub accepted-check : (k p : ℕ) → p < n → checkNumbered at n k .fails p ≡ false
-    accepted-check = passed .passes
 
     -- From the source of each wire the drawing leads to its target.
     pub accepted-wires-lead : (w : Lead) → In w (wires at n) → Leads at n (w .src) (w .dst)
@@ -67,9 +63,8 @@ module _ (file : List ℕ) where
     accepted-wires-enter = wires-enter at n passed
 
     -- and the two have the same width.
-    pub accepted-wires-width : (w : Lead) → In w (wires at n)
-        → outputWidth (fieldsOf (at (w .src .comp))) ≡ inputWidth (fieldsOf (at (w .dst .comp)))
-    accepted-wires-width = wires-width at n passed
+    pub accepted-wires-width : SameWidths at n
+    accepted-wires-width = wires-width at n passed (accepted-check file accepted 15)
 
     -- The tables have room for all primitives, which are at most 256,
     pub accepted-primitives-bound : length (primitivesBefore at n) ≤ 256

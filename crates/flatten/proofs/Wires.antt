@@ -1,4 +1,4 @@
--- The wires of a drawing that passes every check are exactly what it leads to. docs/SPECIFICATION.md, "Flattening".
+-- The wires of a drawing that passes the checks before 15 are exactly what it leads to. docs/SPECIFICATION.md, "Flattening".
 -- Assumes nothing.
 use mathlib.Core.Path.{_≡_, refl, sym, ap, subst}
 use mathlib.Core.Bool.{true, cond, _&&_}
@@ -64,7 +64,7 @@ module _ (at : ℕ → Record) (n : ℕ) (d : Passed at n) where
       → (outputOf (at p) < outputsOf (at (child at n (ownerOf (at p)) (fromOf (at p)))))
       × (inputOf (at p) < inputsOf (at (child at n (ownerOf (at p)) (toOf (at p)))))
   connection-ends p l e =
-      let twelve : (fromThere at n (at p) && toThere at n (at p)) ≡ true = not-false _ (rw e at (d .passes 12 p l)) in (
+      let twelve : (fromThere at n (at p) && toThere at n (at p)) ≡ true = not-false _ (rw e at (d .passes 12 refl p l)) in (
         ltb-true _ _ (and-left (fromThere at n (at p)) (toThere at n (at p)) twelve),
         ltb-true _ _ (and-right (fromThere at n (at p)) (toThere at n (at p)) twelve),
       )

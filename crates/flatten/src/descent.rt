@@ -1,27 +1,25 @@
-// From a connection's ends down to primitives, and check 15. Rules: docs/SPECIFICATION.md, "Flattening" and "Numbers given back".
+// From a connection's ends down to primitives. Rule: docs/SPECIFICATION.md, "Flattening".
 // Source: flatten.rs, `reindex_connections`.
 ghost use mathlib.Core.Path.{_≡_};
-ghost use Rattle.lists.specs.Lists.{any};
+ghost use Prim.Native.Nat.{_+_, _≤_};
+ghost use lib.ListN.{length};
 ghost use Rattle.component.specs.Record.{recordAt, recordCount};
 ghost use Rattle.component.specs.Index.{IsIndex};
-ghost use Rattle.component.specs.Checks.{given};
-ghost use Rattle.flatten.specs.Descent.{outputBelow, inputsBelow, fails15};
-ghost use Rattle.flatten.specs.Searches.{entered, unlike};
+ghost use Rattle.flatten.specs.Descent.{outputBelow, inputsBelow};
+ghost use Rattle.flatten.specs.Searches.{entered};
+ghost use Rattle.flatten.specs.Targets.{targetPlace, Listed};
 use crate::Pin;
+use crate::targets::lay_target;
 use component::Reading;
 use component::Says;
-use component::Stands;
 use component::child_of;
-use component::component_at;
-use component::deepest;
-use component::given;
 use component::is_primitive_at;
 use component::out_map_of;
 use component::record_at;
 use component::stretch_of;
 
 // Where a record leads from an input of a composite: to an input of a child, if it is one of that input's maps, or nowhere.
-pub enum Entered {
+enum Entered {
     To(usize, u16),
     Nothing,
 }
@@ -49,8 +47,8 @@ pub fn source_of(file: &[u8], index: &[u16], depth: u8, c: usize, i: u16) -> Pin
     source_of(file, index, depth - 1, inner, output)
 }
 
-// Where the record at q leads, if it maps input i of composite c. Crates flatten and load call it, with the index filled.
-pub fn enter(file: &[u8], index: &[u16], c: usize, i: u16, q: usize) -> Entered
+// Where the record at q leads, if it maps input i of composite c.
+fn enter(file: &[u8], index: &[u16], c: usize, i: u16, q: usize) -> Entered
     requires { ⌜ IsIndex (now file) (now index) ⌝ }
     ensures { λ r. ⌜ r ≡ entered (recordAt (now (file .entry))) (recordCount (now (file .entry))) c i q ⌝ }
 {
@@ -69,57 +67,39 @@ pub fn enter(file: &[u8], index: &[u16], c: usize, i: u16, q: usize) -> Entered
     Entered::To(child_of(file, index, c, to), input)
 }
 
-// Whether input i of component c leads, through input maps and with the depth left, to an input of another width.
-fn differs(file: &[u8], index: &[u16], depth: u8, c: usize, i: u16, width: u64) -> bool
-    requires { ⌜ IsIndex (now file) (now index) ⌝ }
-    ensures { λ r. ⌜ r ≡ any (unlike (recordAt (now (file .entry))) width)
-        (inputsBelow (recordAt (now (file .entry))) (recordCount (now (file .entry))) depth c i) ⌝ }
+// Lists the primitive inputs that input i of component c leads to, through input maps and with the depth left: in map order, all that one
+// map reaches before the next, from entry `at` of the table on. The answer is the number of the next entry. Crates flatten and load call
+// it, with the index filled and room in the table.
+pub fn list_targets(
+    file: &[u8],
+    index: &[u16],
+    depth: u8,
+    c: usize,
+    i: u16,
+    targets: &mut [u16],
+    at: usize,
+) -> usize
+    requires { ⌜ IsIndex (now file) (now index) × (recordCount (now file) ≤ 1024) ⌝ }
+    requires { ⌜ targetPlace (at + length (inputsBelow (recordAt (now file)) (recordCount (now file)) depth c i)) ≤ length (now targets) ⌝ }
+    ensures { λ r. ⌜ Listed (now (targets .entry)) at (inputsBelow (recordAt (now (file .entry))) (recordCount (now (file .entry))) depth c i)
+        (now (targets .exit)) r ⌝ }
 {
     if depth == 0 {
-        return false;
+        return at;
     }
-    if let Stands::Component { fields, .. } = component_at(file, c) {
-        if primitive::is_primitive(fields) {
-            return width != primitive::input_width(fields);
-        }
+    if is_primitive_at(file, c) {
+        lay_target(targets, at, Pin { comp: c, port: i });
+        return at + 1;
     }
     let maps = stretch_of(index, file.len() / 24, c);
     let end = maps.end;
+    let mut next = at;
     let mut q = maps.first;
     while q < end {
-        if let Entered::To(to, input) = enter(file, index, c, i, q) {
-            if differs(file, index, depth - 1, to, input, width) {
-                return true;
-            }
+        if let Entered::To(inner, input) = enter(file, index, c, i, q) {
+            next = list_targets(file, index, depth - 1, inner, input, targets, next);
         }
         q += 1;
     }
-    false
-}
-
-// 15: a connection, whose source is there, yields a wire whose ends differ in width.
-pub(crate) fn check15(file: &[u8], index: &[u16], p: usize) -> u32
-    requires { ⌜ IsIndex (now file) (now index) ⌝ }
-    ensures { λ r. ⌜ r ≡ given 15 (fails15 (recordAt (now (file .entry))) (recordCount (now (file .entry))) p) ⌝ }
-{
-    let Reading::Taken { owner, says } = record_at(file, p) else {
-        return 0;
-    };
-    let Says::Connection {
-        from,
-        output,
-        to,
-        input,
-    } = says
-    else {
-        return 0;
-    };
-    let start = child_of(file, index, owner as usize, from);
-    let source = source_of(file, index, deepest(), start, output);
-    let Stands::Component { fields, .. } = component_at(file, source.comp) else {
-        return 0;
-    };
-    let width = primitive::output_width(fields);
-    let goal = child_of(file, index, owner as usize, to);
-    given(15, differs(file, index, deepest(), goal, input, width))
+    next
 }

@@ -1,6 +1,6 @@
 // The judgement of a file's bytes. Rule: docs/SPECIFICATION.md, "Numbers given back". Check 2 is not made: no table is lent.
 ghost use mathlib.Core.Path.{_≡_};
-ghost use Prim.Native.Nat.{_≤_};
+ghost use Prim.Native.Nat.{_≤_, _<_};
 ghost use lib.ListN.{length};
 ghost use mathlib.Core.Bool.{true};
 ghost use Rattle.lists.specs.Lists.{from, first};
@@ -9,16 +9,17 @@ ghost use Rattle.component.specs.Index.{IsIndex};
 ghost use Rattle.component.specs.Checks.{given};
 ghost use Rattle.component.specs.declared.Verdict.the-variants.{Accepted};
 ghost use Rattle.flatten.specs.Verdict.{checks, orLater, judged, sized, Judges};
-ghost use Rattle.flatten.specs.Searches.{failsAt};
-use crate::descent::check15;
+ghost use Rattle.flatten.specs.Searches.{failsAt, PassedBefore};
+use crate::widths::check15;
 use component::Verdict;
 use component::check;
 use component::fill_index;
 use primitive::Refusal;
 
-// What check k, of 3 to 15, gives of the record at p.
+// What check k, of 3 to 15, gives of the record at p, the checks before k having passed.
 fn check_record(file: &[u8], index: &[u16], k: u32, p: usize) -> u32
-    requires { ⌜ IsIndex (now file) (now index) ⌝ }
+    requires { ⌜ IsIndex (now file) (now index) × (recordCount (now file) ≤ 1024) × (p < recordCount (now file)) ⌝ }
+    requires { ⌜ PassedBefore (recordAt (now file)) (recordCount (now file)) k ⌝ }
     ensures { λ r. ⌜ r ≡ given k (failsAt (recordAt (now (file .entry))) (recordCount (now (file .entry))) k p) ⌝ }
 {
     if k == 15 {
@@ -27,10 +28,10 @@ fn check_record(file: &[u8], index: &[u16], k: u32, p: usize) -> u32
     check(file, index, k, p)
 }
 
-// Check k over all records: refused at the first, in file order, that fails it.
+// Check k over all records, the checks before k having passed: refused at the first record, in file order, that fails it.
 fn check_records(file: &[u8], index: &[u16], k: u32) -> Verdict
-    requires { ⌜ IsIndex (now file) (now index) ⌝ }
-    requires { ⌜ (3 ≤ k) × (recordCount (now file) ≤ 1024) ⌝ }
+    requires { ⌜ IsIndex (now file) (now index) × (recordCount (now file) ≤ 1024) ⌝ }
+    requires { ⌜ (3 ≤ k) × PassedBefore (recordAt (now file)) (recordCount (now file)) k ⌝ }
     ensures { λ r. ⌜ r ≡ orLater k (first (failsAt (recordAt (now (file .entry))) (recordCount (now (file .entry))) k)
         (from 0 (recordCount (now (file .entry))))) Accepted ⌝ }
 {

@@ -1,13 +1,15 @@
 // Flattening a drawing. Rules: docs/SPECIFICATION.md, "Flattening" and "Numbers given back". Source: flatten.rs.
 mod descent;
 mod judgement;
+mod targets;
+mod widths;
 
-pub use descent::Entered;
-pub use descent::enter;
+pub use descent::list_targets;
 pub use descent::source_of;
 pub use judgement::is_sized;
 pub use judgement::judge;
 pub use judgement::judge_indexed;
+pub use targets::target_at;
 
 // A port of a component of a drawing, by the component's number.
 pub struct Pin {

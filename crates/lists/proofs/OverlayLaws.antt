@@ -1,4 +1,5 @@
 -- Laws of tables that are written from the front and read by entries.
+--   sets: words written behind words, and from the front of a table
 --   overlay: what stands at the front, what is taken from it, and its length
 --   joined: entries of one width w, entry i at w * i; and entries of any width, each behind those before it
 --   slice: a part of a list by places
@@ -9,12 +10,26 @@ use mathlib.Core.Path.{_≡_, refl, sym, ap, _∙_}
 use mathlib.Core.Logic.{inl, inr}
 use mathlib.Core.List.{List, [], _∷_, _++_, map, append-assoc}
 use Prim.Native.Nat.{ℕ, zero, suc, _+_, _*_, _≤_, _<_}
-use native.Mathlib.Nat.{mul-zero, mul-suc}
+use native.Mathlib.Nat.{zero-add, mul-zero, mul-suc}
 use native.Mathlib.Omega.{arith}
-use lib.ListN.{length, getD, take, drop, replicate, length-append, length-drop, length-replicate, getD-replicate, List·getD-append}
-use lib.Seq.{slice, take-append-seam, getD-append-add, getD-take, getD-drop, drop-append-seam, take-append-add, length-slice, ext-getD}
+use lib.ListN.{length, getD, set, take, drop, replicate, length-append, length-drop, length-replicate, getD-replicate, List·getD-append}
+use lib.Seq.{sets, sets-eq, slice, take-append-seam, getD-append-add, getD-take, getD-drop, drop-append-seam, take-append-add, length-slice, ext-getD}
 use Rattle.lists.specs.Lists.{from, total, joined, overlay}
 use Rattle.lists.proofs.MembersLaws.{In}
+
+-- Words written behind words.
+pub sets-append : (t : List ℕ) (k : ℕ) (xs ys : List ℕ) → sets t k (xs ++ ys) ≡ sets (sets t k xs) (k + length xs) ys
+sets-append t k [] ys = let e : k ≡ k + 0 = omega arith in ap (λ (j : ℕ). sets t j ys) e
+sets-append t k (x ∷ xs) ys =
+    let e : suc k + length xs ≡ k + suc (length xs) = omega arith in
+    sets-append (set t k x) (suc k) xs ys ∙ ap (λ (j : ℕ). sets (sets (set t k x) (suc k) xs) j ys) e
+
+-- Words written from the front are laid over the table, if it is no shorter.
+pub sets-overlay : (xs t : List ℕ) → length xs ≤ length t → sets t 0 xs ≡ overlay xs t
+unfolding overlay
+sets-overlay xs t h =
+    let room : 0 + length xs ≤ length t = omega arith in
+    sets-eq xs t 0 room ∙ ap (λ (k : ℕ). xs ++ drop k t) (zero-add (length xs))
 
 -- A table with a list at its front.
 module _ (xs t : List ℕ) where

@@ -1,29 +1,21 @@
 -- Laws of tables that are written word by word, one record after the other.
---   sets: words written behind words, and from the front of a table
+--   sets: one word more
 --   joined: what the records give, one after the other, one record more
 --   Laid g p t u k    u is the table t with what the records before p give at its front, g q being what record q
 --                     gives; k is the place behind it
--- Not here: laws of overlay and of entries of one width (OverlayLaws).
+-- Not here: words behind words, laws of overlay and of entries of one width (OverlayLaws).
 -- Assumes nothing.
 use mathlib.Core.Path.{_≡_, refl, sym, ap, _∙_}
 use mathlib.Core.Bool.{Bool, true, false, cond}
 use mathlib.Core.List.{List, [], _∷_, _++_, append-nil}
 use Prim.Native.Nat.{ℕ, suc, _+_, _-_, _≤_, _<_}
-use native.Mathlib.Nat.{zero-add}
 use native.Mathlib.Numerals.{add-one}
 use native.Mathlib.Omega.{arith}
-use lib.ListN.{length, drop, set, replicate, length-append, length-replicate, replicate-append-replicate}
-use lib.Seq.{sets, sets-eq, length-sets}
+use lib.ListN.{length, set, replicate, length-append, length-replicate, replicate-append-replicate}
+use lib.Seq.{sets, length-sets}
 use Rattle.lists.specs.Lists.{from, keep, joined, overlay}
 use Rattle.lists.proofs.MembersLaws.{from-last, from-append, from-length}
-use Rattle.lists.proofs.OverlayLaws.{joined-append}
-
--- Words written behind words.
-pub sets-append : (t : List ℕ) (k : ℕ) (xs ys : List ℕ) → sets t k (xs ++ ys) ≡ sets (sets t k xs) (k + length xs) ys
-sets-append t k [] ys = let e : k ≡ k + 0 = omega arith in ap (λ (j : ℕ). sets t j ys) e
-sets-append t k (x ∷ xs) ys =
-    let e : suc k + length xs ≡ k + suc (length xs) = omega arith in
-    sets-append (set t k x) (suc k) xs ys ∙ ap (λ (j : ℕ). sets (sets (set t k x) (suc k) xs) j ys) e
+use Rattle.lists.proofs.OverlayLaws.{sets-append, sets-overlay, joined-append}
 
 -- One word more.
 pub sets-next : (t : List ℕ) (k : ℕ) (xs : List ℕ) (x : ℕ)
@@ -44,13 +36,6 @@ numbers-step t u i e =
     let many : i ≡ 0 + length (from 0 i) = omega (arith, from-length 0 i) in
     ap (λ (l : List ℕ). set l i i) e ∙ ap (λ (j : ℕ). set (sets t 0 (from 0 i)) j i) many
     ∙ sets-next t 0 (from 0 i) i ∙ ap (sets t 0) (sym (from-last i) ∙ ap (from 0) (sym (add-one i)))
-
--- Words written from the front are laid over the table, if it is no shorter.
-pub sets-overlay : (xs t : List ℕ) → length xs ≤ length t → sets t 0 xs ≡ overlay xs t
-unfolding overlay
-sets-overlay xs t h =
-    let room : 0 + length xs ≤ length t = omega arith in
-    sets-eq xs t 0 room ∙ ap (λ (k : ℕ). xs ++ drop k t) (zero-add (length xs))
 
 -- What the records give, one after the other: one record more; those before a record are the first of all.
 module _ (g : ℕ → List ℕ) where

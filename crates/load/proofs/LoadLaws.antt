@@ -10,6 +10,7 @@ use lib.ListN.{length, take, replicate, length-replicate}
 use lib.Seq.{sets}
 use Rattle.lists.specs.Lists.{from, joined, overlay}
 use Rattle.lists.proofs.MembersLaws.{from-length}
+use Rattle.lists.proofs.OverlayLaws.{sets-overlay}
 use Rattle.primitive.specs.declared.answers.Refusal.{Refusal}
 use Rattle.component.specs.declared.Verdict.{Verdict}
 use Rattle.component.specs.declared.Verdict.the-variants.{Accepted, Refused}
@@ -26,7 +27,6 @@ use Rattle.load.specs.declared.rows.Before.{Before}
 use Rattle.load.specs.Load.{primitives, primitiveWords, standingAtLoad, drawingTables, loadVerdict}
 use Rattle.load.specs.Load.{flatWires, loadTables, Loads}
 use Rattle.load.specs.Laying.{beforeAt, startingOf}
-use Rattle.load.proofs.LayingLaws.{sets-overlay}
 use Rattle.load.proofs.StandingLaws.{standing-bound}
 
 -- There is room for what the passes write.

@@ -1,169 +1,105 @@
--- Laws of the wires at load: those of one connection, written while its target goes down through the input maps, and
--- all of them.
---   led s n f ts    the words of the wires from the output f of the net to the inputs ts of the drawing
---   Leading         the invariant of the loop over input maps: what is written and what the maps to come give is what
---                   the input gives
--- Not here: laws of the source and the targets (DescentLaws of crate flatten).
+-- Laws of the wires at load: a wire to each target of a table, those of one record, and all of them.
+-- Not here: laws of the source and the targets (DescentLaws and ConnectionLaws of crate flatten).
 -- Assumes nothing.
 use mathlib.Core.Path.{_≡_, refl, sym, ap, _∙_, subst}
+use mathlib.Core.Logic.{inl, inr}
 use mathlib.Core.Bool.{Bool, true, false, cond}
 use mathlib.Core.List.{List, [], _∷_, _++_, map}
-use Prim.Native.Nat.{ℕ, _+_, _-_, _*_, _%_, _≤_, _<_}
-use native.Mathlib.Nat.{zero-add}
+use Prim.Native.Nat.{ℕ, _+_, _*_, _/_, _≤_, _<_}
+use native.Mathlib.Numerals.{add-one}
 use native.Mathlib.Omega.{arith}
 use borrow.Author.Tests.{eq-eqb, ne-eqb}
 use types.Run.{OneOf}
 use denote.Enum.Declared.{tagOf}
-use lib.ListN.{length, length-append}
+use lib.ListN.{length, length-map}
 use lib.Seq.{sets, length-sets}
 use lib.Dec.{eqb}
 use Rattle.lists.specs.Lists.{from, joined, overlay}
-use Rattle.lists.proofs.OverlayLaws.{joined-append, joined-width}
+use Rattle.lists.proofs.OverlayLaws.{sets-append, joined-append, joined-width}
+use Rattle.lists.proofs.MembersLaws.{In, map-append, map-complete, from-last, from-length, from0-complete}
 use Rattle.component.specs.declared.ChildNo.{ChildNo}
 use Rattle.component.specs.declared.Record.{Record}
 use Rattle.component.specs.declared.Says.{Says}
 use Rattle.component.specs.declared.Says.the-variants.{Connection}
 use Rattle.component.specs.declared.Reading.{Reading}
 use Rattle.component.specs.declared.Reading.the-variants.{Taken, Refused}
-use Rattle.component.specs.Reading.{said, formOf, ownerOf}
-use Rattle.component.specs.Record.{recordAt, recordCount, fromOf, outputOf, isPrimitive}
+use Rattle.component.specs.Reading.{said, formOf, apart}
+use Rattle.component.specs.Record.{recordAt, recordCount, isPrimitive}
 use Rattle.component.specs.Drawing.{deepest, child}
 use Rattle.component.proofs.Says.{the-type}
 use Rattle.component.proofs.RecordLaws.{no-connection, refused-is, taken-form}
 use Rattle.flatten.specs.declared.Pin.{Pin}
 use Rattle.flatten.specs.declared.Lead.{Lead}
-use Rattle.flatten.specs.declared.descent.Entered.{Entered}
-use Rattle.flatten.specs.declared.descent.Entered.the-variants.{To, Nothing}
-use Rattle.flatten.specs.Descent.{outputBelow, inputsBelow, comesFrom, goesTo, wiresAt, wires, flat}
-use Rattle.flatten.specs.Searches.{entered, IsStretch}
-use Rattle.flatten.proofs.DescentLaws.{given, targets-bottom, targets-ends, targets-stretch, given-to, given-nothing}
-use Rattle.flatten.proofs.DescentLaws.{joined-end, source-is, targets-are, form-is}
-use Rattle.flatten.proofs.Accepted.{Passed, accepted-passed}
+use Rattle.flatten.specs.Descent.{outputBelow, inputsBelow, comesFrom, goesTo, wiresAt, wires}
+use Rattle.flatten.specs.Targets.{targetPlace, targetIn, targetsIn, Listed}
+use Rattle.flatten.proofs.DescentLaws.{source-is, form-is}
+use Rattle.flatten.proofs.Accepted.{Passed, accepted-sized, accepted-passed}
+use Rattle.flatten.proofs.JudgementLaws.{sized-most}
 use Rattle.flatten.proofs.Components.{primitive-component, component-number}
-use Rattle.flatten.proofs.DescentLeads.{source-sound}
-use Rattle.flatten.proofs.Wires.{connection-ends}
-use Rattle.flatten.proofs.Ends.{from-there}
+use Rattle.flatten.proofs.Ends.{source-there, target-there}
+use Rattle.flatten.proofs.ConnectionLaws.{connection-read}
 use Rattle.tables.specs.declared.End.{End}
-use Rattle.tables.specs.Tables.{wireWords}
+use Rattle.tables.specs.Tables.{endAt, wireWords}
 use Rattle.tables.specs.Words.{wirePlace}
 use Rattle.load.specs.Load.{flatPin, flatWires}
-use Rattle.load.specs.Laying.{Written, Ready, leadWords, wiresGiven}
+use Rattle.load.specs.Laying.{Written, Ready, endBy, leadBy, leadWords, wiresGiven}
 use Rattle.load.proofs.FlatWires.{flatWire, flatWires-bound}
-use Rattle.load.proofs.LayingLaws.{sets-append, Laid, laid-room, laid-step, laid-end, laid-count}
+use Rattle.load.proofs.LayingLaws.{Laid, laid-room, laid-step, laid-end, laid-count}
 
-abbrev pub led : List ℕ → ℕ → End → List Pin → List ℕ
-led s n f ts = joined (leadWords (recordAt s) n f) ts
+-- Lists made of others.
+joined-map : {A B C : Type 0} (f : B → List C) (g : A → B) (xs : List A)
+    → joined f (map g xs) ≡ joined (λ a. f (g a)) xs
+joined-map f g [] = refl
+joined-map {C = C} f g (x ∷ xs) = ap (λ (l : List C). f (g x) ++ l) (joined-map f g xs)
 
-pub record Leading (s : List ℕ) (n d c i : ℕ) (f : End) (t : List ℕ) (k q e : ℕ) (u : List ℕ) (m : ℕ) : Type 0 where
-  pub size : length u ≡ length t
-  pub table : sets u m (led s n f (joined (given (recordAt s) n (d - 1) c i) (from q (e - q))))
-      ≡ sets t k (led s n f (inputsBelow (recordAt s) n d c i))
-  pub place : m + length (led s n f (joined (given (recordAt s) n (d - 1) c i) (from q (e - q))))
-      ≡ k + length (led s n f (inputsBelow (recordAt s) n d c i))
+joined-joined : {A B C : Type 0} (f : B → List C) (g : A → List B) (xs : List A)
+    → joined f (joined g xs) ≡ joined (λ a. joined f (g a)) xs
+joined-joined f g [] = refl
+joined-joined {C = C} f g (x ∷ xs) =
+    joined-append f (g x) (joined g xs) ∙ ap (λ (l : List C). joined f (g x) ++ l) (joined-joined f g xs)
 
-module _ (s : List ℕ) (n d c i : ℕ) (f : End) (t : List ℕ) (k : ℕ) where
-  -- No depth left.
-  pub lead-bottom : d ≡ 0 → Written t k (led s n f (inputsBelow (recordAt s) n d c i)) t k
-  lead-bottom h =
-      let e : led s n f (inputsBelow (recordAt s) n d c i) ≡ [] = ap (led s n f) (targets-bottom (recordAt s) n d c i h) in
-      record { table = ap (sets t k) (sym e); place = omega (arith, ap (λ (l : List ℕ). length l) e) }
+joined-members : {A B : Type 0} (f g : A → List B) (xs : List A) → ((x : A) → In x xs → f x ≡ g x) → joined f xs ≡ joined g xs
+joined-members f g [] h = refl
+joined-members f g (x ∷ xs) h = let here = h x (inl refl) in let later = joined-members f g xs (λ y u. h y (inr u)) in λ j. here j ++ later j
 
-  module _ (b : Bool) (h : d ≡ 0 → ⊥) (eb : b ≡ isPrimitive (recordAt s c)) where
-    -- A primitive: one wire.
-    module _ (p : b ≡ true) where
-      led-here : led s n f (inputsBelow (recordAt s) n d c i) ≡ f .comp .0 ∷ f .port ∷ flat (recordAt s) n c ∷ i ∷ []
-      led-here = ap (led s n f) (targets-ends (recordAt s) n d c i h (sym eb ∙ p))
+-- A wire from the output f to each of the first j targets of a table ts, laid in the table t from wire k on, fs being the flat indexes.
+module _ (fs : List ℕ) (f : End) (ts t : List ℕ) (k : ℕ) where
+  abbrev leads : ℕ → List ℕ
+  leads j = joined (leadBy fs f) (targetsIn ts j)
 
-      pub lead-room : k + length (led s n f (inputsBelow (recordAt s) n d c i)) ≤ length t → k + 4 ≤ length t
-      lead-room room = omega (arith, ap (λ (l : List ℕ). length l) led-here)
+  leads-length : (j : ℕ) → length (leads j) ≡ wirePlace j
+  leads-length j =
+      joined-width (leadBy fs f) 4 (λ x. refl) (targetsIn ts j)
+      ∙ ap (λ (m : ℕ). 4 * m) (length-map (from 0 j) (targetIn ts) ∙ from-length 0 j)
 
-      pub lead-here : (u : List ℕ) (x : End) → x ≡ flatPin (recordAt s) n (record { comp = c; port = i })
-          → u ≡ sets t k (wireWords (record { src = f; dst = x }))
-          → (m : ℕ) → m ≡ k + 4 → Written t k (led s n f (inputsBelow (recordAt s) n d c i)) u m
-      lead-here u x ex eu m em =
-          record {
-            table =
-                eu ∙ ap (λ (y : End). sets t k (wireWords (record { src = f; dst = y }))) ex
-                ∙ ap (sets t k) (sym led-here);
-            place = omega (arith, ap (λ (l : List ℕ). length l) led-here);
-          }
+  leads-snoc : (j : ℕ) → leads (j + 1) ≡ leads j ++ leadBy fs f (targetIn ts j)
+  leads-snoc j =
+      ap (λ (m : ℕ). leads m) (add-one j)
+      ∙ ap (λ (l : List ℕ). joined (leadBy fs f) (map (targetIn ts) l)) (from-last j)
+      ∙ ap (joined (leadBy fs f)) (map-append (targetIn ts) (from 0 j) (j ∷ []))
+      ∙ joined-append (leadBy fs f) (targetsIn ts j) (targetIn ts j ∷ [])
 
-    -- A composite: the loop over its input maps starts.
-    pub leading-start : (a e : ℕ) → b ≡ false → IsStretch (recordAt s) n c a e → Leading s n d c i f t k a e t k
-    leading-start a e p z =
-        let y = targets-stretch (recordAt s) n d c i a e h (sym eb ∙ p) z in
+  pub leads-start : Written t (wirePlace k) (leads 0) t (wirePlace (k + 0))
+  leads-start = record { table = refl; place = omega arith }
+
+  module _ (j : ℕ) (u : List ℕ) (h : Written t (wirePlace k) (leads j) u (wirePlace (k + j))) where
+    pub leads-size : length u ≡ length t
+    leads-size = ap (λ (l : List ℕ). length l) (h .table) ∙ length-sets t (wirePlace k) (leads j)
+
+    pub leads-step : (v : List ℕ) (x : Pin) → x ≡ targetIn ts j → v ≡ sets u (wirePlace (k + j)) (leadBy fs f x)
+        → Written t (wirePlace k) (leads (j + 1)) v (wirePlace (k + (j + 1)))
+    leads-step v x ex ev =
         record {
-          size = refl;
-          table = ap (λ (ts : List Pin). sets t k (led s n f ts)) (sym y);
-          place = ap (λ (ts : List Pin). k + length (led s n f ts)) (sym y);
+          table =
+              ev ∙ ap (λ (y : Pin). sets u (wirePlace (k + j)) (leadBy fs f y)) ex
+              ∙ (λ i. sets (h .table i) (h .place i) (leadBy fs f (targetIn ts j)))
+              ∙ sym (sets-append t (wirePlace k) (leads j) (leadBy fs f (targetIn ts j)))
+              ∙ ap (sets t (wirePlace k)) (sym (leads-snoc j));
+          place = omega (arith, leads-length (j + 1));
         }
 
-  -- One turn: the map at q leads on; it leads nowhere; and the end.
-  module _ (q e : ℕ) (u : List ℕ) (m : ℕ) (inv : Leading s n d c i f t k q e u m) where
-    module _ (g : Entered) (x j : ℕ) (l : q < e) (eg : g ≡ To x j) (h : g ≡ entered (recordAt s) n c i q) where
-      rest : List ℕ
-      rest = led s n f (joined (given (recordAt s) n (d - 1) c i) (from (q + 1) (e - (q + 1))))
-
-      now-led : List ℕ
-      now-led = led s n f (inputsBelow (recordAt s) n (d - 1) x j)
-
-      led-on : led s n f (joined (given (recordAt s) n (d - 1) c i) (from q (e - q))) ≡ now-led ++ rest
-      unfolding rest now-led
-      led-on =
-          ap (led s n f) (given-to (recordAt s) n (d - 1) c i q e x j l (sym eg ∙ h))
-          ∙ joined-append (leadWords (recordAt s) n f) (inputsBelow (recordAt s) n (d - 1) x j)
-          (joined (given (recordAt s) n (d - 1) c i) (from (q + 1) (e - (q + 1))))
-
-      pub leading-room : k + length (led s n f (inputsBelow (recordAt s) n d c i)) ≤ length t
-          → m + length (led s n f (inputsBelow (recordAt s) n (d - 1) x j)) ≤ length u
-      unfolding now-led
-      leading-room room =
-          omega (arith, inv .size, inv .place, ap (λ (y : List ℕ). length y) led-on, length-append now-led rest)
-
-      pub leading-to : (v : List ℕ) (w : ℕ) → Written u m (led s n f (inputsBelow (recordAt s) n (d - 1) x j)) v w
-          → Leading s n d c i f t k (q + 1) e v w
-      unfolding rest now-led
-      leading-to v w y =
-          record {
-            size = ap (λ (z : List ℕ). length z) (y .table) ∙ length-sets u m now-led ∙ inv .size;
-            table =
-                (λ j. sets (y .table j) (y .place j) rest) ∙ sym (sets-append u m now-led rest)
-                ∙ ap (sets u m) (sym led-on) ∙ inv .table;
-            place =
-                omega (
-                  arith,
-                  y .place,
-                  inv .place,
-                  ap (λ (z : List ℕ). length z) led-on,
-                  length-append now-led rest,
-                );
-          }
-
-    pub leading-nothing : (g : Entered) → q < e → g ≡ Nothing → g ≡ entered (recordAt s) n c i q
-        → Leading s n d c i f t k (q + 1) e u m
-    leading-nothing g l eg h =
-        let y = given-nothing (recordAt s) n (d - 1) c i q e l (sym eg ∙ h) in
-        record {
-          size = inv .size;
-          table = ap (λ (ts : List Pin). sets u m (led s n f ts)) (sym y) ∙ inv .table;
-          place = ap (λ (ts : List Pin). m + length (led s n f ts)) (sym y) ∙ inv .place;
-        }
-
-    pub leading-end : e ≤ q → Written t k (led s n f (inputsBelow (recordAt s) n d c i)) u m
-    leading-end l =
-        let y : led s n f (joined (given (recordAt s) n (d - 1) c i) (from q (e - q))) ≡ [] =
-        ap (led s n f) (joined-end (given (recordAt s) n (d - 1) c i) q e l) in
-        record {
-          table = ap (sets u m) (sym y) ∙ inv .table;
-          place = omega (arith, inv .place, ap (λ (z : List ℕ). length z) y);
-        }
-
--- A primitive of an accepted file has a number below 256.
-pub primitive-number : (s : List ℕ) (c : ℕ) (ix fs : List ℕ) (b : Bool) → Ready s ix fs
-    → b ≡ isPrimitive (recordAt s c) → b ≡ true → c < 256
-primitive-number s c ix fs b h eb p =
-    component-number (recordAt s) _ (accepted-passed s (h .accepted)) c
-    (primitive-component (recordAt s c) (sym eb ∙ p))
+    pub leads-end : (m : ℕ) → j ≡ m → Written t (wirePlace k) (leads m) u (wirePlace (k + m))
+    leads-end m e = subst (λ (i : ℕ). Written t (wirePlace k) (leads i) u (wirePlace (k + i))) e h
 
 -- The wires of the record at p: it is refused; no connection; a connection.
 module _ (s : List ℕ) (n : ℕ) where
@@ -181,56 +117,70 @@ module _ (s : List ℕ) (n : ℕ) where
   connect-other p o r x t k e h y =
       unwired p t k (λ z. no-connection x y (sym (taken-form (recordAt s p) r e o x h) ∙ z))
 
-  module _ (p : ℕ) (v : Reading) (e : said v ≡ recordAt s p) (w a b : ℕ) (f g : ChildNo) (r : Says) (h : v ≡ Taken w r)
-      (y : r ≡ Connection f a g b) where
-    module _ (m c : ℕ) (x : Pin) (em : m ≡ deepest) (ec : c ≡ child (recordAt s) n w (f .0))
-        (ex : x ≡ outputBelow (recordAt s) n m c a) where
-      from-source : x ≡ comesFrom (recordAt s) n p
-      from-source = source-is s n p v e w a b f g r h y m c x em ec ex
+-- An accepted file has at most 1,024 records.
+pub ready-most : (s ix fs : List ℕ) → Ready s ix fs → length s / 24 ≤ 1024
+ready-most s ix fs h = sized-most s true (sym (accepted-sized s (h .accepted))) refl
 
-      -- The source is a primitive's, and its number is below 256.
-      pub source-number : (ix fs : List ℕ) → Ready s ix fs → n ≡ recordCount s → p < n → x .comp < 256
-      unfolding comesFrom
-      source-number ix fs ready count l =
-          let d = subst (Passed (recordAt s)) (sym count) (accepted-passed s (ready .accepted)) in
-          let there = connection-ends (recordAt s) n d p l (form-is s n p v e w a b f g r h y) .0 in
-          let comes = source-sound (recordAt s) n d 0 deepest
-          (child (recordAt s) n (ownerOf (recordAt s p)) (fromOf (recordAt s p)))
-          (outputOf (recordAt s p)) (zero-add deepest) refl there in
-          rw from-source
-          (component-number (recordAt s) n d (comesFrom (recordAt s) n p .comp)
-          (primitive-component (recordAt s (comesFrom (recordAt s) n p .comp))
-          (from-there (recordAt s) n d _ _ _ there comes .of-primitive)))
+-- Record p of an accepted file is a connection.
+module _ (s ix fs : List ℕ) (ready : Ready s ix fs) (p : ℕ) (l : p < length s / 24) (o a b : ℕ) (f g : ChildNo)
+    (e : recordAt s p ≡ apart o (Connection f a g b)) where
+  abbrev count : ℕ
+  count = length s / 24
 
-      module _ (l q : ℕ) (i : End) (el : l ≡ deepest) (eq : q ≡ child (recordAt s) n w (g .0))
-          (ei : i ≡ flatPin (recordAt s) n x) where
-        pub wires-are : led s n i (inputsBelow (recordAt s) n l q b) ≡ wiresGiven (recordAt s) n p
+  passed : Passed (recordAt s) count
+  passed = accepted-passed s (ready .accepted)
+
+  connects : formOf (recordAt s p) ≡ 2
+  connects = form-is s count p o a b f g e
+
+  primitive-number : (c : ℕ) → isPrimitive (recordAt s c) ≡ true → c < 256
+  primitive-number c h = component-number (recordAt s) count passed c (primitive-component (recordAt s c) h)
+
+  flat-end : (t : Pin) → t .comp < 256 → endBy fs t ≡ flatPin (recordAt s) count t
+  flat-end t h = ap (λ (c : ℕ). endAt c (t .port)) (ready .indexes .word (t .comp) h)
+
+  -- Its source is a primitive's, and has a number below 256.
+  module _ (m c : ℕ) (x : Pin) (em : m ≡ deepest) (ec : c ≡ child (recordAt s) count o (f .0))
+      (ex : x ≡ outputBelow (recordAt s) count m c a) where
+    from-source : x ≡ comesFrom (recordAt s) count p
+    from-source = source-is s count p o a b f g e m c x em ec ex
+
+    pub source-number : x .comp < 256
+    source-number = rw from-source (primitive-number _ (source-there (recordAt s) count passed p l connects .of-primitive))
+
+    -- So has each target of a table us in which they are listed; and the wires to them are those of the record.
+    module _ (j q : ℕ) (ej : j ≡ deepest) (eq : q ≡ child (recordAt s) count o (g .0)) (ts us : List ℕ) (r : ℕ)
+        (listed : Listed ts 0 (inputsBelow (recordAt s) count j q b) us r) (full : length ts ≡ targetPlace 1024) where
+      read : targetsIn us r ≡ goesTo (recordAt s) count p
+      read = connection-read s count passed p l o a b f g e j q ej eq ts us r listed full
+
+      target-number : (t : Pin) → In t (goesTo (recordAt s) count p) → t .comp < 256
+      target-number t h = primitive-number (t .comp) (target-there (recordAt s) count passed p l connects t h .of-primitive)
+
+      pub targets-small : (k : ℕ) → k < r → targetIn us k .comp < 256
+      targets-small k h =
+          target-number (targetIn us k)
+          (subst (λ (ts : List Pin). In (targetIn us k) ts) read (map-complete (targetIn us) k (from 0 r) (from0-complete r k h)))
+
+      module _ (i : End) (ei : i ≡ endBy fs x) where
+        wires-are : joined (leadBy fs i) (targetsIn us r) ≡ wiresGiven (recordAt s) count p
         wires-are =
-            ap (led s n i) (targets-are s n p v e w a b f g r h y l q el eq)
-            ∙ ap (λ (z : End). led s n z (goesTo (recordAt s) n p)) (ei ∙ ap (flatPin (recordAt s) n) from-source)
+            ap (joined (leadBy fs i)) read
+            ∙ joined-members (leadBy fs i) (leadWords (recordAt s) count i) (goesTo (recordAt s) count p)
+            (λ t h. ap (λ (y : End). wireWords (record { src = i; dst = y })) (flat-end t (target-number t h)))
+            ∙ ap (λ (y : End). joined (leadWords (recordAt s) count y) (goesTo (recordAt s) count p))
+            (ei ∙ flat-end x source-number ∙ ap (flatPin (recordAt s) count) from-source)
             ∙ ap (λ (z : Bool). cond z
-            (led s n (flatPin (recordAt s) n (comesFrom (recordAt s) n p)) (goesTo (recordAt s) n p)) [])
-            (sym (eq-eqb (formOf (recordAt s p)) 2 (form-is s n p v e w a b f g r h y)))
+            (joined (leadWords (recordAt s) count (flatPin (recordAt s) count (comesFrom (recordAt s) count p))) (goesTo (recordAt s) count p)) [])
+            (sym (eq-eqb (formOf (recordAt s p)) 2 connects))
 
-        pub connect-room : (t : List ℕ) (k : ℕ) → k + length (wiresGiven (recordAt s) n p) ≤ length t
-            → k + length (led s n i (inputsBelow (recordAt s) n l q b)) ≤ length t
-        connect-room t k room = omega (arith, ap (λ (z : List ℕ). length z) wires-are)
+        pub connect-room : (t : List ℕ) (k : ℕ) → wirePlace k + length (wiresGiven (recordAt s) count p) ≤ length t
+            → wirePlace (k + r) ≤ length t
+        connect-room t k room = omega (arith, ap (λ (z : List ℕ). length z) wires-are, leads-length fs i us t k r)
 
-        pub connect-written : (t u : List ℕ) (k v : ℕ) → Written t k (led s n i (inputsBelow (recordAt s) n l q b)) u v
-            → Written t k (wiresGiven (recordAt s) n p) u v
+        pub connect-written : (t u : List ℕ) (k v : ℕ) → Written t k (joined (leadBy fs i) (targetsIn us r)) u v
+            → Written t k (wiresGiven (recordAt s) count p) u v
         connect-written t u k v h = subst (λ (z : List ℕ). Written t k z u v) wires-are h
-
--- Lists made of others.
-joined-map : {A B C : Type 0} (f : B → List C) (g : A → B) (xs : List A)
-    → joined f (map g xs) ≡ joined (λ a. f (g a)) xs
-joined-map f g [] = refl
-joined-map {C = C} f g (x ∷ xs) = ap (λ (l : List C). f (g x) ++ l) (joined-map f g xs)
-
-joined-joined : {A B C : Type 0} (f : B → List C) (g : A → List B) (xs : List A)
-    → joined f (joined g xs) ≡ joined (λ a. joined f (g a)) xs
-joined-joined f g [] = refl
-joined-joined {C = C} f g (x ∷ xs) =
-    joined-append f (g x) (joined g xs) ∙ ap (λ (l : List C). joined f (g x) ++ l) (joined-joined f g xs)
 
 -- The words of all wires, record by record.
 module _ (at : ℕ → Record) (n : ℕ) where

@@ -22,15 +22,14 @@ use Rattle.component.specs.Drawing.{primitivesBefore, inputsBefore, outputsBefo
 use Rattle.component.specs.Index.{IsIndex}
 use Rattle.component.specs.declared.Verdict.the-variants.{Accepted}
 use Rattle.flatten.specs.declared.Pin.{Pin}
-use Rattle.flatten.specs.Descent.{inputsBelow, comesFrom, goesTo, flat}
+use Rattle.flatten.specs.Descent.{comesFrom, goesTo, flat}
 use Rattle.flatten.specs.Verdict.{verdict}
 use Rattle.tables.specs.declared.End.{End}
-use Rattle.tables.specs.Tables.{componentWords, wireWords}
+use Rattle.tables.specs.Tables.{componentWords, endAt, wireWords}
 use Rattle.load.specs.declared.names.Stood.{Stood}
 use Rattle.load.specs.declared.rows.Drawn.{Drawn}
 use Rattle.load.specs.declared.rows.Drawn.the-variants.{Primitive, Other}
 use Rattle.load.specs.declared.rows.Before.{Before}
-use Rattle.load.specs.declared.wires.Goal.{Goal}
 use Rattle.load.specs.Load.{flatPin}
 
 pub record Written (t : List ℕ) (k : ℕ) (xs : List ℕ) (u : List ℕ) (m : ℕ) : Type 0 where
@@ -77,6 +76,13 @@ startingOf at p = starting (fieldsOf (at p))
 abbrev pub outputsLaid : (ℕ → Record) → ℕ → List ℕ
 outputsLaid at p = outputsBy (seen (at p))
 
+-- A port of the drawing as a table of flat indexes has it, and the words of a wire to it from the output f of the net.
+abbrev pub endBy : List ℕ → Pin → End
+endBy fs t = endAt (getD fs (t .comp) 0) (t .port)
+
+abbrev pub leadBy : List ℕ → End → Pin → List ℕ
+leadBy fs f t = wireWords (record { src = f; dst = endBy fs t })
+
 module _ (at : ℕ → Record) (n : ℕ) where
   abbrev pub beforeAt : ℕ → Before
   beforeAt p =
@@ -95,9 +101,6 @@ module _ (at : ℕ → Record) (n : ℕ) where
   -- The words of a wire from the output f of the net to the input t of the drawing.
   abbrev pub leadWords : End → Pin → List ℕ
   leadWords f t = wireWords (record { src = f; dst = flatPin at n t })
-
-  abbrev pub reached : Goal → List Pin
-  reached g = inputsBelow at n (g .depth) (g .comp) (g .port)
 
   abbrev pub wiresGiven : ℕ → List ℕ
   wiresGiven p =

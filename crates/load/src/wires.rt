@@ -3,14 +3,15 @@
 ghost use mathlib.Core.Path.{_≡_};
 ghost use Prim.Native.Nat.{ℕ, _+_, _≤_, _<_};
 ghost use lib.ListN.{length};
+ghost use lib.Seq.{sets};
 ghost use Rattle.lists.specs.Lists.{joined, overlay};
-ghost use Rattle.component.specs.declared.Record.{Record};
 ghost use Rattle.component.specs.Record.{recordAt, recordCount};
 ghost use Rattle.component.specs.Index.{IsIndex};
 ghost use Rattle.component.specs.declared.Verdict.the-variants.{Accepted};
 ghost use Rattle.flatten.specs.Verdict.{verdict};
-ghost use Rattle.load.specs.Load.{flatPin, flatWires};
-ghost use Rattle.load.specs.Laying.{Written, IsFlat, Ready, leadWords, reached, wiresGiven};
+ghost use Rattle.flatten.specs.Targets.{targetPlace, targetIn, targetsIn};
+ghost use Rattle.load.specs.Load.{flatWires};
+ghost use Rattle.load.specs.Laying.{Written, Ready, endBy, leadBy, wiresGiven};
 ghost use Rattle.tables.specs.Tables.{wireWords};
 ghost use Rattle.tables.specs.Words.{wirePlace};
 use crate::names::index_flat;
@@ -18,74 +19,57 @@ use component::Reading;
 use component::Says;
 use component::child_of;
 use component::deepest;
-use component::is_primitive_at;
 use component::record_at;
-use component::stretch_of;
-use flatten::Entered;
-use flatten::enter;
+use flatten::Pin;
+use flatten::list_targets;
 use flatten::source_of;
+use flatten::target_at;
 use tables::End;
 use tables::FlatIdx;
 use tables::Wire;
 
-// An input of a component, to be led to with the depth left.
-struct Goal {
-    comp: usize,
-    port: u16,
-    depth: u8,
-}
-
 // A port of a component of the drawing as the net has it.
-fn flat_pin(indexes: &[u16], comp: usize, port: u16) -> End
-    requires { ⌜ (length (now indexes) ≡ 256) × (comp < 256) ⌝ }
-    ensures { λ r. ⌜ ((at : ℕ → Record) (n : ℕ) → IsFlat at n (now (indexes .entry)) → r ≡ flatPin at n (record { comp = comp; port = port }))
-        × (r .comp .0 < 65536) ⌝ }
+fn flat_pin(indexes: &[u16], pin: Pin) -> End
+    requires { ⌜ (length (now indexes) ≡ 256) × (pin .comp < 256) ⌝ }
+    ensures { λ r. ⌜ (r ≡ endBy (now (indexes .entry)) pin) × (r .comp .0 < 65536) ⌝ }
 {
+    let comp = pin.comp;
     End {
         comp: FlatIdx(indexes[comp] as usize),
-        port,
+        port: pin.port,
     }
 }
 
-// Writes a wire from an output to every primitive input that a goal leads to through input maps: in map order, all that one map
-// reaches before the next. `at` is the number of the first of them, and the answer the number of the next.
-fn lead(
-    file: &[u8],
-    index: &[u16],
+// Lays wire k from an output to a target.
+fn lay_lead(indexes: &[u16], from: End, target: Pin, wires: &mut [u16], k: usize)
+    requires { ⌜ (length (now indexes) ≡ 256) × (target .comp < 256) × (from .comp .0 < 65536) × (wirePlace (k + 1) ≤ length (now wires)) ⌝ }
+    ensures { λ _. ⌜ now (wires .exit) ≡ sets (now (wires .entry)) (wirePlace k) (leadBy (now (indexes .entry)) from target) ⌝ }
+{
+    let to = flat_pin(indexes, target);
+    tables::lay_wire(wires, k, Wire { src: from, dst: to });
+}
+
+// Lays a wire from an output to each of the first `count` targets of a table, in their order, from wire `at` on. The answer is the number
+// of the next wire.
+fn lay_leads(
     indexes: &[u16],
     from: End,
-    goal: Goal,
+    targets: &[u16],
+    count: usize,
     wires: &mut [u16],
     at: usize,
 ) -> usize
-    requires { ⌜ Ready (now file) (now index) (now indexes) ⌝ }
-    requires { ⌜ (from .comp .0 < 65536) × (wirePlace at + length (joined (leadWords (recordAt (now file)) (recordCount (now file)) from)
-        (reached (recordAt (now file)) (recordCount (now file)) goal)) ≤ length (now wires)) ⌝ }
-    ensures { λ r. ⌜ Written (now (wires .entry)) (wirePlace at) (joined (leadWords (recordAt (now (file .entry))) (recordCount (now (file .entry))) from)
-        (reached (recordAt (now (file .entry))) (recordCount (now (file .entry))) goal)) (now (wires .exit)) (wirePlace r) ⌝ }
+    requires { ⌜ (length (now indexes) ≡ 256) × (from .comp .0 < 65536) × (wirePlace (at + count) ≤ length (now wires)) ⌝ }
+    requires { ⌜ (targetPlace count ≤ length (now targets)) × ((k : ℕ) → k < count → targetIn (now targets) k .comp < 256) ⌝ }
+    ensures { λ r. ⌜ Written (now (wires .entry)) (wirePlace at)
+        (joined (leadBy (now (indexes .entry)) from) (targetsIn (now (targets .entry)) count)) (now (wires .exit)) (wirePlace r) ⌝ }
 {
-    if goal.depth == 0 {
-        return at;
+    let mut k: usize = 0;
+    while k < count {
+        lay_lead(indexes, from, target_at(targets, k), wires, at + k);
+        k += 1;
     }
-    if is_primitive_at(file, goal.comp) {
-        let to = flat_pin(indexes, goal.comp, goal.port);
-        let wire = Wire { src: from, dst: to };
-        tables::lay_wire(wires, at, wire);
-        return at + 1;
-    }
-    let maps = stretch_of(index, file.len() / 24, goal.comp);
-    let end = maps.end;
-    let depth = goal.depth - 1;
-    let mut next = at;
-    let mut q = maps.first;
-    while q < end {
-        if let Entered::To(comp, port) = enter(file, index, goal.comp, goal.port, q) {
-            let inner = Goal { comp, port, depth };
-            next = lead(file, index, indexes, from, inner, wires, next);
-        }
-        q += 1;
-    }
-    next
+    at + count
 }
 
 // Writes the wires of the record at p, if it is a connection. The answer is the number of the next.
@@ -116,13 +100,11 @@ fn connect(
     };
     let start = child_of(file, index, owner as usize, from);
     let source = source_of(file, index, deepest(), start, output);
-    let flat = flat_pin(indexes, source.comp, source.port);
-    let goal = Goal {
-        comp: child_of(file, index, owner as usize, to),
-        port: input,
-        depth: deepest(),
-    };
-    lead(file, index, indexes, flat, goal, wires, at)
+    let flat = flat_pin(indexes, source);
+    let goal = child_of(file, index, owner as usize, to);
+    let mut targets = [0u16; 2048];
+    let count = list_targets(file, index, deepest(), goal, input, &mut targets, 0);
+    lay_leads(indexes, flat, &targets, count, wires, at)
 }
 
 // Writes the wires of all connections, in their order. The answer is how many there are.

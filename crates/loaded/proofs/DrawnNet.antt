@@ -23,7 +23,7 @@ use Rattle.flatten.specs.declared.Pin.{Pin}
 use Rattle.flatten.specs.Descent.{flat}
 use Rattle.flatten.proofs.Accepted.{Passed}
 use Rattle.flatten.proofs.Components.{primitive-component}
-use Rattle.flatten.proofs.Ends.{IsInput, wires-leave, wires-enter, wires-width}
+use Rattle.flatten.proofs.Ends.{IsInput, SameWidths, wires-leave, wires-enter}
 use Rattle.flatten.proofs.Primitives.{primitive-obeyed, flat-onto, id-inj}
 use Rattle.tables.specs.declared.End.{End}
 use Rattle.tables.specs.declared.Wire.{Wire}
@@ -92,10 +92,10 @@ module _ (at : ℕ → Record) (n : ℕ) (p : Passed at n) (U : Tables) (d : IsD
       d .output-count ∙ sym (outputs n) ∙ ap (outputSum U) (sym (d .component-count)) in
       rw (each, eq-eqb _ _ all-inputs, eq-eqb _ _ all-outputs)
 
-  -- Wires have ends that exist and equal widths.
-  pub drawn-wiresFit : wiresFit U ≡ true
+  -- Wires have ends that exist and equal widths, if they have so in the drawing.
+  pub drawn-wiresFit : SameWidths at n → wiresFit U ≡ true
   unfolding wiresFit
-  drawn-wiresFit = ap (every (wireFits U)) (d .wires) ∙ every-complete (wireFits U) (flatWires at n) each
+  drawn-wiresFit widths = ap (every (wireFits U)) (d .wires) ∙ every-complete (wireFits U) (flatWires at n) each
     where
       each : (v : Wire) → In v (flatWires at n) → wireFits U v ≡ true
       each v h =
@@ -109,7 +109,7 @@ module _ (at : ℕ → Record) (n : ℕ) (p : Passed at n) (U : Tables) (d : IsD
           let target = d .fields (w .dst .comp) (enters .of-primitive) in
           ap (wireFits U) (r .2)
           ∙ (λ j. out j && into j && eqb (outputWidth (outputBelow j)) (inputWidth (target j)))
-          ∙ eq-eqb _ _ (wires-width at n p w (r .1))
+          ∙ eq-eqb _ _ (widths w (r .1))
 
   -- What a wire enters, by flat index, is an input of a primitive.
   entered-input : (t : End) → In t (enteredEnds (flatWires at n)) → (x : Pin) × IsInput at x × (t ≡ flatPin at n x)

@@ -10,6 +10,8 @@ use Rattle.component.specs.declared.Verdict.the-variants.{Accepted}
 use Rattle.component.specs.Record.{IsBytes, recordAt, recordCount, isPrimitive}
 use Rattle.component.specs.Reading.{idOf}
 use Rattle.flatten.proofs.Accepted.{Passed, accepted-passed}
+use Rattle.flatten.proofs.Ends.{SameWidths}
+use Rattle.flatten.proofs.WireTheorems.{accepted-wires-width}
 use Rattle.tables.specs.Tables.{Tables, fullSize}
 use Rattle.load.specs.Load.{drawingTables, loadVerdict, loadTables}
 use Rattle.load.proofs.LoadLaws.{load-passed}
@@ -24,10 +26,10 @@ use Rattle.loaded.proofs.LoadedNet.{loaded-names-current, loaded-names-
 use Rattle.loaded.proofs.Bytes.{recordAt-id}
 
 -- The tables that a drawing that passes every check is loaded into are a net, if its ids have 32 bits.
-pub loaded-net : (at : ℕ → Record) (n : ℕ) → Passed at n → (T : Tables)
+pub loaded-net : (at : ℕ → Record) (n : ℕ) → Passed at n → SameWidths at n → (T : Tables)
     → ((c : ℕ) → isPrimitive (at c) ≡ true → idOf (at c) < 2 ^ 32) → isNet (drawingTables at n T) ≡ true
 unfolding isNet
-loaded-net at n d T narrow =
+loaded-net at n d widths T narrow =
     let drawn = loaded-drawn at n d T in
     rw (
       loaded-countsWithin at n d T,
@@ -36,7 +38,7 @@ loaded-net at n d T narrow =
       drawn-portsFollow at n d _ drawn,
       loaded-valuesFit at n d T,
       loaded-constsHeld at n d T,
-      drawn-wiresFit at n d _ drawn,
+      drawn-wiresFit at n d _ drawn widths,
       drawn-inputsOnce at n d _ drawn,
       loaded-names-current at n d T,
       loaded-names-following at n d T,
@@ -65,4 +67,5 @@ module _ (file : List ℕ) (T : Tables) (accepted : loadVerdict file T ≡ Accep
   pub load-net : IsBytes file → isNet (loadTables file T) ≡ true
   load-net bytes =
       ap (λ (U : Tables). isNet U) load-loaded
-      ∙ loaded-net (recordAt file) (recordCount file) load-checked T (λ c e. recordAt-id file bytes c)
+      ∙ loaded-net (recordAt file) (recordCount file) load-checked (accepted-wires-width file (load-passed file T accepted .judged)) T
+      (λ c e. recordAt-id file bytes c)

@@ -1,10 +1,19 @@
 -- `check_record`: 15, or a check of crate component.
 -- Assumes nothing.
+use mathlib.Core.Path.{_≡_, subst}
+use Prim.Native.Nat.{ℕ, _/_}
 use borrow.Author.Tests.{ne-eqb}
 use borrow.Author.Needs.{needs}
-use Rattle.flatten.specs.Searches.{failsAt}
+use lib.ListN.{length}
+use Rattle.component.specs.Record.{recordAt}
+use Rattle.flatten.specs.Searches.{failsAt, PassedBefore}
 use Rattle.flatten.proofs.judgement.check_record.Statement.{statement}
 use Rattle.flatten.proofs.judgement.check_record.Tie as tie
+
+check15-requires : tie.Need-check15-requires
+check15-requires c κs =
+    let s = c .before .before .before in
+    (s .pre .0, subst (PassedBefore (recordAt (s .args .file .now)) (length (s .args .file .now) / 24)) (c .if1 .taken) (s .pre .1))
 
 returns : tie.Need-returns
 unfolding failsAt
@@ -15,4 +24,4 @@ unfolding failsAt
 returns-2 c = rw (ne-eqb _ 15 (c .before .if1 .left)) (c .check .ensures)
 
 pub check-record-spec : {M : Type 1} → statement M
-check-record-spec = tie.close (tie.spec (λ c κs. search needs) returns (λ c κs. search needs) returns-2)
+check-record-spec = tie.close (tie.spec check15-requires returns (λ c κs. search needs) returns-2)

@@ -23,7 +23,8 @@ loop-holds c = search (search-start)
 
 check-record-requires : tie.Need-check-record-requires Inv-loop μ-loop
 check-record-requires c κs =
-    c .before .before .before .before .pre .0
+    let s = c .before .before .before .before in
+    ((s .pre .0 .0, s .pre .0 .1, c .loop-test .taken), s .pre .1 .1)
 
 cast-t9 : tie.Need-cast-t9 Inv-loop μ-loop
 cast-t9 c = search needs

@@ -1,19 +1,18 @@
--- `judge_records`: the invariant: what the checks still to be made say is the answer.
+-- `judge_records`: the invariant: the checks made so far have passed.
 -- Assumes nothing.
-use mathlib.Core.Path.{_≡_, refl}
+use mathlib.Core.Path.{refl}
 use Prim.Native.Nat.{_-_, _/_, _≤_}
 use native.Mathlib.Omega.{arith}
-use lib.ListN.{length, drop}
+use lib.ListN.{length}
 use Rattle.component.specs.Record.{recordAt}
-use Rattle.flatten.specs.Verdict.{checks, judged}
-use Rattle.flatten.proofs.JudgementLaws.{judged-here, judged-next, judged-all}
+use Rattle.flatten.specs.Searches.{PassedBefore}
+use Rattle.flatten.proofs.JudgementLaws.{judged-here, passed-next, judged-all}
 use borrow.Author.Needs.{needs}
 use Rattle.flatten.proofs.judgement.judge_records.Statement.{statement}
 use Rattle.flatten.proofs.judgement.judge_records.Tie as tie
 
 abbrev Inv-loop : tie.InvT-loop
-Inv-loop file index k₀ k =
-    (3 ≤ k) × (k ≤ 16) × (judged (length file / 24) (drop (k - 3) (checks (recordAt file) (length file / 24))) ≡ judged (length file / 24) (checks (recordAt file) (length file / 24)))
+Inv-loop file index k₀ k = (3 ≤ k) × (k ≤ 16) × PassedBefore (recordAt file) (length file / 24) k
 
 abbrev μ-loop : tie.MeasureT-loop
 μ-loop file index k₀ k = 16 - k
@@ -24,7 +23,7 @@ loop-holds c = (omega arith, omega arith, refl)
 check-records-requires : tie.Need-check-records-requires Inv-loop μ-loop
 check-records-requires c κs =
     let s = c .before .before .before .before in
-    (s .pre .0, (c .before .loop .inv .0, s .pre .1))
+    ((s .pre .0, s .pre .1), (c .before .loop .inv .0, c .before .loop .inv .2))
 
 enum-known-refusal : tie.Need-enum-known-refusal Inv-loop μ-loop
 enum-known-refusal c = search needs
@@ -42,7 +41,7 @@ loop-less : tie.Need-loop-less Inv-loop μ-loop
 loop-less c = search needs
 
 loop-again : tie.Need-loop-again Inv-loop μ-loop
-loop-again c = (omega arith, omega arith, search (judged-next))
+loop-again c = (omega arith, omega arith, search (passed-next))
 
 returns-2 : tie.Need-returns-2 Inv-loop μ-loop
 returns-2 c = search (judged-all)

@@ -1,0 +1,108 @@
+-- `check15`: a connection's source has the width that no target may differ from, and there are at most 1,024 targets.
+-- Assumes nothing.
+use Rattle.component.proofs.ChecksLaws.{given-passes, given-by}
+use Rattle.flatten.proofs.WidthsLaws.{fails15-refused, fails15-other, fails15-connection}
+use mathlib.Core.Path.{refl}
+use Prim.Native.Nat.{_/_}
+use lib.ListN.{length}
+use borrow.Author.Needs.{needs}
+use Rattle.flatten.proofs.Accepted.{passed-before}
+use Rattle.flatten.proofs.DescentLaws.{connection-at}
+use Rattle.flatten.proofs.ConnectionLaws.{connection-room, connection-within, connection-read}
+use Rattle.flatten.proofs.widths.check15.Statement.{statement}
+use Rattle.flatten.proofs.widths.check15.Tie as tie
+
+-- refused
+returns : tie.Need-returns
+returns c = search (given-passes, fails15-refused)
+
+-- no connection
+returns-2 : tie.Need-returns-2
+returns-2 c = search (given-passes, fails15-other)
+
+child-of-requires-2 : tie.Need-child-of-requires-2
+child-of-requires-2 c κs =
+    let says = c .before .before .before .before .before .before in
+    let r = says .before .before .before .before .before in
+    r .before .before .before .pre .0 .0
+
+list-targets-requires : tie.Need-list-targets-requires
+list-targets-requires c κs =
+    let depth = c .before in
+    let child = depth .before in
+    let says = child .before .before .before .before .before .before .before in
+    let owner = says .before .before .before in
+    let r = owner .before .before in
+    let s = r .before .before .before in
+    let a = s .args in
+    let at-p = connection-at (a .file .now) (length (a .file .now) / 24) (a .p) _ (r .record-at .ensures .0) _ _ _ _ _ _ (owner .owner .given .1)
+    (says .says .given .1) in (
+      (s .pre .0 .0, s .pre .0 .1),
+      connection-room (a .file .now) _ (passed-before (a .file .now) (s .pre .1)) (a .p) (s .pre .0 .2) _ _ _ _ _ at-p
+          _ _ (depth .deepest2 .ensures) (child .child-of2 .ensures),
+    )
+
+any-differs-requires : tie.Need-any-differs-requires
+any-differs-requires c κs =
+    let listed = c .before .before in
+    let depth = listed .before .before in
+    let child = depth .before in
+    let says = child .before .before .before .before .before .before .before in
+    let owner = says .before .before .before in
+    let r = owner .before .before in
+    let s = r .before .before .before in
+    let a = s .args in
+    let at-p = connection-at (a .file .now) (length (a .file .now) / 24) (a .p) _ (r .record-at .ensures .0) _ _ _ _ _ _ (owner .owner .given .1)
+    (says .says .given .1) in
+    connection-within (a .file .now) _ (passed-before (a .file .now) (s .pre .1)) (a .p) (s .pre .0 .2) _ _ _ _ _ at-p
+    _ _ (depth .deepest2 .ensures) (child .child-of2 .ensures) _ _ _ (listed .list-targets .ensures) refl
+
+-- a connection
+returns-3 : tie.Need-returns-3
+returns-3 c =
+    let listed = c .before .before .before .before in
+    let depth = listed .before .before in
+    let child = depth .before in
+    let width = child .before in
+    let fields = width .before in
+    let source = fields .before in
+    let above = source .before in
+    let start = above .before in
+    let says = start .before .before in
+    let owner = says .before .before .before in
+    let r = owner .before .before in
+    let s = r .before .before .before in
+    let a = s .args in
+    let at-p = connection-at (a .file .now) (length (a .file .now) / 24) (a .p) _ (r .record-at .ensures .0) _ _ _ _ _ _ (owner .owner .given .1)
+    (says .says .given .1) in
+    let read = connection-read (a .file .now) _ (passed-before (a .file .now) (s .pre .1)) (a .p) (s .pre .0 .2) _ _ _ _ _ at-p
+    _ _ (depth .deepest2 .ensures) (child .child-of2 .ensures) _ _ _ (listed .list-targets .ensures) refl in
+    given-by 15 _ _ _ (c .given .ensures)
+    (fails15-connection (a .file .now) (a .p) (s .pre .0 .2) _ _ _ _ _ at-p (s .pre .1) _ _ _ _ _ _ _ read (above .deepest .ensures) (start .child-of .ensures) (source .source-of .ensures) (fields .fields-at .ensures)
+    (width .output-width .ensures) (c .before .any-differs .ensures))
+
+pub check15-spec : {M : Type 1} → statement M
+check15-spec =
+    tie.close
+    (tie.spec
+    (λ c κs. search needs)
+    (λ c. search needs)
+    (λ c. search needs)
+    returns
+    (λ c. search needs)
+    returns-2
+    (λ c. search needs)
+    (λ c κs. search needs)
+    (λ c κs. search needs)
+    (λ c κs. search needs)
+    (λ c κs. search needs)
+    (λ c κs. search needs)
+    (λ c. search needs)
+    child-of-requires-2
+    (λ c κs. search needs)
+    (λ c. search needs)
+    list-targets-requires
+    (λ c. search needs)
+    any-differs-requires
+    (λ c κs. search needs)
+    returns-3)
