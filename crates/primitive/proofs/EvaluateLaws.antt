@@ -9,7 +9,7 @@ use native.Mathlib.Omega.{arith}
 use borrow.Author.Tests.{ltb-false, not-false, ne-eqb}
 use lib.ListN.{length, getD, take, drop}
 use lib.Seq.{sets, sets-eq, length-take-le}
-use lib.Dec.{eqb, ltb}
+use lib.Dec.{ltb}
 use Rattle.lists.specs.Lists.{from, every, refusal, _if_}
 use Rattle.lists.proofs.ListsLaws.{or-left, or-right, refusal-first, refusal-rest, every-fails, every-next, every-end}
 use Rattle.value.specs.Value.{ofWidth, fitsIn}

@@ -7,6 +7,7 @@ mod table;
 
 pub use answers::Evaluated;
 pub use answers::Refusal;
+pub use answers::refused_by;
 pub use kinds::Kind;
 pub use kinds::Seen;
 pub use kinds::is_kept;

@@ -4,7 +4,7 @@ ghost use Prim.Native.Nat.{_≤_};
 ghost use lib.ListN.{length};
 ghost use Rattle.primitive.specs.Evaluate.{fitting, evaluateNumber, Evaluates};
 use crate::answers::Evaluated;
-use crate::answers::Refusal;
+use crate::answers::refused_by;
 use crate::kinds::is_kept;
 use crate::kinds::is_unknown;
 use crate::rules::update;
@@ -79,10 +79,7 @@ pub fn evaluate(
 {
     let number = evaluate_number(f, inputs, entering, outputs, leaving);
     if number != 0 {
-        return Evaluated::Refused(Refusal {
-            number,
-            position: 0,
-        });
+        return Evaluated::Refused(refused_by(number));
     }
     let n = f.inputs as usize;
     let m = f.outputs as usize;

@@ -6,7 +6,7 @@ ghost use Rattle.net.specs.Net.{netNumber};
 ghost use Rattle.simulator.specs.Calls.{Rounds, run, countsAfterRun, Runs};
 use crate::Ran;
 use crate::questions::only_clocks;
-use primitive::Refusal;
+use primitive::refused_by;
 use rounds::net_round;
 use tables::Answer;
 use tables::Counts;
@@ -41,10 +41,7 @@ pub fn round(
         counts,
     );
     if number != 0 {
-        return Answer::Refused(Refusal {
-            number,
-            position: 0,
-        });
+        return Answer::Refused(refused_by(number));
     }
     Answer::Done(net_round(
         components,
@@ -147,10 +144,7 @@ pub fn run_until_calm(
         counts,
     );
     if number != 0 {
-        return Ran::Refused(Refusal {
-            number,
-            position: 0,
-        });
+        return Ran::Refused(refused_by(number));
     }
     let made = net_run(
         components,

@@ -2,7 +2,7 @@
 // and "Numbers given back". The Rust has none.
 ghost use mathlib.Core.Path.{_≡_};
 ghost use mathlib.Core.Bool.{true, cond};
-ghost use Prim.Native.Nat.{_<_, _≤_};
+ghost use Prim.Native.Nat.{_<_};
 ghost use lib.ListN.{length, set};
 ghost use Rattle.primitive.specs.declared.kinds.Kind.the-variants.{Switch};
 ghost use Rattle.primitive.specs.Kinds.{is};
@@ -12,7 +12,7 @@ ghost use Rattle.simulator.specs.declared.questions.Tip.the-variants.{Ta
 ghost use Rattle.simulator.specs.Calls.{editNumber, Edits};
 ghost use Rattle.simulator.specs.Asked.{ends, editRefusal};
 use primitive::Kind;
-use primitive::Refusal;
+use primitive::refused_by;
 use tables::Answer;
 use tables::Counts;
 use tables::FlatIdx;
@@ -144,10 +144,7 @@ pub fn edit(
         number,
     );
     if refused != 0 {
-        return Answer::Refused(Refusal {
-            number: refused,
-            position: 0,
-        });
+        return Answer::Refused(refused_by(refused));
     }
     set_port(components, inputs, outputs, i, number);
     let mut left = counts;

@@ -23,7 +23,7 @@ use crate::Port;
 use crate::Side;
 use primitive::Id;
 use primitive::Kind;
-use primitive::Refusal;
+use primitive::refused_by;
 use tables::Counts;
 use tables::FlatIdx;
 use tables::Wire;
@@ -75,10 +75,7 @@ fn search_id(components: &[u64], count: usize, id: Id) -> Index
         }
         i += 1;
     }
-    Index::Refused(Refusal {
-        number: 17,
-        position: 0,
-    })
+    Index::Refused(refused_by(17))
 }
 
 // The value of a port out of a component's `count`, which start at `first` of their table and have `width` bits.
@@ -87,10 +84,7 @@ fn port_value(ports: &[u64], first: usize, count: usize, width: u64, port: usize
     ensures { λ r. ⌜ valueGives r ≡ cond (leb count port) (declined (refusedBy 17)) (done (getD (now (ports .entry)) (first + port) 0 ∷ width ∷ [])) ⌝ }
 {
     if count <= port {
-        return Port::Refused(Refusal {
-            number: 17,
-            position: 0,
-        });
+        return Port::Refused(refused_by(17));
     }
     let number = ports[first + port];
     Port::Is(Value { number, width })
@@ -164,10 +158,7 @@ fn value_in(
     ensures { λ r. ⌜ valueGives r ≡ valueOnNet (lent (now (components .entry)) (now (inputs .entry)) (now (outputs .entry)) [] counts) side i port ⌝ }
 {
     if counts.components <= i {
-        return Port::Refused(Refusal {
-            number: 17,
-            position: 0,
-        });
+        return Port::Refused(refused_by(17));
     }
     let f = tables::fields_at(components, i);
     match side {
@@ -256,10 +247,7 @@ fn list_joined(
         list,
     );
     if number != 0 {
-        return Listed::Refused(Refusal {
-            number,
-            position: 0,
-        });
+        return Listed::Refused(refused_by(number));
     }
     Listed::Count(list_ends(wires, counts, near, far, i, list))
 }
@@ -291,10 +279,7 @@ pub fn is_calm(
         counts,
     );
     if number != 0 {
-        return Calm::Refused(Refusal {
-            number,
-            position: 0,
-        });
+        return Calm::Refused(refused_by(number));
     }
     Calm::Is(only_clocks(components, current, counts.current))
 }
@@ -327,10 +312,7 @@ pub fn index_of(
         counts,
     );
     if number != 0 {
-        return Index::Refused(Refusal {
-            number,
-            position: 0,
-        });
+        return Index::Refused(refused_by(number));
     }
     search_id(components, counts.components, id)
 }
@@ -365,10 +347,7 @@ pub fn value_of(
         counts,
     );
     if number != 0 {
-        return Port::Refused(Refusal {
-            number,
-            position: 0,
-        });
+        return Port::Refused(refused_by(number));
     }
     value_in(components, inputs, outputs, counts, side, index.0, port)
 }

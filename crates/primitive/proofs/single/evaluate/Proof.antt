@@ -14,15 +14,18 @@ zero c = sym (c .before .evaluate-number .ensures) ∙ c .if1 .left
 evaluate-number-requires : tie.Need-evaluate-number-requires
 evaluate-number-requires c κs = search needs
 
+refused-by-requires : tie.Need-refused-by-requires
+refused-by-requires c κs = search needs
+
 same-length : tie.Need-same-length
 same-length c = search needs
 
 -- refused
 returns : tie.Need-returns
 returns c =
-    let a = c .before .before .before .before .before .before .before .args in
-    let e = c .before .evaluate-number .ensures in
-    (refused-answer (a .f) (a .inputs .now) (a .entering .now) (a .outputs .now) (a .leaving .now) _ e (c .if1 .taken), refused-outputs (a .f) (a .inputs .now) (a .entering .now) (a .outputs .now) (a .leaving .now) _ e (c .if1 .taken) (a .time))
+    let a = c .before .before .before .before .before .before .before .before .args in
+    let e = c .before .before .evaluate-number .ensures in
+    rw (c .refused-by .ensures) (refused-answer (a .f) (a .inputs .now) (a .entering .now) (a .outputs .now) (a .leaving .now) _ e (c .before .if1 .taken), refused-outputs (a .f) (a .inputs .now) (a .entering .now) (a .outputs .now) (a .leaving .now) _ e (c .before .if1 .taken) (a .time))
 
 cast-n : tie.Need-cast-n
 cast-n c = search needs
@@ -68,6 +71,7 @@ evaluate-spec =
     tie.close
     (tie.spec
     evaluate-number-requires
+    refused-by-requires
     same-length
     returns
     cast-n

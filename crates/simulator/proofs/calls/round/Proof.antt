@@ -17,6 +17,9 @@ came s =
 net-number-requires : tie.Need-net-number-requires
 net-number-requires c κs = search needs
 
+refused-by-requires : tie.Need-refused-by-requires
+refused-by-requires c κs = search needs
+
 same-length : tie.Need-same-length
 same-length c = search needs
 
@@ -34,9 +37,9 @@ same-length-5 c = search needs
 
 returns : tie.Need-returns
 returns c =
-    let p = c .before .before .before .before .before .before .before .before .before .before in
+    let p = c .before .before .before .before .before .before .before .before .before .before .before in
     let s = p .before .before .before .before in
-    round-refused (came s) (s .args .time) _ (c .before .net-number .ensures) (c .if1 .taken)
+    rw (c .refused-by .ensures) (round-refused (came s) (s .args .time) _ (c .before .before .net-number .ensures) (c .before .if1 .taken))
 
 net-round-requires : tie.Need-net-round-requires
 net-round-requires c κs =
@@ -79,6 +82,7 @@ round-spec =
     tie.close
     (tie.spec
     net-number-requires
+    refused-by-requires
     same-length
     same-length-2
     same-length-3

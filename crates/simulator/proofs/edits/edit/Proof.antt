@@ -26,6 +26,9 @@ passed c = sym (c .before .edit-checks .ensures) ∙ c .if1 .left
 edit-checks-requires : tie.Need-edit-checks-requires
 edit-checks-requires c κs = search needs
 
+refused-by-requires : tie.Need-refused-by-requires
+refused-by-requires c κs = search needs
+
 same-length : tie.Need-same-length
 same-length c = search needs
 
@@ -37,11 +40,11 @@ same-length-3 c = search needs
 
 returns : tie.Need-returns
 returns c =
-    let s = c .before .before .before .before .before .before .before .before .before .before .before .before in
+    let s = c .before .before .before .before .before .before .before .before .before .before .before .before .before in
     let a = s .args in
-    edit-kept (a .components .now) (a .inputs .now) (a .outputs .now) (a .wires .now) (a .current .now)
+    rw (c .refused-by .ensures) (edit-kept (a .components .now) (a .inputs .now) (a .outputs .now) (a .wires .now) (a .current .now)
     (a .following .now) (a .standing .now)
-    (a .counts) (a .index .0) (a .number) _ (c .before .edit-checks .ensures) (c .if1 .taken)
+    (a .counts) (a .index .0) (a .number) _ (c .before .before .edit-checks .ensures) (c .before .if1 .taken))
 
 set-port-requires : tie.Need-set-port-requires
 set-port-requires c κs =
@@ -96,6 +99,7 @@ edit-spec =
     tie.close
     (tie.spec
     edit-checks-requires
+    refused-by-requires
     same-length
     same-length-2
     same-length-3

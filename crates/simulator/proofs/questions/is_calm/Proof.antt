@@ -25,10 +25,13 @@ is-net c = sym (c .before .net-number .ensures) ∙ c .if1 .left
 net-number-requires : tie.Need-net-number-requires
 net-number-requires c κs = search needs
 
+refused-by-requires : tie.Need-refused-by-requires
+refused-by-requires c κs = search needs
+
 returns : tie.Need-returns
 returns c =
-    let s = c .before .before .before .before .before .before .before .before .before in
-    calm-refused (came s) _ (c .before .net-number .ensures) (c .if1 .taken)
+    let s = c .before .before .before .before .before .before .before .before .before .before in
+    rw (c .refused-by .ensures) (calm-refused (came s) _ (c .before .before .net-number .ensures) (c .before .if1 .taken))
 
 only-clocks-requires : tie.Need-only-clocks-requires
 only-clocks-requires c κs =
@@ -41,4 +44,4 @@ returns-2 c =
     calm-is (came s) _ (is-net (c .before)) (c .only-clocks .ensures)
 
 pub is-calm-spec : {M : Type 1} → statement M
-is-calm-spec = tie.close (tie.spec net-number-requires returns only-clocks-requires returns-2)
+is-calm-spec = tie.close (tie.spec net-number-requires refused-by-requires returns only-clocks-requires returns-2)

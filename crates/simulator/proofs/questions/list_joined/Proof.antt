@@ -36,13 +36,16 @@ passed c = sym (c .before .list-number .ensures) ∙ c .if1 .left
 list-number-requires : tie.Need-list-number-requires
 list-number-requires c κs = search needs
 
+refused-by-requires : tie.Need-refused-by-requires
+refused-by-requires c κs = search needs
+
 same-length : tie.Need-same-length
 same-length c = search needs
 
 returns : tie.Need-returns
 returns c =
-    let s = c .before .before .before .before .before .before .before .before .before .before .before in
-    joined-refused (number s) (joined s) (s .args .list .now) _ (c .before .list-number .ensures) (c .if1 .taken)
+    let s = c .before .before .before .before .before .before .before .before .before .before .before .before in
+    rw (c .refused-by .ensures) (joined-refused (number s) (joined s) (s .args .list .now) _ (c .before .before .list-number .ensures) (c .before .if1 .taken))
 
 list-ends-requires : tie.Need-list-ends-requires
 list-ends-requires c κs =
@@ -66,4 +69,4 @@ returns-2 c =
 pub list-joined-spec : {M : Type 1} → statement M
 list-joined-spec =
     tie.close
-    (tie.spec list-number-requires same-length returns list-ends-requires same-length-2 returns-2)
+    (tie.spec list-number-requires refused-by-requires same-length returns list-ends-requires same-length-2 returns-2)

@@ -5,8 +5,11 @@ use borrow.Author.Needs.{needs}
 use Rattle.simulator.proofs.questions.port_value.Statement.{statement}
 use Rattle.simulator.proofs.questions.port_value.Tie as tie
 
+refused-by-requires : tie.Need-refused-by-requires
+refused-by-requires c κs = search needs
+
 returns : tie.Need-returns
-returns c = simp (le-leb _ _ (c .if1 .taken))
+returns c = rw (c .refused-by .ensures) (simp (le-leb _ _ (c .before .if1 .taken)))
 
 add-number : tie.Need-add-number
 add-number c = search needs
@@ -22,4 +25,4 @@ returns-2 c = simp (lt-leb _ _ (c .before .if1 .left))
 
 pub port-value-spec : {M : Type 1} → statement M
 port-value-spec =
-    tie.close (tie.spec returns add-number mul-number shared-slice-read-number returns-2)
+    tie.close (tie.spec refused-by-requires returns add-number mul-number shared-slice-read-number returns-2)

@@ -57,11 +57,14 @@ loop-again c =
           (sym (c .before .has-id .ensures) ∙ c .if1 .left),
     )
 
+refused-by-requires : tie.Need-refused-by-requires Inv-loop μ-loop
+refused-by-requires c κs = search needs
+
 returns-2 : tie.Need-returns-2 Inv-loop μ-loop
 returns-2 c =
-    let a = c .before .before .before .args in
-    let l = c .before .loop in
-    ap indexFound (first-none (hasId (a .components .now) (a .id .0)) (l .i) (a .count) _ (l .inv .1) (omega arith))
+    let a = c .before .before .before .before .args in
+    let l = c .before .before .loop in
+    rw (c .refused-by .ensures) (ap indexFound (first-none (hasId (a .components .now) (a .id .0)) (l .i) (a .count) _ (l .inv .1) (omega arith)))
 
 pub search-id-spec : {M : Type 1} → statement M
 search-id-spec =
@@ -75,4 +78,5 @@ search-id-spec =
     add-i
     loop-less
     loop-again
+    refused-by-requires
     returns-2)

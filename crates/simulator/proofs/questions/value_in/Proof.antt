@@ -24,10 +24,13 @@ Right s = RowRight (s .args .components .now) (s .args .inputs .now) (s .args .o
 right : (c : tie.Else1) → Right (start c)
 right c = start c .pre (c .if1 .left)
 
+refused-by-requires : tie.Need-refused-by-requires
+refused-by-requires c κs = search needs
+
 returns : tie.Need-returns
 returns c =
-    let s = c .before .before .before .before .before in
-    value-none (came s) (s .args .side) (s .args .i) (s .args .port) (c .if1 .taken)
+    let s = c .before .before .before .before .before .before in
+    rw (c .refused-by .ensures) (value-none (came s) (s .args .side) (s .args .i) (s .args .port) (c .before .if1 .taken))
 
 fields-at-requires : tie.Need-fields-at-requires
 fields-at-requires c κs = right c .fit
@@ -92,6 +95,7 @@ pub value-in-spec : {M : Type 1} → statement M
 value-in-spec =
     tie.close
     (tie.spec
+    refused-by-requires
     returns
     fields-at-requires
     enum-told
