@@ -1,4 +1,2 @@
 pub mod RecordLaws
 pub mod ScanLaws
-pub mod ChecksLaws
-pub mod IndexLaws

@@ -12,13 +12,13 @@ use lib.ListN.{length, getD, take, drop}
 use types.Run.{OneOf}
 use denote.Enum.Declared.{tagOf}
 use Rattle.lists.proofs.ListsLaws.{and-left, and-right}
-use Rattle.primitive.specs.declared.table.Fields.{Fields}
+use Rattle.kinds.specs.declared.table.Fields.{Fields}
 use Rattle.component.specs.Record.{le16, le32, le64, numbersIn, bare, wellFormed, noRecord, recordIn, recordAt, fieldsOf, noFields}
 use Rattle.component.specs.Reading.{ownerOf, formOf, apart, formBy, said, number, StandsAs}
-use Rattle.component.specs.Checks.{given}
+use Rattle.component.specs.Reading.{given}
 use Rattle.component.specs.Record.{isPrimitive}
 use Rattle.component.specs.declared.Record.{Record}
-use Rattle.primitive.specs.declared.Id.{Id}
+use Rattle.kinds.specs.declared.Id.{Id}
 use Rattle.component.specs.declared.Says.{Says}
 use Rattle.component.specs.declared.Says.the-variants.{Component, Connection, InputMap, OutputMap}
 use Rattle.component.specs.declared.Reading.{Reading}

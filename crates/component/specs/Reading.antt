@@ -3,7 +3,7 @@
 -- Assumes nothing.
 use mathlib.Core.Path.{_≡_}
 use Prim.Native.Nat.{ℕ}
-use mathlib.Core.Bool.{true, false}
+use mathlib.Core.Bool.{Bool, cond}
 use Rattle.component.specs.declared.Record.{Record}
 use Rattle.component.specs.declared.Says.{Says}
 use Rattle.component.specs.declared.Says.the-variants.{Component, Connection, InputMap, OutputMap}
@@ -11,9 +11,7 @@ use Rattle.component.specs.declared.Reading.{Reading}
 use Rattle.component.specs.declared.Reading.the-variants.{Taken, Refused}
 use Rattle.component.specs.declared.Stands.{Stands}
 use Rattle.component.specs.declared.Stands.the-variants.{Component as StandsComponent, Nothing}
-use Rattle.component.specs.declared.checks.Entry.{Entry}
-use Rattle.component.specs.declared.checks.Entry.the-variants.{Of, Nothing as NoEntry}
-use Rattle.component.specs.Record.{noRecord, toOf, inputOf, entering}
+use Rattle.component.specs.Record.{noRecord}
 
 -- Its record kind, its owner and its id, as laws speak of them.
 abbrev pub formOf : Record → ℕ
@@ -66,7 +64,6 @@ abbrev pub StandsAs : Stands → Record → Type 0
 StandsAs (StandsComponent o i f) r = r ≡ apart o (Component i f)
 StandsAs Nothing r = formOf r ≡ 1 → ⊥
 
--- What is seen of an entry: the input that a record enters, or that it enters none.
-abbrev pub EntryAs : Entry → Record → Type 0
-EntryAs (Of o c d) r = (entering r ≡ true) × (ownerOf r ≡ o) × (toOf r ≡ c .0) × (inputOf r ≡ d)
-EntryAs NoEntry r = entering r ≡ false
+-- The number of a check that fails, else 0.
+abbrev pub given : ℕ → Bool → ℕ
+given k b = cond b k 0

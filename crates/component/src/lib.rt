@@ -1,21 +1,14 @@
 // The records of a drawing file. Rules: docs/SPECIFICATION.md, "The drawing file" and "Numbers given back". Source:
 // component.rs.
-mod checks;
-mod index;
 mod reader;
 
-pub use checks::check;
-pub use checks::deepest;
-pub use checks::given;
-pub use index::child_of;
-pub use index::fill_index;
-pub use index::out_map_of;
-pub use index::stretch_of;
-use primitive::Fields;
-use primitive::Id;
-use primitive::Refusal;
+use kinds::Fields;
+use kinds::Id;
+use kinds::Refusal;
 pub use reader::component_at;
+pub use reader::deepest;
 pub use reader::fields_at;
+pub use reader::given;
 pub use reader::is_primitive_at;
 pub use reader::record_at;
 
@@ -68,12 +61,6 @@ pub enum Reading {
 pub enum Stands {
     Component { owner: u16, id: Id, fields: Fields },
     Nothing,
-}
-
-// The positions from `first` to before `end`.
-pub struct Stretch {
-    pub first: usize,
-    pub end: usize,
 }
 
 // What a file's bytes are judged to be.

@@ -6,16 +6,15 @@ ghost use mathlib.Core.Bool.{true};
 ghost use lib.Dec.{eqb};
 ghost use Rattle.component.specs.Record.{le16, le32, le64, numbersIn, wellFormed, recordIn, recordAt};
 ghost use Rattle.component.specs.Record.{fieldsOf, isPrimitive};
-ghost use Rattle.component.specs.Reading.{apart, said, number, StandsAs};
-ghost use Rattle.component.specs.Drawing.{fails3};
-ghost use Rattle.component.specs.Checks.{given};
+ghost use Rattle.component.specs.Reading.{apart, said, number, given, StandsAs};
+ghost use Rattle.component.specs.Drawing.{deepest, fails3};
 use crate::ChildNo;
 use crate::Reading;
 use crate::Record;
 use crate::Says;
 use crate::Stands;
-use primitive::Fields;
-use primitive::Id;
+use kinds::Fields;
+use kinds::Id;
 
 fn wide16(x: u8) -> u16
     ensures { λ r. ⌜ (r ≡ x) × (r < 256) ⌝ }
@@ -181,5 +180,22 @@ pub fn fields_at(file: &[u8], p: usize) -> Fields
 pub fn is_primitive_at(file: &[u8], p: usize) -> bool
     ensures { λ r. ⌜ r ≡ isPrimitive (recordAt (now (file .entry)) p) ⌝ }
 {
-    primitive::is_primitive(fields_at(file, p))
+    kinds::is_primitive(fields_at(file, p))
+}
+
+// The number of a check that fails, else 0.
+pub fn given(number: u32, fails: bool) -> u32
+    ensures { λ r. ⌜ r ≡ given number fails ⌝ }
+{
+    if fails {
+        return number;
+    }
+    0
+}
+
+// The greatest depth, the root's being 1.
+pub fn deepest() -> u8
+    ensures { λ r. ⌜ r ≡ deepest ⌝ }
+{
+    16
 }

@@ -7,9 +7,9 @@ use Prim.Native.Nat.{ℕ, _+_, _<_}
 use lib.ListN.{getD}
 use Rattle.lists.specs.Lists.{has, keep}
 use Rattle.lists.proofs.MembersLaws.{In, has-complete, map-complete, keep-complete}
-use Rattle.primitive.specs.declared.kinds.Kind.the-variants.{Switch, Clock, Const}
-use Rattle.primitive.specs.declared.table.Fields.{Fields}
-use Rattle.primitive.specs.Kinds.{is}
+use Rattle.kinds.specs.declared.Kind.the-variants.{Switch, Clock, Const}
+use Rattle.kinds.specs.declared.table.Fields.{Fields}
+use Rattle.kinds.specs.Kinds.{is}
 use Rattle.primitive.specs.Evaluate.{functionOf}
 use Rattle.component.specs.declared.Record.{Record}
 use Rattle.component.specs.declared.Verdict.the-variants.{Accepted}

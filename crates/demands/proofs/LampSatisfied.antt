@@ -10,7 +10,7 @@ use lib.ListN.{getD}
 use lib.Dec.{ltb}
 use Rattle.lists.specs.Lists.{has, every, appendNew, strike, overlay}
 use Rattle.lists.proofs.ListsLaws.{and-left, and-right}
-use Rattle.primitive.specs.Kinds.{obeys}
+use Rattle.kinds.specs.Kinds.{obeys}
 use Rattle.primitive.specs.Evaluate.{functionOf, outputsAfter}
 use Rattle.component.specs.declared.Verdict.the-variants.{Accepted}
 use Rattle.component.specs.Record.{IsBytes, recordAt, recordCount}

@@ -2,7 +2,7 @@
 -- Assumes nothing.
 use mathlib.Core.Path.{_≡_, refl}
 use mathlib.Core.List.{map}
-use Rattle.primitive.specs.Kinds.{obeys}
+use Rattle.kinds.specs.Kinds.{obeys}
 use Rattle.primitive.specs.Evaluate.{functionOf, outputsAfter, fitting, evaluateNumber, evaluateOutputs}
 use Rattle.component.specs.Drawing.{deepest}
 use Rattle.flatten.specs.Descent.{outputBelow, inputsBelow, comesFrom, goesTo}

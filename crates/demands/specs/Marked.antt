@@ -5,13 +5,13 @@ use Prim.Native.Nat.{ℕ, _+_, _*_}
 use mathlib.Core.List.{List, [], _∷_}
 use lib.ListN.{length, replicate}
 use Rattle.lists.specs.Lists.{joined}
-use Rattle.primitive.specs.declared.table.Fields.{Fields}
-use Rattle.primitive.specs.declared.kinds.Kind.{Kind}
-use Rattle.primitive.specs.declared.kinds.Kind.the-variants.{And, Or, Nor, Xor, Splitter, Joiner, Clock}
-use Rattle.primitive.specs.Kinds.{numberOf}
+use Rattle.kinds.specs.declared.table.Fields.{Fields}
+use Rattle.kinds.specs.declared.Kind.{Kind}
+use Rattle.kinds.specs.declared.Kind.the-variants.{And, Or, Nor, Xor, Splitter, Joiner, Clock}
+use Rattle.kinds.specs.Kinds.{numberOf}
 use Rattle.primitive.specs.Evaluate.{evaluateNumber, evaluateOutputs}
 use Rattle.component.specs.Record.{recordAt, recordCount}
-use Rattle.primitive.specs.Given.{spoken}
+use Rattle.kinds.specs.Given.{spoken}
 use Rattle.flatten.specs.Verdict.{verdict, verdictGives}
 use Rattle.load.specs.Load.{flatWires}
 use Rattle.demands.specs.Lamp.{lamp, lampTwice}

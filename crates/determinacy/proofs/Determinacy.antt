@@ -3,9 +3,9 @@
 use mathlib.Core.Path.{_≡_, sym, ap, _∙_}
 use mathlib.Core.List.{[], _∷_}
 use lib.ListN.{length}
-use Rattle.primitive.specs.Given.{Given, giving}
+use Rattle.kinds.specs.Given.{Given, giving}
 use Rattle.primitive.specs.Evaluate.{evaluateNumber, evaluatedGives}
-use Rattle.primitive.proofs.GivenLaws.{evaluatedGives-is}
+use Rattle.primitive.proofs.EvaluateLaws.{evaluatedGives-is}
 use Rattle.flatten.specs.Verdict.{verdictGives}
 use Rattle.flatten.proofs.JudgementLaws.{judges-verdict}
 use Rattle.tables.specs.Tables.{answerGives, sources, targets}
@@ -13,8 +13,9 @@ use Rattle.tables.proofs.AnswerLaws.{answerGives-is, changes-determined}
 use Rattle.load.specs.Load.{loadVerdict}
 use Rattle.net.specs.Net.{netNumber}
 use Rattle.simulator.specs.Calls.{editNumber, run, ranGives}
-use Rattle.simulator.specs.Questions.{calmGives, indexGives, valueGives, listNumber, listGives}
-use Rattle.simulator.proofs.AnswersLaws.{ranGives-is, calmGives-is, indexGives-is, valueGives-is, listGives-is}
+use Rattle.questions.specs.Questions.{calmGives, indexGives, valueGives, listNumber, listGives}
+use Rattle.simulator.proofs.AnswersLaws.{ranGives-is}
+use Rattle.questions.proofs.AnswersLaws.{calmGives-is, indexGives-is, valueGives-is, listGives-is}
 use Rattle.determinacy.specs.Determined.{Determinacy, Determined, DeterminedAnswer}
 
 -- What was written is `new`, and the answer gives what `said` says of it.

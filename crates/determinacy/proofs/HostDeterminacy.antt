@@ -6,17 +6,18 @@ use mathlib.Core.List.{List, []}
 use Prim.Native.Nat.{ℕ}
 use lib.ListN.{take, drop}
 use Rattle.lists.specs.Lists.{overlay}
-use Rattle.primitive.specs.declared.answers.Evaluated.{Evaluated}
-use Rattle.primitive.specs.Given.{Given, giving, spoken}
+use Rattle.primitive.specs.declared.Evaluated.{Evaluated}
+use Rattle.kinds.specs.Given.{Given, giving, spoken}
 use Rattle.primitive.specs.Evaluate.{evaluatedGives}
 use Rattle.tables.specs.declared.Counts.{Counts}
 use Rattle.tables.specs.declared.Answer.{Answer}
 use Rattle.tables.specs.Tables.{Tables, answerGives}
 use Rattle.simulator.specs.declared.Ran.{Ran}
-use Rattle.simulator.specs.declared.Listed.{Listed}
+use Rattle.questions.specs.declared.Listed.{Listed}
 use Rattle.simulator.specs.Calls.{ranGives, Runs}
-use Rattle.simulator.specs.Questions.{calmGives, indexGives, valueGives, listGives}
-use Rattle.host.specs.Host.{countsIn, valuesIn, CallChanges, fewCounts, changed, CallRuns, fewToRun, ran, CallAsks, fewToAsk, asked, CallLists, fewToList, listed}
+use Rattle.questions.specs.Questions.{calmGives, indexGives, valueGives, listGives}
+use Rattle.host.specs.Host.{CallChanges, fewCounts, changed, CallRuns, fewToRun, ran, CallAsks, fewToAsk, asked, CallLists, fewToList, listed}
+use Rattle.words.specs.Words.{countsIn, valuesIn}
 use Rattle.determinacy.specs.Determined.{Determined, DeterminedAnswer}
 use Rattle.determinacy.specs.HostDetermined.{ChangesDetermined, AsksDetermined, ListsDetermined, HostDeterminacy}
 use Rattle.determinacy.proofs.Determinacy.{determinacy}

@@ -7,15 +7,15 @@ use mathlib.Core.List.{List}
 use Rattle.value.specs.declared.Value.{Value}
 use Rattle.value.specs.declared.Fit.{Fit}
 use Rattle.value.specs.Value.{fits, fitsIn, fitted, bit, complement, setTo}
-use Rattle.primitive.specs.declared.table.Fields.{Fields}
+use Rattle.kinds.specs.declared.table.Fields.{Fields}
 use Rattle.primitive.specs.Evaluate.{Evaluates}
 use Rattle.flatten.specs.Verdict.{Judges, Speaks}
 use Rattle.tables.specs.Tables.{Tables}
 use Rattle.load.specs.Load.{Loads}
 use Rattle.net.specs.Net.{Checks}
-use Rattle.simulator.specs.declared.Side.{Side}
+use Rattle.questions.specs.declared.Side.{Side}
 use Rattle.simulator.specs.Calls.{Rounds, Edits, Runs}
-use Rattle.simulator.specs.Questions.{AsksCalm, AsksIndex, AsksValue, AsksSources, AsksTargets}
+use Rattle.questions.specs.Questions.{AsksCalm, AsksIndex, AsksValue, AsksSources, AsksTargets}
 
 -- Two outcomes that P allows, answer and what was written, are equal.
 abbrev pub Determined : {A B : Type 0} → (A → B → Type 0) → Type 0

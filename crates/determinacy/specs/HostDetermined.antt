@@ -6,18 +6,19 @@ use Prim.Native.Nat.{ℕ}
 use mathlib.Core.Path.{_≡_}
 use mathlib.Core.Bool.{Bool}
 use mathlib.Core.List.{List, []}
-use Rattle.primitive.specs.declared.table.Fields.{Fields}
-use Rattle.primitive.specs.Given.{Given, giving}
+use Rattle.kinds.specs.declared.table.Fields.{Fields}
+use Rattle.kinds.specs.Given.{Given, giving}
 use Rattle.tables.specs.declared.Counts.{Counts}
 use Rattle.tables.specs.declared.Answer.{Answer}
 use Rattle.tables.specs.Tables.{Tables}
 use Rattle.load.specs.Load.{Loads}
 use Rattle.net.specs.Net.{Checks}
-use Rattle.simulator.specs.declared.Side.{Side}
-use Rattle.simulator.specs.declared.Listed.{Listed}
+use Rattle.questions.specs.declared.Side.{Side}
+use Rattle.questions.specs.declared.Listed.{Listed}
 use Rattle.simulator.specs.Calls.{Rounds, Edits, Runs}
-use Rattle.simulator.specs.Questions.{calmGives, AsksCalm, indexGives, AsksIndex, valueGives, AsksValue, AsksSources, AsksTargets}
-use Rattle.host.specs.Host.{countsIn, CallChanges, CallRuns, CallAsks, CallLists, CallEvaluates}
+use Rattle.questions.specs.Questions.{calmGives, AsksCalm, indexGives, AsksIndex, valueGives, AsksValue, AsksSources, AsksTargets}
+use Rattle.host.specs.Host.{CallChanges, CallRuns, CallAsks, CallLists, CallEvaluates}
+use Rattle.words.specs.Words.{countsIn}
 use Rattle.determinacy.specs.Determined.{Determined}
 
 module _ (few : Bool) (ws fs : List ℕ) (lent : Counts → Tables) where

@@ -17,9 +17,9 @@ use Rattle.lists.specs.Lists.{from, keep}
 use Rattle.lists.proofs.ListsLaws.{and-left, and-right}
 use Rattle.lists.proofs.MembersLaws.{In, or-left-false, or-right-false, or-cases, and-right-false, getD-cases}
 use Rattle.lists.proofs.MembersLaws.{keep-sound, from-sound, distinct-place, distinct-keep, distinct-from}
-use Rattle.primitive.specs.declared.table.Fields.{Fields}
-use Rattle.primitive.specs.Kinds.{forCustom, unknown}
-use Rattle.primitive.proofs.KindsLaws.{isKind}
+use Rattle.kinds.specs.declared.table.Fields.{Fields}
+use Rattle.kinds.specs.Kinds.{forCustom, unknown}
+use Rattle.kinds.proofs.KindsLaws.{isKind}
 use Rattle.component.specs.declared.Record.{Record}
 use Rattle.component.specs.Record.{fieldsOf, inputsOf, outputsOf, composite, isPrimitive}
 use Rattle.component.specs.Reading.{ownerOf, formOf}

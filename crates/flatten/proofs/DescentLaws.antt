@@ -27,7 +27,7 @@ use Rattle.component.specs.declared.Reading.the-variants.{Taken, Refused}
 use Rattle.component.specs.Record.{recordAt, portOf, fromOf, outputOf, toOf, inputOf, isPrimitive}
 use Rattle.component.specs.Reading.{ownerOf, formOf, apart, said, formBy}
 use Rattle.component.specs.Drawing.{deepest, child, mapsIn, outMap}
-use Rattle.component.specs.Index.{IsIndex, stretchFirst, stretchEnd}
+use Rattle.index.specs.Index.{IsIndex, stretchFirst, stretchEnd}
 use Rattle.component.specs.Record.{ownedAs}
 use Rattle.component.proofs.Says.{the-type}
 use Rattle.component.proofs.RecordLaws.{no-input-map, no-output-map, refused-is, taken-is, taken-form}

@@ -9,7 +9,7 @@ use borrow.Author.Tests.{eq-eqb, eqb-true, not-false}
 use lib.Dec.{eqb}
 use Rattle.lists.specs.Lists.{any}
 use Rattle.lists.proofs.MembersLaws.{In, any-none, map-complete}
-use Rattle.primitive.specs.Kinds.{inputWidth, outputWidth}
+use Rattle.kinds.specs.Kinds.{inputWidth, outputWidth}
 use Rattle.component.specs.declared.Record.{Record}
 use Rattle.component.specs.Record.{fieldsOf, toOf, inputOf, inputsOf, outputsOf, isPrimitive}
 use Rattle.component.specs.Reading.{formOf}

@@ -14,13 +14,14 @@ use lib.ListN.{length, getD, take, drop, take-append-drop}
 use lib.Seq.{drop-cons, take-suc}
 use Rattle.lists.specs.Lists.{from, every, first}
 use Rattle.lists.proofs.ListsLaws.{and-left, and-right, first-here, first-next, first-none}
-use Rattle.primitive.specs.declared.answers.Refusal.{Refusal}
-use Rattle.primitive.proofs.GivenLaws.{done-declined, declined-refusal}
+use Rattle.kinds.specs.declared.answers.Refusal.{Refusal}
+use Rattle.kinds.proofs.GivenLaws.{done-declined, declined-refusal}
 use Rattle.component.specs.declared.Verdict.{Verdict}
 use Rattle.component.specs.declared.Verdict.the-variants.{Accepted, Refused}
 use Rattle.component.specs.Record.{recordAt}
-use Rattle.component.specs.Checks.{given, failsBy}
-use Rattle.component.proofs.ChecksLaws.{given-number, given-failed, given-passed}
+use Rattle.component.specs.Reading.{given}
+use Rattle.checks.specs.Checks.{failsBy}
+use Rattle.checks.proofs.ChecksLaws.{given-number, given-failed, given-passed}
 use Rattle.flatten.specs.Verdict.{Check, check, checks, refused, orLater, judged, sized, verdict, verdictGives, Judges}
 use Rattle.flatten.specs.Searches.{failsAt, PassedBefore}
 use Rattle.flatten.proofs.Accepted.{refused-not, noCheck}

@@ -16,7 +16,7 @@ use Rattle.lists.proofs.MembersLaws.{In, Distinct, and-right-false, or-left-fal
 use Rattle.lists.proofs.MembersLaws.{keep-append, total-append, in-getD, from0-sound, from0-complete, from-append}
 use Rattle.lists.proofs.MembersLaws.{from-last, from-length, distinct-place, distinct-keep, distinct-from, distinct-map}
 use Rattle.lists.proofs.MembersLaws.{distinct-bound}
-use Rattle.primitive.specs.Kinds.{primitive, obeys}
+use Rattle.kinds.specs.Kinds.{primitive, obeys}
 use Rattle.component.specs.declared.Record.{Record}
 use Rattle.component.specs.Record.{fieldsOf, hasId, inputsOf, outputsOf, isPrimitive}
 use Rattle.component.specs.Reading.{idOf, formOf}

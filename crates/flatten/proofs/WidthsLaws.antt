@@ -12,8 +12,8 @@ use types.Run.{OneOf}
 use denote.Enum.Declared.{tagOf}
 use Rattle.lists.specs.Lists.{from, any}
 use Rattle.lists.proofs.MembersLaws.{any-map}
-use Rattle.primitive.specs.declared.table.Fields.{Fields}
-use Rattle.primitive.specs.Kinds.{inputWidth, outputWidth}
+use Rattle.kinds.specs.declared.table.Fields.{Fields}
+use Rattle.kinds.specs.Kinds.{inputWidth, outputWidth}
 use Rattle.component.specs.declared.ChildNo.{ChildNo}
 use Rattle.component.specs.declared.Record.{Record}
 use Rattle.component.specs.declared.Says.{Says}

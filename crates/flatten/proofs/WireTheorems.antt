@@ -8,7 +8,7 @@ use mathlib.Core.List.{List, map}
 use Prim.Native.Nat.{ℕ, _≤_, _<_}
 use lib.ListN.{length}
 use Rattle.lists.proofs.MembersLaws.{In, Distinct}
-use Rattle.primitive.specs.Kinds.{obeys}
+use Rattle.kinds.specs.Kinds.{obeys}
 use Rattle.component.specs.declared.Record.{Record}
 use Rattle.component.specs.declared.Verdict.the-variants.{Accepted}
 use Rattle.component.specs.Record.{recordAt, recordCount, fieldsOf, isPrimitive}

@@ -4,7 +4,7 @@ ghost use mathlib.Core.Path.{_≡_};
 ghost use Prim.Native.Nat.{_+_, _≤_};
 ghost use lib.ListN.{length};
 ghost use Rattle.component.specs.Record.{recordAt, recordCount};
-ghost use Rattle.component.specs.Index.{IsIndex};
+ghost use Rattle.index.specs.Index.{IsIndex};
 ghost use Rattle.flatten.specs.Descent.{outputBelow, inputsBelow};
 ghost use Rattle.flatten.specs.Searches.{entered};
 ghost use Rattle.flatten.specs.Targets.{targetPlace, Listed};
@@ -12,11 +12,11 @@ use crate::Pin;
 use crate::targets::lay_target;
 use component::Reading;
 use component::Says;
-use component::child_of;
 use component::is_primitive_at;
-use component::out_map_of;
 use component::record_at;
-use component::stretch_of;
+use index::child_of;
+use index::out_map_of;
+use index::stretch_of;
 
 // Where a record leads from an input of a composite: to an input of a child, if it is one of that input's maps, or nowhere.
 enum Entered {

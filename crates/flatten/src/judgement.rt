@@ -5,16 +5,16 @@ ghost use lib.ListN.{length};
 ghost use mathlib.Core.Bool.{true};
 ghost use Rattle.lists.specs.Lists.{from, first};
 ghost use Rattle.component.specs.Record.{recordAt, recordCount};
-ghost use Rattle.component.specs.Index.{IsIndex};
-ghost use Rattle.component.specs.Checks.{given};
+ghost use Rattle.index.specs.Index.{IsIndex};
+ghost use Rattle.component.specs.Reading.{given};
 ghost use Rattle.component.specs.declared.Verdict.the-variants.{Accepted};
 ghost use Rattle.flatten.specs.Verdict.{checks, orLater, judged, sized, Judges};
 ghost use Rattle.flatten.specs.Searches.{failsAt, PassedBefore};
 use crate::widths::check15;
+use checks::check;
 use component::Verdict;
-use component::check;
-use component::fill_index;
-use primitive::Refusal;
+use index::fill_index;
+use kinds::Refusal;
 
 // What check k, of 3 to 15, gives of the record at p, the checks before k having passed.
 fn check_record(file: &[u8], index: &[u16], k: u32, p: usize) -> u32

@@ -4,8 +4,8 @@ ghost use Prim.Native.Nat.{_≤_, _<_};
 ghost use lib.ListN.{length};
 ghost use Rattle.lists.specs.Lists.{any};
 ghost use Rattle.component.specs.Record.{recordAt, recordCount};
-ghost use Rattle.component.specs.Index.{IsIndex};
-ghost use Rattle.component.specs.Checks.{given};
+ghost use Rattle.index.specs.Index.{IsIndex};
+ghost use Rattle.component.specs.Reading.{given};
 ghost use Rattle.flatten.specs.Descent.{fails15};
 ghost use Rattle.flatten.specs.Searches.{unlike, PassedBefore};
 ghost use Rattle.flatten.specs.Targets.{targetPlace, targetsIn};
@@ -15,17 +15,17 @@ use crate::descent::source_of;
 use crate::targets::target_at;
 use component::Reading;
 use component::Says;
-use component::child_of;
 use component::deepest;
 use component::fields_at;
 use component::given;
 use component::record_at;
+use index::child_of;
 
 // Whether a target has another width.
 fn differs(file: &[u8], target: Pin, width: u64) -> bool
     ensures { λ r. ⌜ r ≡ unlike (recordAt (now (file .entry))) width target ⌝ }
 {
-    width != primitive::input_width(fields_at(file, target.comp))
+    width != kinds::input_width(fields_at(file, target.comp))
 }
 
 // Whether one of the first `count` targets of a table has another width.
@@ -63,7 +63,7 @@ pub(crate) fn check15(file: &[u8], index: &[u16], p: usize) -> u32
     };
     let start = child_of(file, index, owner as usize, from);
     let source = source_of(file, index, deepest(), start, output);
-    let width = primitive::output_width(fields_at(file, source.comp));
+    let width = kinds::output_width(fields_at(file, source.comp));
     let goal = child_of(file, index, owner as usize, to);
     let mut targets = [0u16; 2048];
     let count = list_targets(file, index, deepest(), goal, input, &mut targets, 0);

@@ -9,7 +9,7 @@ use native.Mathlib.Omega.{arith}
 use lib.ListN.{length, take, drop}
 use borrow.Author.Tests.{lt-ltb, le-ltb, ltb-false}
 use Rattle.lists.specs.Lists.{overlay}
-use Rattle.primitive.specs.Given.{Given, refusedBy, spoken}
+use Rattle.kinds.specs.Given.{Given, refusedBy, spoken}
 use Rattle.flatten.specs.Verdict.{sized, refused}
 use Rattle.tables.specs.declared.Counts.{Counts}
 use Rattle.tables.specs.declared.Answer.{Answer}
@@ -18,11 +18,12 @@ use Rattle.tables.specs.Tables.{Tables, answerGives, countsAfter}
 use Rattle.load.specs.Load.{loadVerdict, loadTables, Loads}
 use Rattle.simulator.specs.declared.Ran.{Ran}
 use Rattle.simulator.specs.declared.Ran.the-variants.{Done as RanOut, Refused as NotRun}
-use Rattle.simulator.specs.declared.Listed.{Listed}
+use Rattle.questions.specs.declared.Listed.{Listed}
 use Rattle.simulator.specs.Calls.{ranGives, countsAfterRun}
-use Rattle.simulator.specs.Questions.{listGives}
-use Rattle.host.specs.Host.{countsIn, valuesIn, short, CallChanges, fewCounts, changed, CallRuns, fewToRun, ran, CallAsks, fewToAsk, asked, CallLists, fewToList, listed}
-use Rattle.host.proofs.WordsLaws.{none-laid}
+use Rattle.questions.specs.Questions.{listGives}
+use Rattle.host.specs.Host.{short, CallChanges, fewCounts, changed, CallRuns, fewToRun, ran, CallAsks, fewToAsk, asked, CallLists, fewToList, listed}
+use Rattle.words.specs.Words.{countsIn, valuesIn}
+use Rattle.words.proofs.WordsLaws.{none-laid}
 
 -- Neither of two tests holds.
 neither : (a b : Bool) → (a || b) ≡ false → (a ≡ false) × (b ≡ false)

@@ -1,3 +1,2 @@
-pub mod WordsLaws
 pub mod NumbersLaws
 pub mod HostLaws

@@ -9,11 +9,11 @@ use native.Mathlib.Omega.{arith}
 use lib.ListN.{length}
 use lib.Dec.{eqb, leb, ltb}
 use Rattle.lists.specs.Lists.{refusal, _if_}
-use Rattle.primitive.specs.declared.table.Fields.{Fields}
+use Rattle.kinds.specs.declared.table.Fields.{Fields}
 use Rattle.value.specs.Value.{level, ofWidth, fits}
-use Rattle.primitive.specs.declared.kinds.Kind.the-variants.{Switch, Input}
-use Rattle.primitive.specs.Kinds.{is, forCustom, unknown, primitive, obeys, inputWidth, outputWidth}
-use Rattle.primitive.specs.Given.{Given, done, declined, refusedBy, giving, spoken}
+use Rattle.kinds.specs.declared.Kind.the-variants.{Switch, Input}
+use Rattle.kinds.specs.Kinds.{is, forCustom, unknown, primitive, obeys, inputWidth, outputWidth}
+use Rattle.kinds.specs.Given.{Given, done, declined, refusedBy, giving, spoken}
 use Rattle.primitive.specs.Evaluate.{fitting, evaluateNumber}
 use Rattle.component.specs.declared.Verdict.{Verdict}
 use Rattle.component.specs.declared.Verdict.the-variants.{Accepted, Refused as Judged}
@@ -22,14 +22,14 @@ use Rattle.flatten.proofs.JudgementLaws.{verdict-bound}
 use Rattle.tables.specs.Tables.{Tables, fullSize, fieldsAt, indexOf}
 use Rattle.load.specs.Load.{loadVerdict}
 use Rattle.net.specs.Net.{isNet, netNumber, onNet}
-use Rattle.simulator.specs.declared.Side.{Side}
-use Rattle.simulator.specs.declared.Calm.{Calm}
-use Rattle.simulator.specs.declared.Index.{Index}
-use Rattle.simulator.specs.declared.Port.{Port}
-use Rattle.simulator.specs.declared.Port.the-variants.{Is as PortIs}
+use Rattle.questions.specs.declared.Side.{Side}
+use Rattle.questions.specs.declared.Calm.{Calm}
+use Rattle.questions.specs.declared.Index.{Index}
+use Rattle.questions.specs.declared.Port.{Port}
+use Rattle.questions.specs.declared.Port.the-variants.{Is as PortIs}
 use Rattle.rounds.specs.Round.{calm}
 use Rattle.simulator.specs.Calls.{driven, editNumber}
-use Rattle.simulator.specs.Questions.{ofNet, calmGives, AsksCalm, indexGives, AsksIndex, AsksValue, indexFound, portCount, valueAt, valueGives, valueOnNet, listNumber}
+use Rattle.questions.specs.Questions.{ofNet, calmGives, AsksCalm, indexGives, AsksIndex, AsksValue, indexFound, portCount, valueAt, valueGives, valueOnNet, listNumber}
 
 -- The host's number of a verdict.
 abbrev spokenOf : Verdict → ℕ

@@ -1,7 +1,5 @@
 -- What the calls of the screen's host promise. docs/SPECIFICATION.md, "Rounds" (the host's call) and "Numbers given back". Each promise is the engine's
 -- own, by name, on the tables that the lent slices and the count words make.
---   countsIn ws      the counts that words hold
---   valuesIn g       the values of what a call gives: a refused call has none to lay
 --   short ws n       fewer than n words are lent
 --   CallChanges, CallRuns, CallAsks, CallLists, CallEvaluates   the promises of the calls, by their shape
 -- `lent` and `left` are the seven tables before and after, each by its counts; ws and ws′ are the count words, fs and fs′ the words that are lent for an
@@ -9,37 +7,23 @@
 -- Assumes nothing.
 use Prim.Native.Nat.{ℕ}
 use mathlib.Core.Path.{_≡_}
-use mathlib.Core.Bool.{Bool, true, false, cond}
-use mathlib.Core.List.{List, []}
-use mathlib.Core.Option.{Option, none, some}
-use lib.ListN.{length, getD, take, drop}
-use lib.Dec.{eqb, ltb}
+use mathlib.Core.Bool.{Bool, true, false}
+use mathlib.Core.List.{List}
+use lib.ListN.{length, take, drop}
+use lib.Dec.{ltb}
 use Rattle.lists.specs.Lists.{overlay}
-use Rattle.primitive.specs.declared.table.Fields.{Fields}
-use Rattle.primitive.specs.declared.answers.Evaluated.{Evaluated}
-use Rattle.primitive.specs.Given.{Given, declined, refusedBy, spoken}
+use Rattle.kinds.specs.declared.table.Fields.{Fields}
+use Rattle.primitive.specs.declared.Evaluated.{Evaluated}
+use Rattle.kinds.specs.Given.{Given, declined, refusedBy, spoken}
 use Rattle.primitive.specs.Evaluate.{evaluatedGives, Evaluates}
 use Rattle.tables.specs.declared.Counts.{Counts}
 use Rattle.tables.specs.declared.Answer.{Answer}
-use Rattle.tables.specs.Tables.{Tables, countsOf, answerGives}
-use Rattle.simulator.specs.declared.Side.{Side}
-use Rattle.simulator.specs.declared.Side.the-variants.{Inputs, Outputs}
+use Rattle.tables.specs.Tables.{Tables, answerGives}
 use Rattle.simulator.specs.declared.Ran.{Ran}
-use Rattle.simulator.specs.declared.Listed.{Listed}
+use Rattle.questions.specs.declared.Listed.{Listed}
 use Rattle.simulator.specs.Calls.{ranGives}
-use Rattle.simulator.specs.Questions.{listGives}
-
--- The counts that words hold.
-unfoldable pub countsIn : List ℕ → Counts
-countsIn ws = countsOf (getD ws 0 0) (getD ws 1 0) (getD ws 2 0) (getD ws 3 0) (getD ws 4 0) (getD ws 5 0) (getD ws 6 0)
-
--- The values of what a call gives; a refused one has none.
-abbrev pub valuesOf : Option (List ℕ) → List ℕ
-valuesOf (some xs) = xs
-valuesOf none = []
-
-abbrev pub valuesIn : Given → List ℕ
-valuesIn g = valuesOf (g .values)
+use Rattle.questions.specs.Questions.{listGives}
+use Rattle.words.specs.Words.{countsIn, valuesIn}
 
 -- Fewer than n words are lent.
 abbrev pub short : List ℕ → ℕ → Bool
@@ -48,10 +32,6 @@ short ws n = ltb (length ws) n
 -- What a call says that is lent too few words: 2, at position 0.
 abbrev pub saysShort : ℕ
 saysShort = spoken (declined (refusedBy 2))
-
--- Side 0 is a component's inputs, any other its outputs.
-abbrev pub sideOf : ℕ → Side
-sideOf s = cond (eqb s 0) Inputs Outputs
 
 -- The fields that a call hands in one by one.
 abbrev pub fieldsFrom : ℕ → ℕ → ℕ → ℕ → ℕ → Fields

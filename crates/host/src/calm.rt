@@ -1,10 +1,10 @@
 // Calm or not, called from C.
 ghost use mathlib.Core.Bool.{_||_};
 ghost use Rattle.tables.specs.Tables.{tablesOf};
-ghost use Rattle.simulator.specs.Questions.{calmGives, AsksCalm};
+ghost use Rattle.questions.specs.Questions.{calmGives, AsksCalm};
 ghost use Rattle.host.specs.Host.{short, CallAsks};
-use crate::answers::lay_calm;
-use crate::counts::counts_in;
+use words::counts_in;
+use words::lay_calm;
 
 // Whether the current list names only Clocks: a word is lent for the answer, 1 or 0.
 #[no_mangle]
@@ -29,7 +29,7 @@ pub extern "C" fn berxundar_calm(
     if (counts.len() < 7) | (found.len() < 1) {
         return 131072;
     }
-    let answer = simulator::is_calm(
+    let answer = questions::is_calm(
         components,
         inputs,
         outputs,

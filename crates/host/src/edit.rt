@@ -2,9 +2,9 @@
 ghost use Rattle.tables.specs.Tables.{tablesOf};
 ghost use Rattle.simulator.specs.Calls.{Edits};
 ghost use Rattle.host.specs.Host.{short, CallChanges};
-use crate::counts::counts_in;
-use crate::counts::keep;
 use tables::FlatIdx;
+use words::counts_in;
+use words::keep;
 
 // An edit of the component at an index to a plain number.
 #[no_mangle]

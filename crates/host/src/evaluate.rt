@@ -1,7 +1,7 @@
 // Evaluating one component, called from C.
 ghost use Rattle.host.specs.Host.{fieldsFrom, CallEvaluates};
-use crate::answers::say_evaluated;
-use primitive::Fields;
+use kinds::Fields;
+use words::say_evaluated;
 
 // Evaluates a component of these fields: its inputs' numbers and their widths, its outputs' numbers, which are written, and their
 // widths, and the time.

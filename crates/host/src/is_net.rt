@@ -1,11 +1,11 @@
 // Whether tables are a net, called from C.
 ghost use mathlib.Core.List.{[]};
-ghost use Rattle.primitive.specs.Given.{giving};
+ghost use Rattle.kinds.specs.Given.{giving};
 ghost use Rattle.tables.specs.Tables.{tablesOf};
 ghost use Rattle.net.specs.Net.{Checks};
 ghost use Rattle.host.specs.Host.{short, CallAsks};
-use crate::answers::speak;
-use crate::counts::counts_in;
+use words::counts_in;
+use words::speak;
 
 // What every call on tables checks first: 2, 16.
 #[no_mangle]

@@ -4,7 +4,7 @@ ghost use Rattle.flatten.specs.Verdict.{sized};
 ghost use Rattle.tables.specs.Tables.{tablesOf};
 ghost use Rattle.load.specs.Load.{Loads};
 ghost use Rattle.host.specs.Host.{short, CallChanges};
-use crate::counts::keep_loaded;
+use words::keep_loaded;
 
 // Loads a drawing file into the tables.
 #[no_mangle]

@@ -1,12 +1,13 @@
 // A port's value, called from C.
 ghost use mathlib.Core.Bool.{_||_};
 ghost use Rattle.tables.specs.Tables.{tablesOf};
-ghost use Rattle.simulator.specs.Questions.{valueGives, AsksValue};
-ghost use Rattle.host.specs.Host.{short, sideOf, CallAsks};
-use crate::answers::lay_value;
-use crate::answers::side_of;
-use crate::counts::counts_in;
+ghost use Rattle.questions.specs.Questions.{valueGives, AsksValue};
+ghost use Rattle.host.specs.Host.{short, CallAsks};
+ghost use Rattle.words.specs.Words.{sideOf};
 use tables::FlatIdx;
+use words::counts_in;
+use words::lay_value;
+use words::side_of;
 
 // The value of a port: its number and its width, into two lent words. Side 0 is the component's inputs, any other its outputs.
 #[no_mangle]
@@ -34,7 +35,7 @@ pub extern "C" fn berxundar_value(
     if (counts.len() < 7) | (found.len() < 2) {
         return 131072;
     }
-    let answer = simulator::value_of(
+    let answer = questions::value_of(
         components,
         inputs,
         outputs,

@@ -2,8 +2,8 @@
 ghost use Rattle.tables.specs.Tables.{tablesOf};
 ghost use Rattle.simulator.specs.Calls.{Rounds};
 ghost use Rattle.host.specs.Host.{short, CallChanges};
-use crate::counts::counts_in;
-use crate::counts::keep;
+use words::counts_in;
+use words::keep;
 
 // A round at a time.
 #[no_mangle]

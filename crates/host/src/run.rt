@@ -3,8 +3,8 @@ ghost use mathlib.Core.Bool.{_||_};
 ghost use Rattle.tables.specs.Tables.{tablesOf};
 ghost use Rattle.simulator.specs.Calls.{Runs};
 ghost use Rattle.host.specs.Host.{short, CallRuns};
-use crate::answers::lay_run;
-use crate::counts::counts_in;
+use words::counts_in;
+use words::lay_run;
 
 // Rounds at a time until calm, at most so many. Two words are lent for the rounds run and the evaluations made.
 #[no_mangle]

@@ -1,11 +1,11 @@
 // A component's sources, called from C.
 ghost use mathlib.Core.Bool.{_||_};
 ghost use Rattle.tables.specs.Tables.{tablesOf};
-ghost use Rattle.simulator.specs.Questions.{AsksSources};
+ghost use Rattle.questions.specs.Questions.{AsksSources};
 ghost use Rattle.host.specs.Host.{short, CallLists};
-use crate::answers::lay_listed;
-use crate::counts::counts_in;
 use tables::FlatIdx;
+use words::counts_in;
+use words::lay_listed;
 
 // The sources of the component at an index, into a list of 256; how many they are, into a lent word.
 #[no_mangle]
@@ -32,7 +32,7 @@ pub extern "C" fn berxundar_sources(
     if (counts.len() < 7) | (found.len() < 1) {
         return 131072;
     }
-    let answer = simulator::sources_of(
+    let answer = questions::sources_of(
         components,
         inputs,
         outputs,

@@ -10,8 +10,8 @@ use lib.ListN.{length}
 use lib.Seq.{length-sets}
 use Rattle.lists.specs.Lists.{from, joined}
 use Rattle.lists.proofs.ListsLaws.{from-end, joined-step}
-use Rattle.primitive.specs.Kinds.{kindOf}
-use Rattle.primitive.proofs.KindsLaws.{kindOf-none}
+use Rattle.kinds.specs.Kinds.{kindOf}
+use Rattle.kinds.proofs.KindsLaws.{kindOf-none}
 use Rattle.text.specs.Text.{written, placeAfter}
 use Rattle.text.proofs.TextLaws.{put-both, ToCome, begun, put-piece, ended}
 use Rattle.lines.specs.Lines.{nameOf, Puts}

@@ -11,10 +11,10 @@ use Prim.Native.String.{String, [] as none, _∷_ as _and_}
 use mathlib.Core.List.{List, [], _∷_, _++_}
 use lib.ListN.{length}
 use Rattle.lists.specs.Lists.{from, joined}
-use Rattle.primitive.specs.declared.kinds.Kind.{Kind}
-use Rattle.primitive.specs.declared.kinds.Kind.the-variants.{Composite, And, Or, Not, Nand, Nor, Xor, Switch, Input, Output, Splitter, Joiner, Clock, Const}
-use Rattle.primitive.specs.declared.answers.Refusal.{Refusal}
-use Rattle.primitive.specs.Kinds.{kindOf}
+use Rattle.kinds.specs.declared.Kind.{Kind}
+use Rattle.kinds.specs.declared.Kind.the-variants.{Composite, And, Or, Not, Nand, Nor, Xor, Switch, Input, Output, Splitter, Joiner, Clock, Const}
+use Rattle.kinds.specs.declared.answers.Refusal.{Refusal}
+use Rattle.kinds.specs.Kinds.{kindOf}
 use Rattle.tables.specs.declared.Wire.{Wire}
 use Rattle.tables.specs.Tables.{Tables, fieldsAt, idAt, wireAt, indexes}
 use Rattle.text.specs.Text.{written, placeAfter, numeral, spaced}

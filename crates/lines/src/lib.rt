@@ -3,12 +3,12 @@ ghost use mathlib.Core.Path.{_≡_};
 ghost use mathlib.Core.List.{[], _∷_, _++_};
 ghost use Prim.Native.Nat.{_≤_, _<_};
 ghost use lib.ListN.{length, take};
-ghost use Rattle.primitive.specs.Kinds.{kindOf};
+ghost use Rattle.kinds.specs.Kinds.{kindOf};
 ghost use Rattle.tables.specs.Tables.{tablesOf, countsOf};
 ghost use Rattle.tables.specs.Words.{fieldsIn, idIn};
 ghost use Rattle.text.specs.Text.{numeral};
 ghost use Rattle.lines.specs.Lines.{nameOf, componentLine, componentsText, wireLine, wiresText, roundLine, refusedLine, Puts};
-use primitive::Refusal;
+use kinds::Refusal;
 use tables::Counts;
 use tables::Wire;
 

@@ -15,9 +15,9 @@ use Rattle.lists.proofs.ListsLaws.{and-left, every-from}
 use Rattle.lists.proofs.MembersLaws.{In}
 use Rattle.value.specs.Value.{below}
 use Rattle.value.proofs.ValueLaws.{below-lt}
-use Rattle.primitive.specs.declared.kinds.Kind.{Kind}
-use Rattle.primitive.specs.declared.kinds.Kind.the-variants.{Composite, And, Or, Not, Nand, Nor, Xor, Switch, Input, Output, Splitter, Joiner, Clock, Const}
-use Rattle.primitive.specs.Kinds.{kindOf}
+use Rattle.kinds.specs.declared.Kind.{Kind}
+use Rattle.kinds.specs.declared.Kind.the-variants.{Composite, And, Or, Not, Nand, Nor, Xor, Switch, Input, Output, Splitter, Joiner, Clock, Const}
+use Rattle.kinds.specs.Kinds.{kindOf}
 use Rattle.component.specs.Record.{IsBytes}
 use Rattle.component.specs.declared.Verdict.{Verdict}
 use Rattle.component.specs.declared.Verdict.the-variants.{Accepted, Refused}

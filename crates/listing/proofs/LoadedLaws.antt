@@ -6,9 +6,9 @@ use Prim.Native.Nat.{ℕ, _≤_}
 use native.Mathlib.Omega.{arith}
 use lib.ListN.{length}
 use lib.Seq.{length-sets}
-use Rattle.primitive.specs.declared.answers.Refusal.{Refusal}
-use Rattle.primitive.specs.Given.{done, declined}
-use Rattle.primitive.proofs.GivenLaws.{done-declined, declined-refusal}
+use Rattle.kinds.specs.declared.answers.Refusal.{Refusal}
+use Rattle.kinds.specs.Given.{done, declined}
+use Rattle.kinds.proofs.GivenLaws.{done-declined, declined-refusal}
 use Rattle.component.specs.declared.Verdict.{Verdict}
 use Rattle.component.specs.declared.Verdict.the-variants.{Accepted, Refused as NotAccepted}
 use Rattle.component.specs.Record.{IsBytes}

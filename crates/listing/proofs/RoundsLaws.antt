@@ -9,19 +9,19 @@ use borrow.Author.Tests.{ltb-false}
 use lib.ListN.{length}
 use lib.Dec.{eqb, ltb}
 use Rattle.value.specs.Value.{level}
-use Rattle.primitive.specs.Given.{done, declined, refusedBy, giving}
-use Rattle.primitive.proofs.GivenLaws.{done-declined}
+use Rattle.kinds.specs.Given.{done, declined, refusedBy, giving}
+use Rattle.kinds.proofs.GivenLaws.{done-declined}
 use Rattle.tables.specs.declared.Counts.{Counts}
 use Rattle.tables.specs.declared.Answer.{Answer}
 use Rattle.tables.specs.declared.Answer.the-variants.{Done, Refused}
 use Rattle.tables.specs.Tables.{Tables, currentList, answerGives, countsAfter}
 use Rattle.net.specs.Net.{netNumber}
-use Rattle.simulator.specs.declared.Calm.{Calm}
-use Rattle.simulator.specs.declared.Calm.the-variants.{Is as CalmIs}
+use Rattle.questions.specs.declared.Calm.{Calm}
+use Rattle.questions.specs.declared.Calm.the-variants.{Is as CalmIs}
 use Rattle.rounds.specs.Round.{calm}
 use Rattle.simulator.specs.Calls.{roundTables, Rounds}
-use Rattle.simulator.specs.Questions.{AsksCalm}
-use Rattle.simulator.proofs.AnswersLaws.{calmGives-is}
+use Rattle.questions.specs.Questions.{AsksCalm}
+use Rattle.questions.proofs.AnswersLaws.{calmGives-is}
 use Rattle.simulator.proofs.CallsLaws.{counted}
 use Rattle.simulator.proofs.Kept.{roundTables-net}
 use Rattle.text.proofs.TextLaws.{ToCome, begun, put-piece}

@@ -3,8 +3,8 @@
 use mathlib.Core.Path.{_≡_}
 use mathlib.Core.Bool.{Bool, true}
 use Rattle.tables.specs.Tables.{Tables}
-use Rattle.simulator.specs.declared.Calm.{Calm}
-use Rattle.simulator.specs.declared.Calm.the-variants.{Is as CalmIs, Refused as NoCalm}
+use Rattle.questions.specs.declared.Calm.{Calm}
+use Rattle.questions.specs.declared.Calm.the-variants.{Is as CalmIs, Refused as NoCalm}
 use Rattle.rounds.specs.Round.{calm}
 use Rattle.simulator.specs.Calls.{roundTables}
 

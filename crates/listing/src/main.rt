@@ -11,7 +11,7 @@ ghost use Rattle.lines.specs.Lines.{Puts};
 ghost use Rattle.listing.specs.Listing.{fresh, ending, roundLines, listing};
 ghost use Rattle.listing.specs.Made.{RoundMade, calmOf};
 use libc::STDIN_FILENO;
-use simulator::Calm;
+use questions::Calm;
 use tables::Answer;
 use tables::Counts;
 
@@ -83,7 +83,7 @@ fn round_left(
         0,
     );
     let new = counts_of(made);
-    let asked = simulator::is_calm(
+    let asked = questions::is_calm(
         components,
         inputs,
         outputs,

@@ -11,7 +11,7 @@ use lib.Seq.{sets}
 use Rattle.lists.specs.Lists.{from, joined, overlay}
 use Rattle.lists.proofs.MembersLaws.{from-length}
 use Rattle.lists.proofs.OverlayLaws.{sets-overlay}
-use Rattle.primitive.specs.declared.answers.Refusal.{Refusal}
+use Rattle.kinds.specs.declared.answers.Refusal.{Refusal}
 use Rattle.component.specs.declared.Verdict.{Verdict}
 use Rattle.component.specs.declared.Verdict.the-variants.{Accepted, Refused}
 use Rattle.component.specs.Record.{recordAt, recordCount}

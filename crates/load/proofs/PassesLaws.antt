@@ -12,9 +12,9 @@ use lib.Seq.{sets}
 use Rattle.lists.specs.Lists.{from, keep, total, joined, overlay}
 use Rattle.lists.proofs.MembersLaws.{total-append}
 use Rattle.lists.proofs.OverlayLaws.{joined-width}
-use Rattle.primitive.specs.declared.table.Fields.{Fields}
-use Rattle.primitive.specs.Kinds.{primitive}
-use Rattle.primitive.specs.declared.Id.{Id}
+use Rattle.kinds.specs.declared.table.Fields.{Fields}
+use Rattle.kinds.specs.Kinds.{primitive}
+use Rattle.kinds.specs.declared.Id.{Id}
 use Rattle.component.specs.declared.Record.{Record}
 use Rattle.component.specs.declared.Stands.{Stands}
 use Rattle.component.specs.declared.Stands.the-variants.{Component as SeenComponent, Nothing}

@@ -11,12 +11,12 @@ use lib.Seq.{sets}
 use Rattle.lists.specs.Lists.{from, joined, overlay}
 use Rattle.lists.proofs.MembersLaws.{joined-length}
 use Rattle.lists.proofs.OverlayLaws.{total-members}
-use Rattle.primitive.specs.declared.kinds.Kind.the-variants.{Const}
-use Rattle.primitive.specs.declared.table.Fields.{Fields}
-use Rattle.primitive.specs.Kinds.{numberOf, is, primitive, obeys}
+use Rattle.kinds.specs.declared.Kind.the-variants.{Const}
+use Rattle.kinds.specs.declared.table.Fields.{Fields}
+use Rattle.kinds.specs.Kinds.{numberOf, is, primitive, obeys}
 use Rattle.primitive.specs.Evaluate.{starting}
-use Rattle.primitive.proofs.UpdateLaws.{obeyed-row}
-use Rattle.primitive.specs.declared.Id.{Id}
+use Rattle.kinds.proofs.ObeysLaws.{obeyed-row}
+use Rattle.kinds.specs.declared.Id.{Id}
 use Rattle.component.specs.declared.Record.{Record}
 use Rattle.component.specs.declared.Verdict.the-variants.{Accepted}
 use Rattle.component.specs.Record.{recordAt, recordCount, fieldsOf, outputsOf, isPrimitive}

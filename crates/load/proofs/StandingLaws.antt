@@ -12,10 +12,10 @@ use lib.ListN.{length, getD, set, length-map, length-append}
 use lib.Seq.{sets, getD-set-same, getD-set-other}
 use Rattle.lists.specs.Lists.{from, keep, joined, overlay}
 use Rattle.lists.proofs.MembersLaws.{keep-length, from-length}
-use Rattle.primitive.specs.declared.kinds.Kind.the-variants.{Clock, Const}
-use Rattle.primitive.specs.declared.table.Fields.{Fields}
-use Rattle.primitive.specs.Kinds.{is}
-use Rattle.primitive.specs.declared.Id.{Id}
+use Rattle.kinds.specs.declared.Kind.the-variants.{Clock, Const}
+use Rattle.kinds.specs.declared.table.Fields.{Fields}
+use Rattle.kinds.specs.Kinds.{is}
+use Rattle.kinds.specs.declared.Id.{Id}
 use Rattle.component.specs.declared.Record.{Record}
 use Rattle.component.specs.declared.Verdict.the-variants.{Accepted}
 use Rattle.component.specs.Record.{recordAt, recordCount, fieldsOf, isPrimitive}

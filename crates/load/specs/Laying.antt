@@ -10,16 +10,16 @@ use lib.ListN.{length, getD}
 use lib.Seq.{sets}
 use lib.Dec.{eqb}
 use Rattle.lists.specs.Lists.{joined}
-use Rattle.primitive.specs.declared.table.Fields.{Fields}
-use Rattle.primitive.specs.declared.kinds.Kind.the-variants.{Clock, Const}
-use Rattle.primitive.specs.Kinds.{is}
+use Rattle.kinds.specs.declared.table.Fields.{Fields}
+use Rattle.kinds.specs.declared.Kind.the-variants.{Clock, Const}
+use Rattle.kinds.specs.Kinds.{is}
 use Rattle.primitive.specs.Evaluate.{starting}
-use Rattle.primitive.specs.declared.Id.{Id}
+use Rattle.kinds.specs.declared.Id.{Id}
 use Rattle.component.specs.declared.Record.{Record}
 use Rattle.component.specs.Record.{recordAt, recordCount, fieldsOf, isPrimitive}
 use Rattle.component.specs.Reading.{idOf, formOf}
 use Rattle.component.specs.Drawing.{primitivesBefore, inputsBefore, outputsBefore}
-use Rattle.component.specs.Index.{IsIndex}
+use Rattle.index.specs.Index.{IsIndex}
 use Rattle.component.specs.declared.Verdict.the-variants.{Accepted}
 use Rattle.flatten.specs.declared.Pin.{Pin}
 use Rattle.flatten.specs.Descent.{comesFrom, goesTo, flat}

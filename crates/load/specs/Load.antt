@@ -4,8 +4,8 @@ use mathlib.Core.Bool.{cond, _||_}
 use mathlib.Core.List.{List, map}
 use lib.ListN.{length, replicate}
 use Rattle.lists.specs.Lists.{from, keep, joined, overlay}
-use Rattle.primitive.specs.declared.kinds.Kind.the-variants.{Clock, Const}
-use Rattle.primitive.specs.Kinds.{is}
+use Rattle.kinds.specs.declared.Kind.the-variants.{Clock, Const}
+use Rattle.kinds.specs.Kinds.{is}
 use Rattle.primitive.specs.Evaluate.{starting}
 use Rattle.component.specs.declared.Record.{Record}
 use Rattle.component.specs.declared.Verdict.{Verdict}

@@ -6,8 +6,8 @@ ghost use Prim.Native.Nat.{_+_, _≤_, _<_};
 ghost use lib.ListN.{length};
 ghost use lib.Seq.{sets};
 ghost use Rattle.lists.specs.Lists.{from, overlay};
-ghost use Rattle.primitive.specs.declared.kinds.Kind.the-variants.{Clock, Const};
-ghost use Rattle.primitive.specs.Kinds.{is};
+ghost use Rattle.kinds.specs.declared.Kind.the-variants.{Clock, Const};
+ghost use Rattle.kinds.specs.Kinds.{is};
 ghost use Rattle.component.specs.Record.{recordAt, recordCount};
 ghost use Rattle.component.specs.declared.Verdict.the-variants.{Accepted};
 ghost use Rattle.flatten.specs.Verdict.{verdict};
@@ -16,8 +16,8 @@ ghost use Rattle.load.specs.Laying.{standingBy, stoodBy, IsFlat};
 use crate::rows::Drawn;
 use crate::rows::drawn_at;
 use component::is_primitive_at;
-use primitive::Fields;
-use primitive::Kind;
+use kinds::Fields;
+use kinds::Kind;
 
 // How many components stand before, and how many of them are in the standing list.
 pub struct Stood {
@@ -41,8 +41,7 @@ pub(crate) fn count_up(list: &mut [u16], count: usize)
 fn stands(fields: Fields) -> bool
     ensures { λ r. ⌜ r ≡ (is Const fields || is Clock fields) ⌝ }
 {
-    (fields.kind == primitive::number_of(Kind::Const))
-        | (fields.kind == primitive::number_of(Kind::Clock))
+    (fields.kind == kinds::number_of(Kind::Const)) | (fields.kind == kinds::number_of(Kind::Clock))
 }
 
 // Lays the index of a primitive that stands behind those before.

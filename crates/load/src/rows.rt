@@ -13,9 +13,9 @@ ghost use Rattle.load.specs.Laying.{seen, rowBy, beforeBy, beforeAt, out
 ghost use Rattle.tables.specs.Words.{rowPlace};
 use component::Stands;
 use component::component_at;
-use primitive::Fields;
-use primitive::Id;
-use primitive::Kind;
+use kinds::Fields;
+use kinds::Id;
+use kinds::Kind;
 
 // A primitive of the drawing, or any other record.
 pub enum Drawn {
@@ -37,7 +37,7 @@ pub(crate) fn drawn_at(file: &[u8], p: usize) -> Drawn
     let Stands::Component { id, fields, .. } = component_at(file, p) else {
         return Drawn::Other;
     };
-    if primitive::is_primitive(fields) {
+    if kinds::is_primitive(fields) {
         return Drawn::Primitive { id, fields };
     }
     Drawn::Other
@@ -115,7 +115,7 @@ fn lay_output(outputs: &mut [u64], at: usize, drawn: Drawn) -> usize
     let Drawn::Primitive { fields, .. } = drawn else {
         return at;
     };
-    if fields.kind == primitive::number_of(Kind::Const) {
+    if fields.kind == kinds::number_of(Kind::Const) {
         outputs[at] = fields.parameter;
         return at + 1;
     }

@@ -13,8 +13,8 @@ use Rattle.lists.proofs.MembersLaws.{In, Distinct, every-complete, map-sound, f
 use Rattle.lists.proofs.MembersLaws.{distinct-complete}
 use Rattle.lists.proofs.OverlayLaws.{total-indexes}
 use Rattle.value.specs.Value.{below}
-use Rattle.primitive.specs.declared.table.Fields.{Fields}
-use Rattle.primitive.specs.Kinds.{primitive, obeys, inputWidth, outputWidth}
+use Rattle.kinds.specs.declared.table.Fields.{Fields}
+use Rattle.kinds.specs.Kinds.{primitive, obeys, inputWidth, outputWidth}
 use Rattle.component.specs.declared.Record.{Record}
 use Rattle.component.specs.Record.{fieldsOf, isPrimitive}
 use Rattle.component.specs.Reading.{idOf}

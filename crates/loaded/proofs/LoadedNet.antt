@@ -13,9 +13,9 @@ use Rattle.lists.specs.Lists.{from, keep}
 use Rattle.lists.proofs.MembersLaws.{In, map-sound, keep-sound, from0-sound, distinct-from, distinct-keep, distinct-map}
 use Rattle.lists.proofs.NamesLaws.{Names, names-complete}
 use Rattle.lists.proofs.OverlayLaws.{slice-at}
-use Rattle.primitive.specs.declared.kinds.Kind.the-variants.{Clock, Const}
-use Rattle.primitive.specs.declared.table.Fields.{Fields}
-use Rattle.primitive.specs.Kinds.{is, inputWidth, outputWidth}
+use Rattle.kinds.specs.declared.Kind.the-variants.{Clock, Const}
+use Rattle.kinds.specs.declared.table.Fields.{Fields}
+use Rattle.kinds.specs.Kinds.{is, inputWidth, outputWidth}
 use Rattle.value.specs.Value.{allFit}
 use Rattle.component.specs.declared.Record.{Record}
 use Rattle.component.specs.Record.{fieldsOf, inputsOf, isPrimitive}

@@ -11,12 +11,12 @@ use lib.ListN.{replicate}
 use lib.Pow.{pow-pos}
 use Rattle.lists.proofs.ListsLaws.{and-right}
 use Rattle.value.specs.Value.{widest, below, allFit}
-use Rattle.primitive.specs.declared.kinds.Kind.the-variants.{Const}
-use Rattle.primitive.specs.declared.table.Fields.{Fields}
-use Rattle.primitive.specs.Kinds.{numberOf, kindOf, is, primitive, obeys, inputWidth, outputWidth}
+use Rattle.kinds.specs.declared.Kind.the-variants.{Const}
+use Rattle.kinds.specs.declared.table.Fields.{Fields}
+use Rattle.kinds.specs.Kinds.{numberOf, kindOf, is, primitive, obeys, inputWidth, outputWidth}
 use Rattle.primitive.specs.Evaluate.{starting}
-use Rattle.primitive.proofs.KindsLaws.{kindOf-numberOf}
-use Rattle.primitive.proofs.UpdateLaws.{obeyed-row}
+use Rattle.kinds.proofs.KindsLaws.{kindOf-numberOf}
+use Rattle.kinds.proofs.ObeysLaws.{obeyed-row}
 use Rattle.primitive.proofs.FitLaws.{allBelow, inputs-below, outputs-below}
 
 -- 0 lies below every power, as often as it stands.

@@ -4,26 +4,26 @@
 -- Not here: laws of countsWithin, kindsObeyed and portsFollow (ClausesLaws).
 -- Assumes nothing.
 use mathlib.Core.Path.{_≡_, refl, _∙_}
-use mathlib.Core.Bool.{Bool, true, false, not, _&&_, _||_}
+use mathlib.Core.Bool.{Bool, true, false, not, _&&_, _||_, cond}
 use mathlib.Core.List.{List, [], _∷_, map}
 use Prim.Native.Nat.{ℕ, _≤_, _<_}
 use native.Mathlib.Omega.{arith}
-use borrow.Author.Tests.{ltb-true, eqb-true, not-false}
+use borrow.Author.Tests.{ltb-true, eqb-true, not-false, eq-eqb, ne-eqb}
 use lib.ListN.{length, getD}
 use lib.Dec.{eqb, ltb}
 use Rattle.lists.specs.Lists.{from, every, distinct}
 use Rattle.lists.proofs.ListsLaws.{and-left, and-right, every-from, refusal-first, refusal-rest}
 use Rattle.lists.proofs.MembersLaws.{In, Distinct, every-sound, map-complete, distinct-sound, distinct-bound, from-length, from0-complete}
 use Rattle.value.specs.Value.{allFit}
-use Rattle.primitive.specs.declared.kinds.Kind.the-variants.{Const}
-use Rattle.primitive.specs.Kinds.{is, inputWidth, outputWidth}
+use Rattle.kinds.specs.declared.Kind.the-variants.{Const}
+use Rattle.kinds.specs.Kinds.{is, inputWidth, outputWidth}
 use Rattle.tables.specs.declared.End.{End}
 use Rattle.tables.specs.declared.Wire.{Wire}
 use Rattle.tables.specs.declared.Counts.{Counts}
 use Rattle.tables.specs.Tables.{Tables, fullSize, fieldsAt, firstOutput, inputPlace, inputsAt, outputsAt, wireAt, wiresIn, currentList, followingList, standingList}
 use Rattle.tables.proofs.PartsLaws.{AllTrue, parts-sound, parts-complete}
 use Rattle.tables.proofs.SizesLaws.{Full, fullSize-sound}
-use Rattle.net.specs.Net.{countsWithin, kindsObeyed, idsDistinct, portsFollow, valuesFit, constsHeld, isOutput, isInput, wiresFit, inputsOnce, names, isCircuit, isNet, netNumber}
+use Rattle.net.specs.Net.{countsWithin, kindsObeyed, idsDistinct, portsFollow, valuesFit, constsHeld, isOutput, isInput, wiresFit, inputsOnce, names, isCircuit, isNet, netNumber, onNet}
 use Rattle.net.specs.Parts.{lent, PlacesInside, fitAt, heldAt}
 use Rattle.net.specs.Net.{wireFits}
 use Rattle.net.proofs.ClausesLaws.{Within, countsWithin-sound, portsFollow-inputs}
@@ -269,3 +269,18 @@ module _ (T : Tables) where
 
     pub netNumber-sizes : Full T
     netNumber-sizes = fullSize-sound T netNumber-full
+
+-- A call that checks 2 and 16 first: their number, or m, the number of the rest.
+module _ (T : Tables) (m : ℕ) where
+  pub number-refused : (k : ℕ) → k ≡ netNumber T → (k ≡ 0 → ⊥) → onNet T m ≡ k
+  number-refused k e ne = rw (← e, ne-eqb k 0 ne)
+
+  pub number-net : netNumber T ≡ 0 → onNet T m ≡ m
+  number-net e = rw (eq-eqb (netNumber T) 0 e)
+
+  pub number-passed : onNet T m ≡ 0 → netNumber T ≡ 0
+  number-passed z = by-test (eqb (netNumber T) 0) refl z
+    where
+      by-test : (b : Bool) → eqb (netNumber T) 0 ≡ b → cond b m (netNumber T) ≡ 0 → netNumber T ≡ 0
+      by-test true q u = eqb-true (netNumber T) 0 q
+      by-test false q u = u

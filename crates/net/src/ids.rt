@@ -8,7 +8,7 @@ ghost use Rattle.value.specs.Value.{below};
 ghost use Rattle.net.specs.Net.{idsDistinct};
 ghost use Rattle.net.specs.Parts.{lent};
 ghost use Rattle.tables.specs.Words.{idIn};
-use primitive::Id;
+use kinds::Id;
 use tables::Counts;
 
 // Whether the id of each of the first count components has 32 bits.

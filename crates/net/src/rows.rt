@@ -15,7 +15,7 @@ fn row_obeyed(components: &[u64], i: usize) -> bool
         return false;
     }
     let f = tables::fields_at(components, i);
-    primitive::is_primitive(f) & primitive::obeys(f)
+    kinds::is_primitive(f) & kinds::obeys(f)
 }
 
 // Whether all components are and do.

@@ -9,7 +9,7 @@ ghost use Rattle.tables.specs.Tables.{numbers};
 ghost use Rattle.tables.specs.Words.{fieldsFit, fieldsIn};
 ghost use Rattle.net.specs.Net.{kindsObeyed, valuesFit, constsHeld};
 ghost use Rattle.net.specs.Parts.{lent, InputsInside, OutputsInside, PortsInside, fitAt, heldAt};
-use primitive::Kind;
+use kinds::Kind;
 use tables::Counts;
 use value::Value;
 
@@ -42,8 +42,8 @@ fn row_fits(components: &[u64], inputs: &[u64], outputs: &[u64], i: usize) -> bo
     let f = tables::fields_at(components, i);
     let first_input = tables::first_input(components, i);
     let first_output = tables::first_output(components, i);
-    let entering = primitive::input_width(f);
-    let leaving = primitive::output_width(f);
+    let entering = kinds::input_width(f);
+    let leaving = kinds::output_width(f);
     all_fit(inputs, first_input, f.inputs as usize, entering)
         & all_fit(outputs, first_output, f.outputs as usize, leaving)
 }

@@ -23,8 +23,8 @@ fn wire_fits(components: &[u64], counts: Counts, wire: Wire) -> bool
     }
     let source = tables::fields_at(components, from);
     let target = tables::fields_at(components, to);
-    let leaving = primitive::output_width(source);
-    let entering = primitive::input_width(target);
+    let leaving = kinds::output_width(source);
+    let entering = kinds::input_width(target);
     (wire.src.port < source.outputs) & (wire.dst.port < target.inputs) & (leaving == entering)
 }
 

@@ -1,6 +1,6 @@
 -- Laws of evaluating a single component: the loop over its values, and the answer after each check.
 -- Assumes nothing.
-use mathlib.Core.Path.{_≡_, sym, ap, _∙_}
+use mathlib.Core.Path.{_≡_, sym, ap, _∙_, refl}
 use mathlib.Core.Bool.{Bool, true, false, not, _&&_, _||_}
 use mathlib.Core.List.{List, [], _∷_, _++_}
 use Prim.Native.Nat.{ℕ, _+_, _-_, _<_, _≤_}
@@ -13,12 +13,14 @@ use lib.Dec.{ltb}
 use Rattle.lists.specs.Lists.{from, every, refusal, _if_}
 use Rattle.lists.proofs.ListsLaws.{or-left, or-right, refusal-first, refusal-rest, every-fails, every-next, every-end}
 use Rattle.value.specs.Value.{ofWidth, fitsIn}
-use Rattle.primitive.specs.declared.table.Fields.{Fields}
-use Rattle.primitive.specs.declared.answers.Evaluated.the-variants.{Done, Refused}
-use Rattle.primitive.specs.Kinds.{forCustom, unknown, primitive, obeys, inputWidth, outputWidth}
+use Rattle.kinds.specs.declared.table.Fields.{Fields}
+use Rattle.primitive.specs.declared.Evaluated.{Evaluated}
+use Rattle.primitive.specs.declared.Evaluated.the-variants.{Done, Refused}
+use Rattle.kinds.proofs.GivenLaws.{done-declined, declined-refusal}
+use Rattle.kinds.specs.Kinds.{forCustom, unknown, primitive, obeys, inputWidth, outputWidth}
 use Rattle.primitive.specs.Evaluate.{fitting, outputsAfter, evaluateNumber, evaluateOutputs, evaluatedGives}
 use Rattle.primitive.specs.Own.{Own}
-use Rattle.primitive.specs.Given.{giving}
+use Rattle.kinds.specs.Given.{giving}
 
 -- Value i fits a port of w bits.
 abbrev pub fitsAt : ℕ → List ℕ → List ℕ → ℕ → Bool
@@ -155,3 +157,10 @@ module _ (f : Fields) (xs vs ys ws : List ℕ) where
       where
         laid : f .outputs ≤ length ys → zs ++ drop (f .outputs) ys ≡ sets ys 0 zs
         laid h = rw (← l) (sym (sets-eq zs ys 0 (omega arith) ∙ rw zero-add))
+
+-- Answers that give the same are the same.
+pub evaluatedGives-is : (a b : Evaluated) → evaluatedGives a ≡ evaluatedGives b → a ≡ b
+evaluatedGives-is Done Done e = refl
+evaluatedGives-is Done (Refused r) e = absurd (done-declined [] r e)
+evaluatedGives-is (Refused r) Done e = absurd (done-declined [] r (sym e))
+evaluatedGives-is (Refused r) (Refused s) e = ap Refused (declined-refusal r s e)

@@ -12,15 +12,16 @@ use Rattle.lists.specs.Lists.{within, from, every}
 use Rattle.lists.proofs.ListsLaws.{and-left, and-right}
 use Rattle.value.specs.Value.{widest, below, ofWidth, allFit, bitOf, complement}
 use Rattle.value.proofs.ValueLaws.{bitOf-fits, complement-fits}
-use Rattle.primitive.specs.declared.kinds.Kind.{Kind}
-use Rattle.primitive.specs.declared.kinds.Kind.the-variants.{Composite, And, Or, Not, Nand, Nor, Xor, Switch, Input, Output, Splitter, Joiner, Clock, Const}
-use Rattle.primitive.specs.declared.table.Fields.{Fields}
-use Rattle.primitive.specs.Kinds.{numberOf, kindOf, row, only, _to_, primitive, obeys, inputWidth, outputWidth}
+use Rattle.kinds.specs.declared.Kind.{Kind}
+use Rattle.kinds.specs.declared.Kind.the-variants.{Composite, And, Or, Not, Nand, Nor, Xor, Switch, Input, Output, Splitter, Joiner, Clock, Const}
+use Rattle.kinds.specs.declared.table.Fields.{Fields}
+use Rattle.kinds.specs.Kinds.{numberOf, kindOf, row, only, _to_, primitive, obeys, inputWidth, outputWidth}
 use Rattle.primitive.specs.Evaluate.{one, allHigh, anyHigh, oddHigh, clockHigh, join, rule, outputsAfter}
 use Rattle.primitive.specs.Own.{Own}
-use Rattle.primitive.proofs.KindsLaws.{numberOf-kindOf}
+use Rattle.kinds.proofs.KindsLaws.{numberOf-kindOf}
 use Rattle.primitive.proofs.RulesLaws.{join-lt}
-use Rattle.primitive.proofs.UpdateLaws.{Inside, InRow, obeys-row, obeyed-row, obeyed-primitive, obeyed-kind, leaves, outputsAfter-rule, outputsAfter-left}
+use Rattle.primitive.proofs.UpdateLaws.{leaves, outputsAfter-rule, outputsAfter-left}
+use Rattle.kinds.proofs.ObeysLaws.{Inside, InRow, obeys-row, obeyed-row, obeyed-primitive, obeyed-kind}
 
 -- All numbers of a list lie below 2^w.
 abbrev pub allBelow : ℕ → List ℕ → Bool

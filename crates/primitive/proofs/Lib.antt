@@ -1,7 +1,5 @@
-pub mod KindsLaws
 pub mod RulesLaws
 pub mod FoldLaws
 pub mod UpdateLaws
 pub mod FitLaws
 pub mod EvaluateLaws
-pub mod GivenLaws

@@ -1,96 +1,16 @@
--- What a component that obeys the table of kinds has, and what an evaluation leaves, by its kind.
+-- What an evaluation leaves, by a component's kind.
 -- Assumes nothing.
-use mathlib.Core.Path.{_≡_, ap, _∙_}
-use mathlib.Core.Bool.{Bool, true, false, not, _&&_, _||_}
+use mathlib.Core.Path.{_≡_}
+use mathlib.Core.Bool.{Bool, true, false, _||_}
 use mathlib.Core.List.{List}
-use Prim.Native.Nat.{ℕ, _≤_}
-use native.Mathlib.Omega.{arith}
-use borrow.Author.Tests.{leb-true}
-use lib.Dec.{eqb, leb}
-use Rattle.lists.proofs.ListsLaws.{and-left, and-right, within-least, within-most}
-use Rattle.primitive.specs.declared.kinds.Kind.{Kind}
-use Rattle.primitive.specs.declared.kinds.Kind.the-variants.{Switch, Const}
-use Rattle.primitive.specs.declared.kinds.Seen.{Seen}
-use Rattle.primitive.specs.declared.kinds.Seen.the-variants.{Known, Kept, Unknown}
-use Rattle.primitive.specs.declared.table.Fields.{Fields}
-use Rattle.primitive.specs.declared.table.Span.{Span}
-use Rattle.primitive.specs.declared.table.Row.{Row}
-use Rattle.primitive.specs.Kinds.{numberOf, seenAs, forCustom, unknown, kindOf, primitive, row, rowOf, spans, obeys}
+use Prim.Native.Nat.{ℕ}
+use lib.Dec.{eqb}
+use Rattle.kinds.specs.declared.Kind.{Kind}
+use Rattle.kinds.specs.declared.Kind.the-variants.{Switch, Const}
+use Rattle.kinds.specs.declared.table.Fields.{Fields}
+use Rattle.kinds.specs.Kinds.{numberOf}
 use Rattle.primitive.specs.Evaluate.{rule, functionOf, outputsAfter}
-use Rattle.primitive.proofs.KindsLaws.{isKind, kindOf-numberOf, seenAs-kind}
-
--- x lies in a span.
-pub record Inside (s : Span) (x : ℕ) : Type 0 where
-  pub least : s .least ≤ x
-  pub most : x ≤ s .most
-
-inside : (s : Span) (x : ℕ) → spans s x ≡ true → Inside s x
-inside s x e = record { least = within-least (s .least) (s .most) x e; most = within-most (s .least) (s .most) x e }
-
--- A component's fields lie in the columns of a row.
-pub record InRow (r : Row) (f : Fields) : Type 0 where
-  pub inputs : Inside (r .inputs) (f .inputs)
-  pub outputs : Inside (r .outputs) (f .outputs)
-  pub width : Inside (r .width) (f .width)
-  pub parameter : Inside (r .parameter) (f .parameter)
-
--- The columns of the table, as tests of a component.
-abbrev inputsRight : Fields → Bool
-inputsRight f = spans (rowOf f .inputs) (f .inputs)
-
-abbrev outputsRight : Fields → Bool
-outputsRight f = spans (rowOf f .outputs) (f .outputs)
-
-abbrev widthRight : Fields → Bool
-widthRight f = spans (rowOf f .width) (f .width)
-
-abbrev parameterRight : Fields → Bool
-parameterRight f = spans (rowOf f .parameter) (f .parameter)
-
-module _ (f : Fields) (o : obeys f ≡ true) where
-  abbrev to-inputs : Bool
-  to-inputs = (not (forCustom (f .kind)) && not (unknown (f .kind))) && inputsRight f
-
-  abbrev to-width : Bool
-  to-width = (to-inputs && outputsRight f) && widthRight f
-
-  pub obeys-row : InRow (rowOf f) f
-  unfolding obeys
-  obeys-row =
-      let w : to-width ≡ true = and-left to-width (parameterRight f) o in
-      let u : (to-inputs && outputsRight f) ≡ true = and-left (to-inputs && outputsRight f) (widthRight f) w in
-      let i : to-inputs ≡ true = and-left to-inputs (outputsRight f) u in
-      record {
-        inputs = inside (rowOf f .inputs) (f .inputs) (and-right (not (forCustom (f .kind)) && not (unknown (f .kind))) (inputsRight f) i);
-        outputs = inside (rowOf f .outputs) (f .outputs) (and-right to-inputs (outputsRight f) u);
-        width = inside (rowOf f .width) (f .width) (and-right (to-inputs && outputsRight f) (widthRight f) w);
-        parameter = inside (rowOf f .parameter) (f .parameter) (and-right to-width (parameterRight f) o);
-      }
-
--- A primitive of kind k that obeys the table lies in the row of k.
-pub obeyed-row : (f : Fields) (k : Kind) → (primitive f && obeys f) ≡ true → f .kind ≡ numberOf k
-    → InRow (row k (f .width) (f .parameter)) f
-obeyed-row f k o e =
-    let q : kindOf (f .kind) ≡ k = ap kindOf e ∙ kindOf-numberOf k in
-    rw q at (obeys-row f (and-right (primitive f) (obeys f) o))
-
--- It is of a kind, and not of the composite's.
-pub obeyed-primitive : (f : Fields) → (primitive f && obeys f) ≡ true → 1 ≤ f .kind
-obeyed-primitive f o =
-    leb-true 1 (f .kind) (and-left (leb 1 (f .kind)) (isKind (f .kind)) (and-left (primitive f) (obeys f) o))
-
-pub obeyed-kind : (f : Fields) → (primitive f && obeys f) ≡ true → isKind (f .kind) ≡ true
-obeyed-kind f o = and-right (leb 1 (f .kind)) (isKind (f .kind)) (and-left (primitive f) (obeys f) o)
-
--- So its number is read as a kind.
-pub obeyed-seen : (f : Fields) → (primitive f && obeys f) ≡ true → seenAs (f .kind) ≡ Known (kindOf (f .kind))
-obeyed-seen f o = seenAs-kind (f .kind) (obeyed-kind f o)
-
-pub obeyed-unkept : (f : Fields) (s : Seen) → (primitive f && obeys f) ≡ true → s ≡ seenAs (f .kind) → s ≡ Kept → ⊥
-obeyed-unkept f s o e q = let k = obeyed-seen f o in let z : _≡_ {A = ℕ} 0 1 = cc in omega arith
-
-pub obeyed-known : (f : Fields) (s : Seen) → (primitive f && obeys f) ≡ true → s ≡ seenAs (f .kind) → s ≡ Unknown → ⊥
-obeyed-known f s o e q = let k = obeyed-seen f o in let z : _≡_ {A = ℕ} 0 1 = cc in omega arith
+use Rattle.kinds.proofs.KindsLaws.{kindOf-numberOf}
 
 -- A kind that leaves its outputs: Switch or Const.
 abbrev pub leaves : Kind → Bool

@@ -13,13 +13,13 @@ use lib.Seq.{sets}
 use lib.Dec.{eqb, ltb}
 use Rattle.lists.specs.Lists.{from, every, total, refusal, _if_}
 use Rattle.value.specs.Value.{level, bitOf, complement, ofWidth, fitsIn}
-use Rattle.primitive.specs.declared.kinds.Kind.{Kind}
-use Rattle.primitive.specs.declared.kinds.Kind.the-variants.{Composite, And, Or, Not, Nand, Nor, Xor, Switch, Input, Output, Splitter, Joiner, Clock, Const}
-use Rattle.primitive.specs.declared.table.Fields.{Fields}
-use Rattle.primitive.specs.declared.answers.Evaluated.{Evaluated}
-use Rattle.primitive.specs.declared.answers.Evaluated.the-variants.{Done, Refused}
-use Rattle.primitive.specs.Given.{Given, done, declined, giving}
-use Rattle.primitive.specs.Kinds.{kindOf, forCustom, unknown, is, primitive, obeys, inputWidth, outputWidth}
+use Rattle.kinds.specs.declared.Kind.{Kind}
+use Rattle.kinds.specs.declared.Kind.the-variants.{Composite, And, Or, Not, Nand, Nor, Xor, Switch, Input, Output, Splitter, Joiner, Clock, Const}
+use Rattle.kinds.specs.declared.table.Fields.{Fields}
+use Rattle.primitive.specs.declared.Evaluated.{Evaluated}
+use Rattle.primitive.specs.declared.Evaluated.the-variants.{Done, Refused}
+use Rattle.kinds.specs.Given.{Given, done, declined, giving}
+use Rattle.kinds.specs.Kinds.{kindOf, forCustom, unknown, is, primitive, obeys, inputWidth, outputWidth}
 
 -- A port is high.
 abbrev pub high : ℕ → Bool

@@ -5,8 +5,8 @@ use mathlib.Core.Path.{_≡_}
 use mathlib.Core.Bool.{true, _&&_}
 use mathlib.Core.List.{List}
 use lib.ListN.{length}
-use Rattle.primitive.specs.declared.table.Fields.{Fields}
-use Rattle.primitive.specs.Kinds.{primitive, obeys}
+use Rattle.kinds.specs.declared.table.Fields.{Fields}
+use Rattle.kinds.specs.Kinds.{primitive, obeys}
 
 -- What an evaluation is handed: a primitive that obeys the table of kinds, with its own inputs xs and outputs ys and no others.
 pub record Own (f : Fields) (xs ys : List ℕ) : Type 0 where

@@ -5,13 +5,13 @@ ghost use mathlib.Core.List.{[], _∷_};
 ghost use Prim.Native.Nat.{_≤_, _<_};
 ghost use lib.ListN.{length};
 ghost use Rattle.value.specs.Value.{level, complement};
-ghost use Rattle.primitive.specs.Kinds.{numberOf, longest};
+ghost use Rattle.kinds.specs.Kinds.{numberOf, longest};
 ghost use Rattle.primitive.specs.Evaluate.{highs, allHigh, anyHigh, oddHigh, join, split, one, clockHigh, outputsAfter};
 ghost use Rattle.primitive.specs.Own.{Own};
-use crate::kinds::Kind;
-use crate::kinds::Seen;
-use crate::kinds::kind_of;
-use crate::table::Fields;
+use kinds::Fields;
+use kinds::Kind;
+use kinds::Seen;
+use kinds::kind_of;
 use value::Value;
 
 // How many ports are high.

@@ -3,16 +3,16 @@ ghost use mathlib.Core.Path.{_≡_};
 ghost use Prim.Native.Nat.{_≤_};
 ghost use lib.ListN.{length};
 ghost use Rattle.primitive.specs.Evaluate.{fitting, evaluateNumber, Evaluates};
-use crate::answers::Evaluated;
-use crate::answers::refused_by;
-use crate::kinds::is_kept;
-use crate::kinds::is_unknown;
+use crate::Evaluated;
 use crate::rules::update;
-use crate::table::Fields;
-use crate::table::input_width;
-use crate::table::is_primitive;
-use crate::table::obeys;
-use crate::table::output_width;
+use kinds::Fields;
+use kinds::input_width;
+use kinds::is_kept;
+use kinds::is_primitive;
+use kinds::is_unknown;
+use kinds::obeys;
+use kinds::output_width;
+use kinds::refused_by;
 use value::Value;
 
 // Whether the values of the first count ports, with these numbers and widths, fit ports of a width.

@@ -9,8 +9,8 @@ use native.Mathlib.Decide.{ℕ-discrete}
 use lib.ListN.{set}
 use Rattle.lists.proofs.MembersLaws.{In}
 use Rattle.lists.proofs.NamesLaws.{appendNew-has, appendNew-kept}
-use Rattle.primitive.specs.declared.kinds.Kind.the-variants.{Switch, Input, Clock}
-use Rattle.primitive.specs.Kinds.{is}
+use Rattle.kinds.specs.declared.Kind.the-variants.{Switch, Input, Clock}
+use Rattle.kinds.specs.Kinds.{is}
 use Rattle.primitive.specs.Evaluate.{outputsAfter}
 use Rattle.tables.specs.declared.Wire.{Wire}
 use Rattle.tables.specs.Tables.{Tables, fieldsAt, firstInput, firstOutput, inputsAt, outputsAt, wiresIn}

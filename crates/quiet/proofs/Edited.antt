@@ -16,8 +16,8 @@ use Rattle.lists.proofs.ListsLaws.{and-left, and-right}
 use Rattle.lists.proofs.MembersLaws.{In, or-cases, any-none}
 use Rattle.lists.proofs.NamesLaws.{names-append}
 use Rattle.value.specs.Value.{fits, ofWidth}
-use Rattle.primitive.specs.declared.kinds.Kind.the-variants.{Switch, Input, Const}
-use Rattle.primitive.specs.Kinds.{is, inputWidth, outputWidth}
+use Rattle.kinds.specs.declared.Kind.the-variants.{Switch, Input, Const}
+use Rattle.kinds.specs.Kinds.{is, inputWidth, outputWidth}
 use Rattle.tables.specs.declared.Wire.{Wire}
 use Rattle.tables.specs.Tables.{Tables, fieldsAt, firstInput, firstOutput, numbers, inputsAt, outputsAt, wiresIn}
 use Rattle.rounds.specs.Round.{State, withInputs, withOutputs, stood, portSet, editedState}

@@ -23,8 +23,8 @@ use lib.Dec.{eqb}
 use Rattle.lists.specs.Lists.{strike}
 use Rattle.lists.proofs.MembersLaws.{In, keep-complete}
 use Rattle.lists.proofs.NamesLaws.{appendNew-has, appendNew-kept, strike-kept}
-use Rattle.primitive.specs.declared.kinds.Kind.the-variants.{Clock}
-use Rattle.primitive.specs.Kinds.{is}
+use Rattle.kinds.specs.declared.Kind.the-variants.{Clock}
+use Rattle.kinds.specs.Kinds.{is}
 use Rattle.primitive.specs.Evaluate.{outputsAfter}
 use Rattle.tables.specs.declared.Wire.{Wire}
 use Rattle.tables.specs.Tables.{Tables, fieldsAt, firstInput, firstOutput, inputPlace, outputPlace, inputsAt, outputsAt, wiresIn}

@@ -16,8 +16,8 @@ use lib.Seq.{slice, slice-cons, slice-empty}
 use Rattle.lists.specs.Lists.{has}
 use Rattle.lists.proofs.ListsLaws.{or-left}
 use Rattle.lists.proofs.MembersLaws.{In, has-complete}
-use Rattle.primitive.specs.declared.kinds.Kind.the-variants.{Switch, Clock, Const}
-use Rattle.primitive.specs.Kinds.{is}
+use Rattle.kinds.specs.declared.Kind.the-variants.{Switch, Clock, Const}
+use Rattle.kinds.specs.Kinds.{is}
 use Rattle.primitive.specs.Evaluate.{functionOf}
 use Rattle.tables.specs.declared.Wire.{Wire}
 use Rattle.tables.specs.Tables.{Tables, fieldsAt, firstOutput, inputPlace, outputPlace, numbers, inputsAt, outputsAt, wiresIn, currentList, followingList, standingList, named}

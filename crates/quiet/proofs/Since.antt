@@ -10,8 +10,8 @@ use borrow.Author.Tests.{eqb-true}
 use lib.Dec.{eqb}
 use Rattle.lists.specs.Lists.{from, has}
 use Rattle.lists.proofs.MembersLaws.{In, has-sound, from0-complete}
-use Rattle.primitive.specs.declared.kinds.Kind.the-variants.{Clock}
-use Rattle.primitive.specs.Kinds.{is}
+use Rattle.kinds.specs.declared.Kind.the-variants.{Clock}
+use Rattle.kinds.specs.Kinds.{is}
 use Rattle.tables.specs.declared.Wire.{Wire}
 use Rattle.tables.specs.Tables.{Tables, fieldsAt, wiresIn, currentList, followingList, standingList}
 use Rattle.net.specs.Net.{netNumber}

@@ -7,13 +7,13 @@ use Prim.Native.Nat.{ℕ}
 use native.Mathlib.Omega.{arith}
 use borrow.Author.Tests.{eqb-true, eqb-false}
 use lib.Dec.{eqb}
-use Rattle.primitive.specs.declared.kinds.Kind.{Kind}
-use Rattle.primitive.specs.declared.kinds.Kind.the-variants.{Composite, And, Or, Not, Nand, Nor, Xor, Switch, Input, Output, Splitter, Joiner, Clock, Const}
-use Rattle.primitive.specs.declared.table.Fields.{Fields}
-use Rattle.primitive.specs.Kinds.{numberOf, kindOf, is, primitive, obeys}
+use Rattle.kinds.specs.declared.Kind.{Kind}
+use Rattle.kinds.specs.declared.Kind.the-variants.{Composite, And, Or, Not, Nand, Nor, Xor, Switch, Input, Output, Splitter, Joiner, Clock, Const}
+use Rattle.kinds.specs.declared.table.Fields.{Fields}
+use Rattle.kinds.specs.Kinds.{numberOf, kindOf, is, primitive, obeys}
 use Rattle.primitive.specs.Evaluate.{rule, functionOf, outputsAfter}
-use Rattle.primitive.proofs.KindsLaws.{numberOf-kindOf}
-use Rattle.primitive.proofs.UpdateLaws.{obeyed-row, obeyed-kind}
+use Rattle.kinds.proofs.KindsLaws.{numberOf-kindOf}
+use Rattle.kinds.proofs.ObeysLaws.{obeyed-row, obeyed-kind}
 
 -- A component is of one kind only.
 pub is-other : (f : Fields) (j k : Kind) → eqb (numberOf j) (numberOf k) ≡ false → is j f ≡ true → is k f ≡ false

@@ -19,8 +19,8 @@ use Rattle.lists.specs.Lists.{appendNew, strike}
 use Rattle.lists.proofs.MembersLaws.{In, in-getD, every-sound, keep-sound}
 use Rattle.lists.proofs.NamesLaws.{Names, names-append, names-strike}
 use Rattle.value.specs.Value.{fits, ofWidth}
-use Rattle.primitive.specs.declared.kinds.Kind.the-variants.{Clock, Const}
-use Rattle.primitive.specs.Kinds.{is, inputWidth, outputWidth}
+use Rattle.kinds.specs.declared.Kind.the-variants.{Clock, Const}
+use Rattle.kinds.specs.Kinds.{is, inputWidth, outputWidth}
 use Rattle.primitive.specs.Evaluate.{outputsAfter}
 use Rattle.primitive.specs.Own.{Own}
 use Rattle.primitive.proofs.FitLaws.{outputsAfter-length, outputsAfter-fits}

@@ -13,8 +13,8 @@ use Rattle.lists.proofs.MembersLaws.{every-complete, from0-sound}
 use Rattle.lists.proofs.NamesLaws.{Names, names-sound, names-complete, names-length}
 use Rattle.lists.proofs.OverlayLaws.{overlay-length, overlay-front}
 use Rattle.value.specs.Value.{allFit}
-use Rattle.primitive.specs.declared.kinds.Kind.the-variants.{Const}
-use Rattle.primitive.specs.Kinds.{is, inputWidth, outputWidth}
+use Rattle.kinds.specs.declared.Kind.the-variants.{Const}
+use Rattle.kinds.specs.Kinds.{is, inputWidth, outputWidth}
 use Rattle.tables.specs.Tables.{Tables, fullSize, fieldsAt, firstInput, firstOutput, inputsAt, outputsAt, indexes, currentList, followingList, standingList}
 use Rattle.tables.proofs.SizesLaws.{Full, fullSize-sound, fullSize-complete}
 use Rattle.tables.proofs.SameLaws.{SameWiring, SameLengths}

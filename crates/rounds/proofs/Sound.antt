@@ -11,8 +11,8 @@ use lib.ListN.{length}
 use Rattle.lists.specs.Lists.{from}
 use Rattle.lists.proofs.MembersLaws.{In, map-complete, from0-complete}
 use Rattle.lists.proofs.NamesLaws.{distinct-key}
-use Rattle.primitive.specs.declared.kinds.Kind.the-variants.{Clock}
-use Rattle.primitive.specs.Kinds.{is, primitive, obeys, inputWidth, outputWidth}
+use Rattle.kinds.specs.declared.Kind.the-variants.{Clock}
+use Rattle.kinds.specs.Kinds.{is, primitive, obeys, inputWidth, outputWidth}
 use Rattle.tables.specs.declared.Wire.{Wire}
 use Rattle.tables.specs.Tables.{Tables, fullSize, fieldsAt, firstInput, firstOutput, inputPlace, outputPlace, wireAt, wiresIn}
 use Rattle.tables.proofs.SizesLaws.{Full, fullSize-sound}

@@ -17,9 +17,9 @@ use Rattle.lists.specs.Lists.{from, appendNew, strike, overlay}
 use Rattle.lists.proofs.ListsLaws.{from-step, from-end}
 use Rattle.lists.proofs.MembersLaws.{In, in-getD, keep-sound, map-sound, from0-sound}
 use Rattle.lists.proofs.NamesLaws.{names-sound, names-complete, names-append, names-length}
-use Rattle.primitive.specs.declared.kinds.Kind.the-variants.{Clock}
-use Rattle.primitive.specs.declared.table.Fields.{Fields}
-use Rattle.primitive.specs.Kinds.{is}
+use Rattle.kinds.specs.declared.Kind.the-variants.{Clock}
+use Rattle.kinds.specs.declared.table.Fields.{Fields}
+use Rattle.kinds.specs.Kinds.{is}
 use Rattle.primitive.specs.Evaluate.{outputsAfter}
 use Rattle.primitive.specs.Own.{Own}
 use Rattle.primitive.proofs.FitLaws.{outputsAfter-length}

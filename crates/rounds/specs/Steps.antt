@@ -11,7 +11,7 @@ use mathlib.Core.Bool.{true, _&&_}
 use mathlib.Core.List.{List, []}
 use lib.ListN.{length, take}
 use Rattle.lists.specs.Lists.{appendNew}
-use Rattle.primitive.specs.Kinds.{primitive, obeys}
+use Rattle.kinds.specs.Kinds.{primitive, obeys}
 use Rattle.tables.specs.declared.Wire.{Wire}
 use Rattle.tables.specs.declared.Counts.{Counts}
 use Rattle.tables.specs.Tables.{Tables, tablesOf, fieldsAt, firstInput, firstOutput, inputPlace, outputPlace, wireAt}

@@ -8,29 +8,33 @@ use native.Mathlib.Omega.{arith}
 use borrow.Author.Tests.{le-leb, lt-leb, leb-false, ne-eqb, not-false}
 use lib.ListN.{length, take, set, take-append-drop}
 use lib.Seq.{length-take-le}
-use lib.Dec.{leb}
-use Rattle.lists.specs.Lists.{refusal, _if_, appendNew, overlay}
+use lib.Dec.{leb, eqb}
+use Rattle.lists.specs.Lists.{refusal, _if_, appendNew, overlay, from}
+use Rattle.lists.proofs.MembersLaws.{any-map}
+use Rattle.tables.specs.declared.Wire.{Wire}
 use Rattle.lists.proofs.ListsLaws.{and-left, refusal-first, refusal-rest}
 use Rattle.value.specs.Value.{fits, ofWidth}
-use Rattle.primitive.specs.declared.kinds.Kind.the-variants.{Switch, Input}
-use Rattle.primitive.specs.declared.table.Fields.{Fields}
-use Rattle.primitive.specs.Kinds.{is, primitive, obeys, inputWidth, outputWidth}
-use Rattle.primitive.specs.Given.{refusedBy}
+use Rattle.kinds.specs.declared.Kind.the-variants.{Switch, Input}
+use Rattle.kinds.specs.declared.table.Fields.{Fields}
+use Rattle.kinds.specs.Kinds.{is, primitive, obeys, inputWidth, outputWidth}
+use Rattle.kinds.specs.Given.{refusedBy}
 use Rattle.tables.specs.declared.Counts.{Counts}
 use Rattle.tables.specs.declared.Answer.the-variants.{Done, Refused}
-use Rattle.tables.specs.Tables.{Tables, tablesOf, fieldsAt, firstInput, firstOutput, standingList}
+use Rattle.tables.specs.Tables.{Tables, tablesOf, fieldsAt, firstInput, firstOutput, standingList, wireAt}
 use Rattle.tables.specs.Words.{fieldsIn, firstInputIn, firstOutputIn}
 use Rattle.net.specs.Net.{netNumber}
 use Rattle.net.proofs.NetLaws.{netNumber-net, netNumber-sizes}
 use Rattle.rounds.specs.Round.{State, withInputs, withOutputs, stateOf, leave, portSet, editedState}
 use Rattle.simulator.specs.Calls.{driven, editNumber, editTables, Edits}
-use Rattle.simulator.specs.declared.questions.Tip.the-variants.{Target}
-use Rattle.simulator.specs.Asked.{ends, editRefusal}
-use Rattle.simulator.proofs.EndsLaws.{driven-ends}
+use Rattle.simulator.specs.Asked.{entered, editRefusal}
 use Rattle.rounds.proofs.Evaluation.{switch-outputs, input-inputs}
 use Rattle.rounds.proofs.Sound.{net-sound, net-within, current-in, following-in}
 use Rattle.rounds.proofs.StepsLaws.{append-room}
-use Rattle.simulator.proofs.QuestionsLaws.{number-refused, number-net, number-passed}
+use Rattle.net.proofs.NetLaws.{number-refused, number-net, number-passed}
+
+-- A net's component is driven where one of its wires enters it.
+driven-entered : (T : Tables) (i : ℕ) → driven T i ≡ entered (T .wires) (T .counts .wires) i
+driven-entered T i = any-map (λ (w : Wire). eqb (w .dst .comp .0) i) (wireAt T) (from 0 (T .counts .wires))
 
 -- On a net: 17; then, of a component that is a Switch or not (s), an Input or not (q), driven or not (d), 18; then, of
 -- a value that fits the port or not (b), 19; and 0 where none is given.
@@ -41,7 +45,7 @@ module _ (cs ws : List ℕ) (m : Counts) (i v : ℕ) where
 
   module _ (h : i < m .components) (s q d : Bool) (es : s ≡ is Switch (fieldsIn cs i))
       (eq : q ≡ is Input (fieldsIn cs i))
-      (ed : d ≡ ends ws (m .wires) Target i) where
+      (ed : d ≡ entered ws (m .wires) i) where
     pub edit-18 : not (s || (q && not d)) ≡ true → 18 ≡ editRefusal cs ws m i v
     unfolding editRefusal
     edit-18 e = rw (lt-leb (m .components) i h, ← es, ← eq, ← ed, e)
@@ -82,7 +86,7 @@ module _ (T : Tables) (i v : ℕ) where
 
   pub edit-net : netNumber T ≡ 0 → editRefusal (T .components) (T .wires) (T .counts) i v ≡ editNumber T i v
   unfolding editNumber editRefusal
-  edit-net z = sym (number-net T (refusal checks) z ∙ rw (driven-ends T i))
+  edit-net z = sym (number-net T (refusal checks) z ∙ rw (driven-entered T i))
 
 -- Where none is given: the component and its port are there, and the standing list has room.
 module _ (T : Tables) (i v : ℕ) (z : editNumber T i v ≡ 0) where

@@ -1,5 +1,3 @@
-pub mod EndsLaws
-pub mod QuestionsLaws
 pub mod EditsLaws
 pub mod Kept
 pub mod CallsLaws

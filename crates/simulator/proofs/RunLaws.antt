@@ -14,9 +14,9 @@ use lib.Seq.{length-take-le}
 use lib.Dec.{ltb}
 use Rattle.lists.specs.Lists.{every}
 use Rattle.lists.proofs.ListsLaws.{and-left, and-right}
-use Rattle.primitive.specs.declared.kinds.Kind.the-variants.{Clock}
-use Rattle.primitive.specs.Kinds.{is}
-use Rattle.primitive.specs.Given.{refusedBy, done}
+use Rattle.kinds.specs.declared.Kind.the-variants.{Clock}
+use Rattle.kinds.specs.Kinds.{is}
+use Rattle.kinds.specs.Given.{refusedBy, done}
 use Rattle.tables.specs.declared.Counts.{Counts}
 use Rattle.tables.specs.Tables.{Tables, currentList, countWords}
 use Rattle.tables.specs.Words.{fieldsIn}

@@ -1,67 +1,28 @@
--- What questions and edits ask, on the lists of words that a function inside this crate is handed. `sources`,
--- `targets`, `driven` and `editNumber` are these on a net (proofs/EndsLaws, QuestionsLaws, EditsLaws);
--- only contracts of such functions cite them.
---   compAt w e, endOf ws k e the component at end e of a wire, and of wire k
---   meets ws m near far i j  one of m wires has component i at its end `near` and component j at its end `far`
---   met ws m near far i n    the components below n that wires join to component i so
---   ends ws m e i            one of m wires has component i at its end e
---   markedBelow marks n           the numbers below n that are marked
---   RowRight cs is os i      component i's words fit its fields, and its ports stand in their tables
---   editRefusal cs ws m i v  the number of an edit, on a net
+-- What edits ask, on the lists of words that a function inside this crate is handed: `driven` and `editNumber` are these on a net
+-- (proofs/EditsLaws); only contracts of such functions cite them.
+--   entered ws m i            one of m wires enters component i
+--   editRefusal cs ws m i v   the number of an edit, on a net
 -- Assumes nothing.
 use Prim.Native.Nat.{ℕ}
-use mathlib.Core.Path.{_≡_}
-use mathlib.Core.Bool.{Bool, true, cond, not, _&&_, _||_}
+use mathlib.Core.Bool.{Bool, cond, not, _&&_, _||_}
 use mathlib.Core.List.{List, [], _∷_}
-use lib.ListN.{getD}
 use lib.Dec.{eqb, leb}
-use Rattle.lists.specs.Lists.{from, keep, any, refusal, _if_}
+use Rattle.lists.specs.Lists.{from, any, refusal, _if_}
 use Rattle.value.specs.Value.{fits, ofWidth}
-use Rattle.primitive.specs.declared.kinds.Kind.the-variants.{Switch, Input}
-use Rattle.primitive.specs.Kinds.{is, inputWidth, outputWidth}
+use Rattle.kinds.specs.declared.Kind.the-variants.{Switch, Input}
+use Rattle.kinds.specs.Kinds.{is, inputWidth, outputWidth}
 use Rattle.tables.specs.declared.Counts.{Counts}
-use Rattle.tables.specs.declared.Wire.{Wire}
-use Rattle.tables.specs.Words.{fieldsIn, wireIn, fieldsFit}
-use Rattle.net.specs.Parts.{InputsInside, OutputsInside}
-use Rattle.simulator.specs.declared.questions.Tip.{Tip}
-use Rattle.simulator.specs.declared.questions.Tip.the-variants.{Source, Target}
+use Rattle.tables.specs.Words.{fieldsIn, wireIn}
 
--- The component at an end of a wire.
-abbrev pub compAt : Wire → Tip → ℕ
-compAt w Source = w .src .comp .0
-compAt w Target = w .dst .comp .0
-
--- The component at end e of wire k.
-abbrev pub endOf : List ℕ → ℕ → Tip → ℕ
-endOf ws k e = compAt (wireIn ws k) e
-
--- One of m wires has component i at its end `near` and component j at its end `far`.
-abbrev pub meets : List ℕ → ℕ → Tip → Tip → ℕ → ℕ → Bool
-meets ws m near far i j = any (λ k. eqb (endOf ws k near) i && eqb (endOf ws k far) j) (from 0 m)
-
--- The components below n that wires join to component i so, ascending.
-unfoldable pub met : List ℕ → ℕ → Tip → Tip → ℕ → ℕ → List ℕ
-met ws m near far i n = keep (meets ws m near far i) (from 0 n)
-
--- One of m wires has component i at its end e.
-abbrev pub ends : List ℕ → ℕ → Tip → ℕ → Bool
-ends ws m e i = any (λ k. eqb (endOf ws k e) i) (from 0 m)
-
--- The numbers below n that are marked, ascending.
-abbrev pub markedBelow : List ℕ → ℕ → List ℕ
-markedBelow marks n = keep (λ j. eqb (getD marks j 0) 1) (from 0 n)
-
--- Component i's words fit its fields, and its ports stand in their tables.
-pub record RowRight (cs is os : List ℕ) (i : ℕ) : Type 0 where
-  pub fit : fieldsFit (fieldsIn cs i) ≡ true
-  pub inputs-in : InputsInside cs is i
-  pub outputs-in : OutputsInside cs os i
+-- One of m wires enters component i.
+abbrev pub entered : List ℕ → ℕ → ℕ → Bool
+entered ws m i = any (λ k. eqb (wireIn ws k .dst .comp .0) i) (from 0 m)
 
 -- An edit of component i to the number v: 17, 18, 19.
 unfoldable pub editRefusal : List ℕ → List ℕ → Counts → ℕ → ℕ → ℕ
 editRefusal cs ws m i v =
     refusal
     ((17 if leb (m .components) i)
-    ∷ (18 if not (is Switch (fieldsIn cs i) || (is Input (fieldsIn cs i) && not (ends ws (m .wires) Target i))))
+    ∷ (18 if not (is Switch (fieldsIn cs i) || (is Input (fieldsIn cs i) && not (entered ws (m .wires) i))))
     ∷ (19 if not (fits (ofWidth (cond (is Switch (fieldsIn cs i)) (outputWidth (fieldsIn cs i)) (inputWidth (fieldsIn cs i))) v)))
     ∷ [])

@@ -5,9 +5,9 @@ ghost use Rattle.tables.specs.Tables.{tablesOf, countsAfter};
 ghost use Rattle.net.specs.Net.{netNumber};
 ghost use Rattle.simulator.specs.Calls.{Rounds, run, countsAfterRun, Runs};
 use crate::Ran;
-use crate::questions::only_clocks;
-use primitive::refused_by;
+use kinds::refused_by;
 use rounds::net_round;
+use rounds::only_clocks;
 use tables::Answer;
 use tables::Counts;
 

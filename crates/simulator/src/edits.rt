@@ -4,15 +4,14 @@ ghost use mathlib.Core.Path.{_≡_};
 ghost use mathlib.Core.Bool.{true, cond};
 ghost use Prim.Native.Nat.{_<_};
 ghost use lib.ListN.{length, set};
-ghost use Rattle.primitive.specs.declared.kinds.Kind.the-variants.{Switch};
-ghost use Rattle.primitive.specs.Kinds.{is};
+ghost use Rattle.kinds.specs.declared.Kind.the-variants.{Switch};
+ghost use Rattle.kinds.specs.Kinds.{is};
 ghost use Rattle.tables.specs.Tables.{tablesOf, countsAfter};
 ghost use Rattle.tables.specs.Words.{fieldsFit, fieldsIn, firstInputIn, firstOutputIn};
-ghost use Rattle.simulator.specs.declared.questions.Tip.the-variants.{Target};
 ghost use Rattle.simulator.specs.Calls.{editNumber, Edits};
-ghost use Rattle.simulator.specs.Asked.{ends, editRefusal};
-use primitive::Kind;
-use primitive::refused_by;
+ghost use Rattle.simulator.specs.Asked.{entered, editRefusal};
+use kinds::Kind;
+use kinds::refused_by;
 use tables::Answer;
 use tables::Counts;
 use tables::FlatIdx;
@@ -20,7 +19,7 @@ use value::Value;
 
 // Whether one of the first `count` wires enters component i.
 fn is_driven(wires: &[u16], count: usize, i: usize) -> bool
-    ensures { λ r. ⌜ r ≡ ends (now (wires .entry)) count Target i ⌝ }
+    ensures { λ r. ⌜ r ≡ entered (now (wires .entry)) count i ⌝ }
 {
     let mut k: usize = 0;
     while k < count {
@@ -49,9 +48,9 @@ fn edit_number(components: &[u64], wires: &[u16], counts: Counts, i: usize, numb
     }
     let f = tables::fields_at(components, i);
     let width = if switch {
-        primitive::output_width(f)
+        kinds::output_width(f)
     } else {
-        primitive::input_width(f)
+        kinds::input_width(f)
     };
     let set = Value { number, width };
     if !set.fits().fits {

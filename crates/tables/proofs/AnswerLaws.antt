@@ -4,8 +4,8 @@ use mathlib.Core.Path.{_≡_, sym, ap, _∙_}
 use mathlib.Core.List.{List}
 use Prim.Native.Nat.{ℕ}
 use lib.ListN.{getD}
-use Rattle.primitive.specs.Given.{Given}
-use Rattle.primitive.proofs.GivenLaws.{done-values, done-declined, declined-refusal}
+use Rattle.kinds.specs.Given.{Given}
+use Rattle.kinds.proofs.GivenLaws.{done-values, done-declined, declined-refusal}
 use Rattle.tables.specs.declared.Counts.{Counts}
 use Rattle.tables.specs.declared.Answer.{Answer}
 use Rattle.tables.specs.declared.Answer.the-variants.{Done, Refused}

@@ -12,12 +12,12 @@ use lib.ListN.{set}
 use lib.Seq.{sets}
 use Rattle.lists.proofs.ListsLaws.{and-left, and-right}
 use Rattle.value.specs.Value.{below}
-use Rattle.primitive.specs.declared.kinds.Kind.{Kind}
-use Rattle.primitive.specs.declared.kinds.Kind.the-variants.{Composite, And, Or, Not, Nand, Nor, Xor, Switch, Input, Output, Splitter, Joiner, Clock, Const}
-use Rattle.primitive.specs.declared.table.Fields.{Fields}
-use Rattle.primitive.specs.Kinds.{kindOf, primitive, obeys, row}
-use Rattle.primitive.proofs.UpdateLaws.{InRow, obeys-row, obeyed-kind}
-use Rattle.primitive.proofs.KindsLaws.{kind-below}
+use Rattle.kinds.specs.declared.Kind.{Kind}
+use Rattle.kinds.specs.declared.Kind.the-variants.{Composite, And, Or, Not, Nand, Nor, Xor, Switch, Input, Output, Splitter, Joiner, Clock, Const}
+use Rattle.kinds.specs.declared.table.Fields.{Fields}
+use Rattle.kinds.specs.Kinds.{kindOf, primitive, obeys, row}
+use Rattle.kinds.proofs.ObeysLaws.{InRow, obeys-row, obeyed-kind}
+use Rattle.kinds.proofs.KindsLaws.{kind-below}
 use Rattle.tables.specs.Words.{fieldsFit}
 
 -- The words of an entry at k, stored by their offsets from k, the first of which is j.

@@ -9,7 +9,7 @@ use Prim.Native.Nat.{ℕ, _*_}
 use mathlib.Core.Bool.{Bool, _&&_}
 use mathlib.Core.List.{List, []}
 use Rattle.value.specs.Value.{below}
-use Rattle.primitive.specs.declared.table.Fields.{Fields}
+use Rattle.kinds.specs.declared.table.Fields.{Fields}
 use Rattle.tables.specs.declared.Counts.{Counts}
 use Rattle.tables.specs.declared.Wire.{Wire}
 use Rattle.tables.specs.Tables.{Tables, tablesOf, countsOf, fieldsAt, idAt, firstInput, firstOutput, wireAt}

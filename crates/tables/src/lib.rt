@@ -6,10 +6,10 @@ mod sizes;
 mod wires;
 mod words;
 
+use kinds::Refusal;
 pub use named::append_new;
 pub use named::copy;
 pub use named::strike;
-use primitive::Refusal;
 pub use rows::fields_at;
 pub use rows::fields_fit;
 pub use rows::first_input;

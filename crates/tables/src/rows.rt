@@ -6,13 +6,13 @@ ghost use Prim.Native.Nat.{_+_, _<_, _≤_};
 ghost use lib.Dec.{eqb};
 ghost use lib.ListN.{length};
 ghost use lib.Seq.{sets};
-ghost use Rattle.primitive.specs.Kinds.{is};
+ghost use Rattle.kinds.specs.Kinds.{is};
 ghost use Rattle.tables.specs.Tables.{wordIn, componentWords};
 ghost use Rattle.tables.specs.Words.{fieldsIn, idIn, firstInputIn, firstOutputIn, rowPlace, fieldsFit};
 use crate::words::word;
-use primitive::Fields;
-use primitive::Id;
-use primitive::Kind;
+use kinds::Fields;
+use kinds::Id;
+use kinds::Kind;
 
 // Word k of component i.
 fn word_of(components: &[u64], i: usize, k: usize) -> u64
@@ -78,7 +78,7 @@ pub fn first_output(components: &[u64], i: usize) -> usize
 pub fn is_kind(components: &[u64], i: usize, kind: Kind) -> bool
     ensures { λ r. ⌜ r ≡ is kind (fieldsIn (now (components .entry)) i) ⌝ }
 {
-    kind_word(components, i) == primitive::number_of(kind) as u64
+    kind_word(components, i) == kinds::number_of(kind) as u64
 }
 
 // Whether component i has this id.

@@ -2,7 +2,7 @@
 -- Assumes nothing.
 use mathlib.Core.Path.{ap, _∙_}
 use borrow.Author.Needs.{needs}
-use Rattle.primitive.specs.Kinds.{primitive}
+use Rattle.kinds.specs.Kinds.{primitive}
 use Rattle.component.proofs.reader.is_primitive_at.Statement.{statement}
 use Rattle.component.proofs.reader.is_primitive_at.Tie as tie
 

@@ -18,7 +18,7 @@ use borrow.Fn.PlainCycle.{Measures, is, falls, and}
 use Rattle.flatten.proofs.descent.list_targets.Reads as list-targets
 use Rattle.flatten.proofs.descent.list_targets.Kinds as list-targets-kinds
 use Rattle.flatten.proofs.descent.+list_targets.Lts-list_targets as list-targets-lts
-use Rattle.component.proofs.stretch_of.Reads as stretch-of-reads
+use Rattle.index.proofs.stretch_of.Reads as stretch-of-reads
 use Rattle.component.proofs.is_primitive_at.Reads as is-primitive-at-reads
 use Rattle.flatten.proofs.descent.enter.Reads as enter-reads
 use Rattle.flatten.proofs.targets.lay_target.Reads as lay-target-reads

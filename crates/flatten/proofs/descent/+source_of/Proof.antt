@@ -10,8 +10,8 @@ use Rattle.flatten.proofs.descent.source_of.Reads as source-of
 use Rattle.flatten.proofs.descent.source_of.Kinds as source-of-kinds
 use Rattle.flatten.proofs.descent.+source_of.Lts-source_of as source-of-lts
 use Rattle.component.proofs.is_primitive_at.Reads as is-primitive-at-reads
-use Rattle.component.proofs.child_of.Reads as child-of-reads
-use Rattle.component.proofs.out_map_of.Reads as out-map-of-reads
+use Rattle.index.proofs.child_of.Reads as child-of-reads
+use Rattle.index.proofs.out_map_of.Reads as out-map-of-reads
 use Rattle.component.proofs.record_at.Reads as record-at-reads
 use Rattle.flatten.proofs.descent.+source_of.{statement}
 use Rattle.flatten.proofs.descent.+source_of.Tie.{close}

@@ -1,6 +1,6 @@
 -- `check15`: a connection's source has the width that no target may differ from, and there are at most 1,024 targets.
 -- Assumes nothing.
-use Rattle.component.proofs.ChecksLaws.{given-passes, given-by}
+use Rattle.checks.proofs.ChecksLaws.{given-passes, given-by}
 use Rattle.flatten.proofs.WidthsLaws.{fails15-refused, fails15-other, fails15-connection}
 use mathlib.Core.Path.{refl}
 use Prim.Native.Nat.{_/_}

@@ -5,7 +5,7 @@ use mathlib.Core.Bool.{not}
 use Prim.Native.Nat.{ℕ}
 use lib.Dec.{eqb}
 use borrow.Author.Needs.{needs}
-use Rattle.primitive.specs.Kinds.{inputWidth}
+use Rattle.kinds.specs.Kinds.{inputWidth}
 use Rattle.flatten.proofs.widths.differs.Statement.{statement}
 use Rattle.flatten.proofs.widths.differs.Tie as tie
 

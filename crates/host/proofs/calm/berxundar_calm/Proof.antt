@@ -3,7 +3,7 @@
 use mathlib.Core.Path.{_∙_}
 use Rattle.tables.specs.declared.Counts.{Counts}
 use Rattle.tables.specs.Tables.{Tables, tablesOf}
-use Rattle.simulator.specs.Questions.{calmGives, AsksCalm}
+use Rattle.questions.specs.Questions.{calmGives, AsksCalm}
 use Rattle.host.proofs.NumbersLaws.{plain-fits, plain-spoken, calm-plain}
 use Rattle.host.proofs.HostLaws.{enough-found, ask-short, ask-made}
 use borrow.Author.Needs.{needs}

@@ -9,11 +9,11 @@ use borrow.Author.Tests.{lt-ltb, le-ltb, eqb-true}
 use lib.ListN.{length}
 use lib.Dec.{eqb}
 use Rattle.lists.specs.Lists.{overlay}
-use Rattle.primitive.specs.Given.{done, declined, refusedBy, giving, spoken}
+use Rattle.kinds.specs.Given.{done, declined, refusedBy, giving, spoken}
 use Rattle.tables.specs.declared.Counts.{Counts}
 use Rattle.tables.specs.Tables.{Tables, tablesOf}
 use Rattle.net.specs.Net.{netNumber, Checks}
-use Rattle.host.specs.Host.{valuesIn}
+use Rattle.words.specs.Words.{valuesIn}
 use Rattle.host.proofs.NumbersLaws.{net-small, Plain, giving-plain}
 use Rattle.host.proofs.HostLaws.{ask-short, ask-made}
 use borrow.Author.Needs.{needs}

@@ -3,7 +3,7 @@
 use mathlib.Core.Path.{sym, ap, _∙_}
 use native.Mathlib.Omega.{arith}
 use mathlib.Core.List.{[]}
-use Rattle.primitive.specs.Given.{spoken}
+use Rattle.kinds.specs.Given.{spoken}
 use Rattle.component.specs.declared.Verdict.{Verdict}
 use Rattle.flatten.specs.Verdict.{verdictGives}
 use Rattle.flatten.proofs.JudgementLaws.{verdict-bound, judges-verdict}

@@ -4,7 +4,7 @@ use mathlib.Core.Path.{sym, _∙_}
 use borrow.Author.Tests.{not-true, not-false}
 use Rattle.tables.specs.declared.Counts.{Counts}
 use Rattle.tables.specs.Tables.{Tables, tablesOf, answerGives}
-use Rattle.host.specs.Host.{countsIn}
+use Rattle.words.specs.Words.{countsIn}
 use Rattle.host.proofs.NumbersLaws.{load-small}
 use Rattle.host.proofs.HostLaws.{load-unsized, load-short, load-made}
 use borrow.Author.Needs.{needs}

@@ -3,9 +3,9 @@
 use mathlib.Core.Path.{_∙_, subst}
 use Rattle.tables.specs.declared.Counts.{Counts}
 use Rattle.tables.specs.Tables.{Tables, tablesOf}
-use Rattle.simulator.specs.declared.Side.{Side}
-use Rattle.simulator.specs.Questions.{valueGives, AsksValue}
-use Rattle.host.specs.Host.{sideOf}
+use Rattle.questions.specs.declared.Side.{Side}
+use Rattle.questions.specs.Questions.{valueGives, AsksValue}
+use Rattle.words.specs.Words.{sideOf}
 use Rattle.host.proofs.NumbersLaws.{plain-fits, plain-spoken, value-plain}
 use Rattle.host.proofs.HostLaws.{enough-found, ask-short, ask-made}
 use borrow.Author.Needs.{needs}

@@ -3,7 +3,7 @@
 use mathlib.Core.Path.{_∙_}
 use Rattle.tables.specs.declared.Counts.{Counts}
 use Rattle.tables.specs.Tables.{Tables, tablesOf}
-use Rattle.simulator.specs.Questions.{listGives, AsksSources}
+use Rattle.questions.specs.Questions.{listGives, AsksSources}
 use Rattle.host.proofs.NumbersLaws.{plain-fits, plain-spoken, listed-plain}
 use Rattle.host.proofs.HostLaws.{enough-found, list-short, list-made}
 use borrow.Author.Needs.{needs}

@@ -2,7 +2,7 @@
 -- Assumes nothing.
 use mathlib.Core.Path.{ap}
 use native.Mathlib.Omega.{arith}
-use Rattle.primitive.specs.declared.table.Fields.{Fields}
+use Rattle.kinds.specs.declared.table.Fields.{Fields}
 use borrow.Author.Needs.{needs}
 use Rattle.net.proofs.values.row_fits.Statement.{statement}
 use Rattle.net.proofs.values.row_fits.Tie as tie

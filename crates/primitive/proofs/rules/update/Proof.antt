@@ -2,10 +2,10 @@
 -- Assumes nothing.
 use borrow.Author.Needs.{needs}
 use mathlib.Core.Path.{_≡_, sym, _∙_}
-use Rattle.primitive.specs.declared.kinds.Seen.the-variants.{Known}
-use Rattle.primitive.specs.Kinds.{seenAs}
-use Rattle.primitive.proofs.KindsLaws.{seenAs-known}
-use Rattle.primitive.proofs.UpdateLaws.{obeyed-unkept, obeyed-known}
+use Rattle.kinds.specs.declared.Seen.the-variants.{Known}
+use Rattle.kinds.specs.Kinds.{seenAs}
+use Rattle.kinds.proofs.KindsLaws.{seenAs-known}
+use Rattle.kinds.proofs.ObeysLaws.{obeyed-unkept, obeyed-known}
 use Rattle.primitive.proofs.rules.update.Statement.{statement}
 use Rattle.primitive.proofs.rules.update.Tie as tie
 

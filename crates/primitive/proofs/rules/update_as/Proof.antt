@@ -7,11 +7,12 @@ use mathlib.Core.List.{List, [], _∷_}
 use Prim.Native.Nat.{ℕ, _<_}
 use native.Mathlib.Omega.{arith}
 use lib.ListN.{length, getD}
-use Rattle.primitive.specs.declared.kinds.Kind.{Kind}
-use Rattle.primitive.specs.declared.kinds.Kind.the-variants.{Composite, And, Or, Not, Nand, Nor, Xor, Switch, Input, Output, Splitter, Joiner, Clock, Const}
-use Rattle.primitive.specs.Kinds.{numberOf, row, only}
+use Rattle.kinds.specs.declared.Kind.{Kind}
+use Rattle.kinds.specs.declared.Kind.the-variants.{Composite, And, Or, Not, Nand, Nor, Xor, Switch, Input, Output, Splitter, Joiner, Clock, Const}
+use Rattle.kinds.specs.Kinds.{numberOf, row, only}
 use Rattle.primitive.specs.Evaluate.{one, split, rule, outputsAfter}
-use Rattle.primitive.proofs.UpdateLaws.{Inside, InRow, obeyed-row, obeyed-primitive, leaves, outputsAfter-rule, outputsAfter-left}
+use Rattle.primitive.proofs.UpdateLaws.{leaves, outputsAfter-rule, outputsAfter-left}
+use Rattle.kinds.proofs.ObeysLaws.{Inside, InRow, obeyed-row, obeyed-primitive}
 use Rattle.primitive.proofs.rules.update_as.Statement.{statement}
 use Rattle.primitive.proofs.rules.update_as.Tie as tie
 

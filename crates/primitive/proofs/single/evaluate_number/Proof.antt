@@ -4,7 +4,7 @@ use borrow.Author.Needs.{needs}
 use borrow.Author.Tests.{not-true, not-false}
 use mathlib.Core.Path.{_≡_, sym, _∙_}
 use mathlib.Core.Bool.{true, false, _&&_}
-use Rattle.primitive.specs.Kinds.{forCustom, unknown, primitive, obeys}
+use Rattle.kinds.specs.Kinds.{forCustom, unknown, primitive, obeys}
 use Rattle.primitive.proofs.EvaluateLaws.{bothFit, number-7, number-8, number-9, number-2, number-19, number-0, there-inputs, there-entering, there-outputs, there-leaving}
 use Rattle.primitive.proofs.single.evaluate_number.Statement.{statement}
 use Rattle.primitive.proofs.single.evaluate_number.Tie as tie

@@ -3,7 +3,8 @@
 use mathlib.Core.Path.{_≡_, sym, _∙_}
 use Rattle.tables.specs.Tables.{Tables, tablesOf}
 use Rattle.net.specs.Net.{netNumber}
-use Rattle.simulator.proofs.QuestionsLaws.{net-row}
+use Rattle.net.proofs.ClausesLaws.{kindsObeyed-fit}
+use Rattle.net.proofs.NetLaws.{netNumber-net}
 use Rattle.simulator.proofs.EditsLaws.{edit-refused, edit-net}
 use borrow.Author.Needs.{needs}
 use Rattle.simulator.proofs.edits.edit_checks.Statement.{statement}
@@ -33,7 +34,7 @@ returns c =
 edit-number-requires : tie.Need-edit-number-requires
 edit-number-requires c κs =
     let s = c .before .before .before .before .before .before .before .before .before in
-    λ h. net-row (came s) (is-net c) (s .args .i) h .fit
+    λ h. kindsObeyed-fit (came s) (netNumber-net (came s) (is-net c) .kinds) (s .args .i) h
 
 returns-2 : tie.Need-returns-2
 returns-2 c =

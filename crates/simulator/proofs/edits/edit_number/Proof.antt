@@ -4,7 +4,7 @@ use mathlib.Core.Path.{_≡_, ap, _∙_}
 use mathlib.Core.Bool.{cond}
 use mathlib.Core.Logic.{⊎-elim}
 use Rattle.value.specs.declared.Fit.{Fit}
-use Rattle.primitive.specs.Kinds.{inputWidth, outputWidth}
+use Rattle.kinds.specs.Kinds.{inputWidth, outputWidth}
 use Rattle.simulator.proofs.EditsLaws.{edit-17, edit-18, edit-19, edit-0}
 use borrow.Author.Needs.{needs}
 use Rattle.simulator.proofs.edits.edit_number.Statement.{statement}

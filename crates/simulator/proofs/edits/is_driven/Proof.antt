@@ -11,14 +11,13 @@ use Rattle.lists.specs.Lists.{from, any}
 use Rattle.lists.proofs.ListsLaws.{any-here, any-next, any-none}
 use Rattle.net.proofs.LoopsLaws.{from-start}
 use Rattle.tables.specs.declared.Wire.{Wire}
-use Rattle.simulator.specs.declared.questions.Tip.the-variants.{Target}
-use Rattle.simulator.specs.Asked.{endOf}
+use Rattle.tables.specs.Words.{wireIn}
 use borrow.Author.Needs.{needs}
 use Rattle.simulator.proofs.edits.is_driven.Statement.{statement}
 use Rattle.simulator.proofs.edits.is_driven.Tie as tie
 
 abbrev enters : List ℕ → ℕ → ℕ → Bool
-enters ws i k = eqb (endOf ws k Target) i
+enters ws i k = eqb (wireIn ws k .dst .comp .0) i
 
 abbrev Inv-loop : tie.InvT-loop
 Inv-loop wires count i k₀ k =
@@ -36,7 +35,7 @@ wire-at-requires c κs = search needs
 
 -- Where the wire of a turn goes.
 to-there : (c : tie.After-wire-at Inv-loop μ-loop) → c .wire-at .result .dst .comp .0
-    ≡ endOf (c .before .before .before .before .args .wires .now) (c .before .before .loop .k) Target
+    ≡ wireIn (c .before .before .before .before .args .wires .now) (c .before .before .loop .k) .dst .comp .0
 to-there c = ap (λ (w : Wire). w .dst .comp .0) (c .wire-at .ensures)
 
 returns : tie.Need-returns Inv-loop μ-loop
@@ -44,7 +43,7 @@ returns c =
     let a = c .before .before .before .before .before .before .args in
     let l = c .before .before .before .before .loop in
     any-here (enters (a .wires .now) (a .i)) (l .k) (a .count) _ (l .inv .1) (omega arith)
-    (eq-eqb (endOf (a .wires .now) (l .k) Target) (a .i) (sym (to-there (c .before .before)) ∙ c .if1 .taken))
+    (eq-eqb (wireIn (a .wires .now) (l .k) .dst .comp .0) (a .i) (sym (to-there (c .before .before)) ∙ c .if1 .taken))
 
 add-k : tie.Need-add-k Inv-loop μ-loop
 add-k c = search needs
@@ -58,7 +57,7 @@ loop-again c =
     let l = c .before .before .before .before .loop in (
       omega arith,
       any-next (enters (a .wires .now) (a .i)) (l .k) (a .count) _ (l .inv .1) (omega arith)
-          (ne-eqb (endOf (a .wires .now) (l .k) Target) (a .i) (λ e. c .if1 .left (to-there (c .before .before) ∙ e))),
+          (ne-eqb (wireIn (a .wires .now) (l .k) .dst .comp .0) (a .i) (λ e. c .if1 .left (to-there (c .before .before) ∙ e))),
     )
 
 returns-2 : tie.Need-returns-2 Inv-loop μ-loop

@@ -3,8 +3,8 @@
 use mathlib.Core.Path.{_≡_, refl, sym, _∙_}
 use mathlib.Core.Bool.{true, false, true≢false}
 use native.Mathlib.Omega.{arith}
-use Rattle.primitive.specs.declared.kinds.Kind.the-variants.{Switch}
-use Rattle.primitive.specs.Kinds.{is}
+use Rattle.kinds.specs.declared.Kind.the-variants.{Switch}
+use Rattle.kinds.specs.Kinds.{is}
 use Rattle.tables.specs.Words.{fieldsIn}
 use borrow.Author.Needs.{needs}
 use Rattle.simulator.proofs.edits.set_port.Statement.{statement}

@@ -1,0 +1,455 @@
+// The checks 3 to 14, each of one record: it answers the refusal's number, or 0. Rule: docs/SPECIFICATION.md, "Numbers given back".
+ghost use mathlib.Core.Path.{_≡_};
+ghost use mathlib.Core.Bool.{cond, _&&_, _||_};
+ghost use Prim.Native.Nat.{_≤_, _<_};
+ghost use lib.ListN.{length};
+ghost use lib.Dec.{eqb, leb, ltb};
+ghost use Rattle.lists.specs.Lists.{from, any};
+ghost use Rattle.component.specs.Record.{recordAt, recordCount};
+ghost use Rattle.component.specs.Reading.{formBy};
+ghost use Rattle.index.specs.Index.{IsIndex};
+ghost use Rattle.component.specs.Reading.{given};
+ghost use Rattle.checks.specs.Checks.{failsBy};
+ghost use Rattle.component.specs.Record.{inputsOf, outputsOf, isPrimitive, composite, hasId, enters};
+ghost use Rattle.checks.specs.Checks.{EntryAs};
+ghost use Rattle.component.specs.Drawing.{deepest, holds, deeper, outMaps, inputsBefore, outputsBefore};
+ghost use Rattle.component.specs.Drawing.{fails3, fails4, fails5, fails6, fails7, fails8, fails9};
+ghost use Rattle.component.specs.Drawing.{fails10, fails11, fails12, fails13, fails14};
+use component::ChildNo;
+use component::Reading;
+use component::Says;
+use component::Stands;
+use component::component_at;
+use component::deepest;
+use component::fields_at;
+use component::given;
+use component::record_at;
+use index::child_of;
+use index::is_owned;
+use kinds::Id;
+
+// 3: the record is not taken apart.
+fn check3(file: &[u8], p: usize) -> u32
+    ensures { λ r. ⌜ r ≡ given 3 (fails3 (recordAt (now (file .entry))) p) ⌝ }
+{
+    let Reading::Refused(number) = record_at(file, p) else {
+        return 0;
+    };
+    number
+}
+
+// Whether the record kind falls, or the owner among equal kinds 2 to 4.
+fn falls(here: Says, owner: u16, before: Says, was: u16) -> bool
+    ensures { λ r. ⌜ r ≡ (ltb (formBy here) (formBy before) || (eqb (formBy here) (formBy before) && leb 2 (formBy before) && ltb owner was)) ⌝ }
+{
+    match here {
+        Says::Component { .. } => match before {
+            Says::Component { .. } => false,
+            _ => true,
+        },
+        Says::Connection { .. } => match before {
+            Says::Component { .. } => false,
+            Says::Connection { .. } => owner < was,
+            _ => true,
+        },
+        Says::InputMap { .. } => match before {
+            Says::InputMap { .. } => owner < was,
+            Says::OutputMap { .. } => true,
+            _ => false,
+        },
+        Says::OutputMap { .. } => match before {
+            Says::OutputMap { .. } => owner < was,
+            _ => false,
+        },
+    }
+}
+
+// 4: kinds do not fall, nor owners among equal kinds 2 to 4; the first record is of kind 1.
+fn check4(file: &[u8], p: usize) -> u32
+    ensures { λ r. ⌜ r ≡ given 4 (fails4 (recordAt (now (file .entry))) p) ⌝ }
+{
+    if p == 0 {
+        let Stands::Component { .. } = component_at(file, 0) else {
+            return 4;
+        };
+        return 0;
+    }
+    let Reading::Taken { owner, says } = record_at(file, p) else {
+        return 0;
+    };
+    let Reading::Taken {
+        owner: was,
+        says: before,
+    } = record_at(file, p - 1)
+    else {
+        return 0;
+    };
+    given(4, falls(says, owner, before, was))
+}
+
+// Whether composite o holds component q, at most f owners up.
+fn holds(file: &[u8], f: usize, o: usize, q: usize) -> bool
+    ensures { λ r. ⌜ r ≡ holds (recordAt (now (file .entry))) f o q ⌝ }
+{
+    let mut left = f;
+    let mut inner = q;
+    while 0 < left {
+        if inner == 0 {
+            return false;
+        }
+        let Stands::Component { owner, .. } = component_at(file, inner) else {
+            return false;
+        };
+        let outer = owner as usize;
+        if outer == o {
+            return true;
+        }
+        inner = outer;
+        left -= 1;
+    }
+    false
+}
+
+// Whether a composite stands at a position of the file.
+fn is_composite_at(file: &[u8], p: usize) -> bool
+    ensures { λ r. ⌜ r ≡ composite (recordAt (now (file .entry)) p) ⌝ }
+{
+    fields_at(file, p).kind == 0
+}
+
+// 5: the root's owner is 0; any other is a composite, a component's one that is the component before or holds it.
+fn check5(file: &[u8], p: usize) -> u32
+    ensures { λ r. ⌜ r ≡ given 5 (fails5 (recordAt (now (file .entry))) p) ⌝ }
+{
+    let Reading::Taken { owner, says } = record_at(file, p) else {
+        return 0;
+    };
+    let o = owner as usize;
+    if p == 0 {
+        return given(5, o != 0);
+    }
+    if !is_composite_at(file, o) {
+        return 5;
+    }
+    let Says::Component { .. } = says else {
+        return 0;
+    };
+    if o == p - 1 {
+        return 0;
+    }
+    given(5, !holds(file, p - 1, o, p - 1))
+}
+
+// Whether the depth of component p is over d.
+fn deeper(file: &[u8], d: u8, p: usize) -> bool
+    ensures { λ r. ⌜ r ≡ deeper (recordAt (now (file .entry))) d p ⌝ }
+{
+    let mut left = d;
+    let mut inner = p;
+    while 0 < left {
+        if inner == 0 {
+            return false;
+        }
+        let Stands::Component { owner, .. } = component_at(file, inner) else {
+            return false;
+        };
+        inner = owner as usize;
+        left -= 1;
+    }
+    true
+}
+
+// 6: component number 256 or more, or too deep.
+fn check6(file: &[u8], p: usize) -> u32
+    ensures { λ r. ⌜ r ≡ given 6 (fails6 (recordAt (now (file .entry))) p) ⌝ }
+{
+    let Stands::Component { .. } = component_at(file, p) else {
+        return 0;
+    };
+    if 256 <= p {
+        return 6;
+    }
+    given(6, deeper(file, deepest(), p))
+}
+
+// 7: the kind is the one kept for Custom.
+fn check7(file: &[u8], p: usize) -> u32
+    ensures { λ r. ⌜ r ≡ given 7 (fails7 (recordAt (now (file .entry))) p) ⌝ }
+{
+    let Stands::Component { fields, .. } = component_at(file, p) else {
+        return 0;
+    };
+    given(7, kinds::is_kept(fields.kind))
+}
+
+// 8: the kind is none.
+fn check8(file: &[u8], p: usize) -> u32
+    ensures { λ r. ⌜ r ≡ given 8 (fails8 (recordAt (now (file .entry))) p) ⌝ }
+{
+    let Stands::Component { fields, .. } = component_at(file, p) else {
+        return 0;
+    };
+    given(8, kinds::is_unknown(fields.kind))
+}
+
+// 9: the component breaks the table of kinds.
+fn check9(file: &[u8], p: usize) -> u32
+    ensures { λ r. ⌜ r ≡ given 9 (fails9 (recordAt (now (file .entry))) p) ⌝ }
+{
+    let Stands::Component { fields, .. } = component_at(file, p) else {
+        return 0;
+    };
+    given(9, !kinds::obeys(fields))
+}
+
+// Whether a component at a position of the file has the id.
+fn has_id(file: &[u8], q: usize, id: Id) -> bool
+    ensures { λ x. ⌜ x ≡ hasId (id .0) (recordAt (now (file .entry)) q) ⌝ }
+{
+    let Stands::Component { id: other, .. } = component_at(file, q) else {
+        return false;
+    };
+    other.0 == id.0
+}
+
+// Whether a component before p has the id.
+fn id_before(file: &[u8], p: usize, id: Id) -> bool
+    ensures { λ r. ⌜ r ≡ any (λ q. hasId (id .0) (recordAt (now (file .entry)) q)) (from 0 p) ⌝ }
+{
+    let mut q: usize = 0;
+    while q < p {
+        if has_id(file, q, id) {
+            return true;
+        }
+        q += 1;
+    }
+    false
+}
+
+// 10: an earlier component's id.
+fn check10(file: &[u8], p: usize) -> u32
+    ensures { λ r. ⌜ r ≡ given 10 (fails10 (recordAt (now (file .entry))) p) ⌝ }
+{
+    let Stands::Component { id, .. } = component_at(file, p) else {
+        return 0;
+    };
+    given(10, id_before(file, p, id))
+}
+
+// The inputs and the outputs of some primitives.
+struct Ports {
+    inputs: usize,
+    outputs: usize,
+}
+
+// Those of the primitive at a position; none where no primitive stands there.
+fn ports_at(file: &[u8], q: usize) -> Ports
+    ensures { λ r. ⌜ (r .inputs ≡ cond (isPrimitive (recordAt (now (file .entry)) q)) (inputsOf (recordAt (now (file .entry)) q)) 0) ×
+        (r .inputs ≤ 65535) × (r .outputs ≡ cond (isPrimitive (recordAt (now (file .entry)) q)) (outputsOf (recordAt (now (file .entry)) q)) 0) ×
+        (r .outputs ≤ 65535) ⌝ }
+{
+    let Stands::Component { fields, .. } = component_at(file, q) else {
+        return Ports {
+            inputs: 0,
+            outputs: 0,
+        };
+    };
+    if !kinds::is_primitive(fields) {
+        return Ports {
+            inputs: 0,
+            outputs: 0,
+        };
+    }
+    Ports {
+        inputs: fields.inputs as usize,
+        outputs: fields.outputs as usize,
+    }
+}
+
+// Whether the primitives before position p have over 1,024 inputs or over 1,024 outputs.
+fn is_overfull(file: &[u8], p: usize) -> bool
+    ensures { λ r. ⌜ r ≡ (ltb 1024 (inputsBefore (recordAt (now (file .entry))) p) || ltb 1024 (outputsBefore (recordAt (now (file .entry))) p)) ⌝ }
+{
+    let mut inputs: usize = 0;
+    let mut outputs: usize = 0;
+    let mut q: usize = 0;
+    while q < p {
+        let ports = ports_at(file, q);
+        inputs += ports.inputs;
+        outputs += ports.outputs;
+        if (1024 < inputs) | (1024 < outputs) {
+            return true;
+        }
+        q += 1;
+    }
+    false
+}
+
+// 11: the primitives so far, this one counted, have too many inputs or outputs.
+fn check11(file: &[u8], p: usize) -> u32
+    ensures { λ r. ⌜ r ≡ given 11 (fails11 (recordAt (now (file .entry))) p) ⌝ }
+{
+    let Stands::Component { .. } = component_at(file, p) else {
+        return 0;
+    };
+    given(11, is_overfull(file, p + 1))
+}
+
+// Whether component c has an input i.
+fn has_input(file: &[u8], c: usize, i: u16) -> bool
+    ensures { λ x. ⌜ x ≡ ltb i (inputsOf (recordAt (now (file .entry)) c)) ⌝ }
+{
+    let Stands::Component { fields, .. } = component_at(file, c) else {
+        return false;
+    };
+    i < fields.inputs
+}
+
+// Whether component c has an output i.
+fn has_output(file: &[u8], c: usize, i: u16) -> bool
+    ensures { λ x. ⌜ x ≡ ltb i (outputsOf (recordAt (now (file .entry)) c)) ⌝ }
+{
+    let Stands::Component { fields, .. } = component_at(file, c) else {
+        return false;
+    };
+    i < fields.outputs
+}
+
+// 12: a child or port in kinds 2 to 4 does not exist.
+fn check12(file: &[u8], index: &[u16], p: usize) -> u32
+    requires { ⌜ IsIndex (now file) (now index) ⌝ }
+    ensures { λ r. ⌜ r ≡ given 12 (fails12 (recordAt (now (file .entry))) (recordCount (now (file .entry))) p) ⌝ }
+{
+    let Reading::Taken { owner, says } = record_at(file, p) else {
+        return 0;
+    };
+    let o = owner as usize;
+    match says {
+        Says::Component { .. } => 0,
+        Says::Connection {
+            from,
+            output,
+            to,
+            input,
+        } => {
+            let from_there = has_output(file, child_of(file, index, o, from), output);
+            let to_there = has_input(file, child_of(file, index, o, to), input);
+            given(12, !(from_there & to_there))
+        }
+        Says::InputMap { port, to, input } => {
+            let to_there = has_input(file, child_of(file, index, o, to), input);
+            given(12, !(has_input(file, o, port) & to_there))
+        }
+        Says::OutputMap { from, output } => {
+            let from_there = has_output(file, child_of(file, index, o, from), output);
+            given(12, !from_there)
+        }
+    }
+}
+
+// A child's input that a record enters, or none.
+enum Entry {
+    Of { owner: u16, to: ChildNo, input: u16 },
+    Nothing,
+}
+
+// The child's input that the record at a position enters.
+fn entry_at(file: &[u8], p: usize) -> Entry
+    ensures { λ r. ⌜ EntryAs r (recordAt (now (file .entry)) p) ⌝ }
+{
+    let Reading::Taken { owner, says } = record_at(file, p) else {
+        return Entry::Nothing;
+    };
+    match says {
+        Says::Component { .. } => Entry::Nothing,
+        Says::Connection { to, input, .. } => Entry::Of { owner, to, input },
+        Says::InputMap { to, input, .. } => Entry::Of { owner, to, input },
+        Says::OutputMap { .. } => Entry::Nothing,
+    }
+}
+
+// Whether the record at q enters the input of child `to` of an owner.
+fn same_entry(file: &[u8], q: usize, owner: u16, to: ChildNo, input: u16) -> bool
+    ensures { λ x. ⌜ x ≡ enters owner (to .0) input (recordAt (now (file .entry)) q) ⌝ }
+{
+    let Entry::Of {
+        owner: other,
+        to: child,
+        input: port,
+    } = entry_at(file, q)
+    else {
+        return false;
+    };
+    (other == owner) & (child.0 == to.0) & (port == input)
+}
+
+// 13: an earlier record of kind 2 or 3 entered the same input.
+fn check13(file: &[u8], p: usize) -> u32
+    ensures { λ r. ⌜ r ≡ given 13 (fails13 (recordAt (now (file .entry))) p) ⌝ }
+{
+    let Entry::Of { owner, to, input } = entry_at(file, p) else {
+        return 0;
+    };
+    let mut q: usize = 0;
+    while q < p {
+        if same_entry(file, q, owner, to, input) {
+            return 13;
+        }
+        q += 1;
+    }
+    0
+}
+
+// How many output maps composite c has.
+fn out_map_count(file: &[u8], n: usize, c: usize) -> usize
+    ensures { λ r. ⌜ r ≡ length (outMaps (recordAt (now (file .entry))) n c) ⌝ }
+{
+    let mut count: usize = 0;
+    let mut q: usize = 0;
+    while q < n {
+        if is_owned(file, q, 4, c) {
+            count += 1;
+        }
+        q += 1;
+    }
+    count
+}
+
+// 14: a composite's output maps differ in number from its outputs.
+fn check14(file: &[u8], p: usize) -> u32
+    ensures { λ r. ⌜ r ≡ given 14 (fails14 (recordAt (now (file .entry))) (recordCount (now (file .entry))) p) ⌝ }
+{
+    let Stands::Component { fields, .. } = component_at(file, p) else {
+        return 0;
+    };
+    if fields.kind != 0 {
+        return 0;
+    }
+    given(
+        14,
+        fields.outputs as usize != out_map_count(file, file.len() / 24, p),
+    )
+}
+
+// What check k, of 3 to 14, gives of the record at p. Crate flatten calls it over all records of a file, in number order, with the
+// index filled.
+pub fn check(file: &[u8], index: &[u16], k: u32, p: usize) -> u32
+    requires { ⌜ IsIndex (now file) (now index) ⌝ }
+    ensures { λ r. ⌜ r ≡ given k (failsBy (recordAt (now (file .entry))) (recordCount (now (file .entry))) k p) ⌝ }
+{
+    match k {
+        3 => check3(file, p),
+        4 => check4(file, p),
+        5 => check5(file, p),
+        6 => check6(file, p),
+        7 => check7(file, p),
+        8 => check8(file, p),
+        9 => check9(file, p),
+        10 => check10(file, p),
+        11 => check11(file, p),
+        12 => check12(file, index, p),
+        13 => check13(file, p),
+        14 => check14(file, p),
+        _ => 0,
+    }
+}

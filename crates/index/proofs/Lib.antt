@@ -1,0 +1,3 @@
+pub mod FillingLaws
+pub mod WideningLaws
+pub mod IndexLaws

@@ -1,0 +1,109 @@
+-- `fill_ends`: the invariant is `Widening`: the stretches hold the input maps passed so far.
+-- Assumes nothing.
+use mathlib.Core.Path.{sym, _∙_}
+use Prim.Native.Nat.{_-_}
+use native.Mathlib.Omega.{arith}
+use Rattle.index.proofs.WideningLaws.{Widening, widening-cleared, widening-step, widening-end}
+use borrow.Author.Needs.{needs}
+use Rattle.index.proofs.fill_ends.Statement.{statement}
+use Rattle.index.proofs.fill_ends.Tie as tie
+
+abbrev Inv-loop : tie.InvT-loop
+Inv-loop file n ends₀ q₀ ends q = Widening file n q ends
+
+abbrev μ-loop : tie.MeasureT-loop
+μ-loop file n ends₀ q₀ ends q = n - q
+
+sub-clear : tie.Need-sub-clear Inv-loop μ-loop
+sub-clear c = search needs
+
+part-clear-start : tie.Need-part-clear-start Inv-loop μ-loop
+part-clear-start c = search needs
+
+part-clear-end : tie.Need-part-clear-end Inv-loop μ-loop
+part-clear-end c = search needs
+
+cast-clear : tie.Need-cast-clear Inv-loop μ-loop
+cast-clear c = search needs
+
+clear-requires : tie.Need-clear-requires Inv-loop μ-loop
+clear-requires c κs = search needs
+
+sub-clear-2 : tie.Need-sub-clear-2 Inv-loop μ-loop
+sub-clear-2 c = search needs
+
+part-clear-start-2 : tie.Need-part-clear-start-2 Inv-loop μ-loop
+part-clear-start-2 c = search needs
+
+part-clear-end-2 : tie.Need-part-clear-end-2 Inv-loop μ-loop
+part-clear-end-2 c = search needs
+
+clear-requires-2 : tie.Need-clear-requires-2 Inv-loop μ-loop
+clear-requires-2 c κs = search needs
+
+loop-holds : tie.Need-loop-holds Inv-loop μ-loop
+loop-holds c =
+    let l = c .before .before .before .before .before .before in
+    let s = l .before .before .before .before in
+    widening-cleared (s .args .file .now) (s .args .n) (s .args .ends .now) (l .clear .last .0) (c .before .before .clear2 .last .0) (s .pre .1) (l .clear .ensures .size)
+    (c .before .before .clear2 .ensures .size) (c .before .before .clear2 .ensures .word)
+
+record-at-requires : tie.Need-record-at-requires Inv-loop μ-loop
+record-at-requires c κs = search needs
+
+cast-widen : tie.Need-cast-widen Inv-loop μ-loop
+cast-widen c = omega (arith, c .before .before .before .before .before .before .before .before .before .before .before .before .before .before .pre .0)
+
+widen-requires : tie.Need-widen-requires Inv-loop μ-loop
+widen-requires c κs =
+    let l = c .before .before .before in
+    let e = l .before .before .before .before .before .before .before .before .before .before .before .pre .0 in
+    (l .loop .inv .size, omega arith)
+
+add-q : tie.Need-add-q Inv-loop μ-loop
+add-q c = search needs
+
+loop-less : tie.Need-loop-less Inv-loop μ-loop
+loop-less c = search needs
+
+loop-again : tie.Need-loop-again Inv-loop μ-loop
+loop-again c =
+    let w = c .before .before in
+    let l = w .before .before .before .before in
+    let a = l .before .before .before .before .before .before .before .before .before .before .before .args in
+    widening-step (a .file .now) (a .n) (l .loop .q) (l .loop .ends) (l .loop .inv) _ (w .before .record-at .ensures .0) _
+    (w .before .before .before .loop-test .taken) (w .widen .ensures)
+
+same-length : tie.Need-same-length Inv-loop μ-loop
+same-length c = c .before .loop .inv .size ∙ sym (c .before .before .before .before .before .before .before .before .before .before .before .before .pre .1)
+
+returns : tie.Need-returns Inv-loop μ-loop
+returns c =
+    let l = c .before in
+    let a = l .before .before .before .before .before .before .before .before .before .before .before .args in
+    widening-end (a .file .now) (a .n) (l .loop .q) (l .loop .ends) (l .loop .inv) (c .loop-test .left)
+
+pub fill-ends-spec : {M : Type 1} → statement M
+fill-ends-spec =
+    tie.close
+    (tie.spec
+    Inv-loop
+    μ-loop
+    sub-clear
+    part-clear-start
+    part-clear-end
+    cast-clear
+    clear-requires
+    sub-clear-2
+    part-clear-start-2
+    part-clear-end-2
+    clear-requires-2
+    loop-holds
+    record-at-requires
+    cast-widen
+    widen-requires
+    add-q
+    loop-less
+    loop-again
+    same-length
+    returns)

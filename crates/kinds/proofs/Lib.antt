@@ -1,0 +1,3 @@
+pub mod KindsLaws
+pub mod ObeysLaws
+pub mod GivenLaws

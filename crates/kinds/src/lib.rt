@@ -1,0 +1,114 @@
+// The kinds of component, their numbers and their table. Rule: docs/SPECIFICATION.md, "The drawing file". Source: primitive.rs, `Primitive`.
+mod answers;
+mod table;
+
+ghost use mathlib.Core.Path.{_≡_};
+ghost use Rattle.kinds.specs.Kinds.{numberOf, seenAs, forCustom, unknown};
+pub use answers::Refusal;
+pub use answers::refused_by;
+pub use table::Fields;
+pub use table::Row;
+pub use table::Span;
+pub use table::input_width;
+pub use table::is_primitive;
+pub use table::obeys;
+pub use table::output_width;
+
+// An id as drawn.
+pub struct Id(pub u32);
+
+// To whoever adds a kind: append yours after the last, never between two. A kind's number is saved in the drawing files of every
+// gate, and all of them are read by this table: a kind put in before Nand would make each Nand drawn so far another gate, and
+// a screen would light a closed run. 14 is kept for the Rust's `Custom`, so the next number is 15. Besides this file the
+// table of kinds and the rules want a line, and so do the definitions of all three.
+pub enum Kind {
+    Composite,
+    And,
+    Or,
+    Not,
+    Nand,
+    Nor,
+    Xor,
+    Switch,
+    Input,
+    Output,
+    Splitter,
+    Joiner,
+    Clock,
+    Const,
+}
+
+// What a number is read as: a kind, the number kept for Custom, or no kind.
+pub enum Seen {
+    Known(Kind),
+    Kept,
+    Unknown,
+}
+
+// The number of a kind, as saved in files.
+pub fn number_of(kind: Kind) -> u8
+    ensures { λ r. ⌜ r ≡ numberOf kind ⌝ }
+{
+    match kind {
+        Kind::Composite => 0,
+        Kind::And => 1,
+        Kind::Or => 2,
+        Kind::Not => 3,
+        Kind::Nand => 4,
+        Kind::Nor => 5,
+        Kind::Xor => 6,
+        Kind::Switch => 7,
+        Kind::Input => 8,
+        Kind::Output => 9,
+        Kind::Splitter => 10,
+        Kind::Joiner => 11,
+        Kind::Clock => 12,
+        Kind::Const => 13,
+    }
+}
+
+// What a number is read as, the other way round.
+pub fn kind_of(number: u8) -> Seen
+    ensures { λ r. ⌜ r ≡ seenAs number ⌝ }
+{
+    match number {
+        0 => Seen::Known(Kind::Composite),
+        1 => Seen::Known(Kind::And),
+        2 => Seen::Known(Kind::Or),
+        3 => Seen::Known(Kind::Not),
+        4 => Seen::Known(Kind::Nand),
+        5 => Seen::Known(Kind::Nor),
+        6 => Seen::Known(Kind::Xor),
+        7 => Seen::Known(Kind::Switch),
+        8 => Seen::Known(Kind::Input),
+        9 => Seen::Known(Kind::Output),
+        10 => Seen::Known(Kind::Splitter),
+        11 => Seen::Known(Kind::Joiner),
+        12 => Seen::Known(Kind::Clock),
+        13 => Seen::Known(Kind::Const),
+        14 => Seen::Kept,
+        _ => Seen::Unknown,
+    }
+}
+
+// Whether a number is the one kept for Custom.
+pub fn is_kept(number: u8) -> bool
+    ensures { λ r. ⌜ r ≡ forCustom number ⌝ }
+{
+    match kind_of(number) {
+        Seen::Known(_) => false,
+        Seen::Kept => true,
+        Seen::Unknown => false,
+    }
+}
+
+// Whether a number is no kind, nor kept for one.
+pub fn is_unknown(number: u8) -> bool
+    ensures { λ r. ⌜ r ≡ unknown number ⌝ }
+{
+    match kind_of(number) {
+        Seen::Known(_) => false,
+        Seen::Kept => false,
+        Seen::Unknown => true,
+    }
+}

@@ -1,0 +1,169 @@
+-- The answers to the questions, by the number of their checks: refused, or what the net says. And what the net gives
+-- the functions that find it.
+-- Not here: laws of the ends of wires (EndsLaws).
+-- Assumes nothing.
+use mathlib.Core.Path.{_≡_, refl, sym, ap, _∙_}
+use mathlib.Core.Bool.{Bool, true, false, cond}
+use mathlib.Core.List.{List, [], _∷_}
+use Prim.Native.Nat.{ℕ, _+_, _≤_, _<_}
+use native.Mathlib.Omega.{arith}
+use borrow.Author.Tests.{ne-eqb, le-leb, lt-leb, lt-ltb, le-ltb, ltb-false}
+use lib.ListN.{length, getD}
+use lib.Dec.{eqb, leb, ltb}
+use Rattle.lists.specs.Lists.{every, first, overlay}
+use Rattle.value.specs.Value.{level}
+use Rattle.kinds.specs.declared.Kind.the-variants.{Clock}
+use Rattle.kinds.specs.declared.table.Fields.{Fields}
+use Rattle.kinds.specs.Kinds.{is, inputWidth, outputWidth}
+use Rattle.kinds.specs.Given.{Given, done, declined, refusedBy}
+use Rattle.tables.specs.Tables.{Tables, fieldsAt, idAt, firstInput, firstOutput, indexes, currentList, wireAt, indexOf}
+use Rattle.net.specs.Net.{netNumber, onNet}
+use Rattle.net.specs.Parts.{lent}
+use Rattle.net.proofs.ClausesLaws.{kindsObeyed-fit}
+use Rattle.net.proofs.NetLaws.{netNumber-net}
+use Rattle.questions.specs.declared.Side.{Side}
+use Rattle.questions.specs.declared.Side.the-variants.{Inputs, Outputs}
+use Rattle.questions.specs.declared.Calm.the-variants.{Is as CalmIs, Refused as NoCalm}
+use Rattle.questions.specs.declared.Index.{Index}
+use Rattle.questions.specs.declared.Index.the-variants.{Refused as NoIndex}
+use Rattle.questions.specs.declared.Port.{Port}
+use Rattle.questions.specs.declared.Port.the-variants.{Refused as NoPort}
+use Rattle.questions.specs.declared.Listed.{Listed}
+use Rattle.questions.specs.declared.Listed.the-variants.{Count, Refused as NotListed}
+use Rattle.rounds.specs.Round.{calm}
+use Rattle.questions.specs.Questions.{ofNet, AsksCalm, indexGives, indexFound, AsksIndex, valueGives, valueOnNet, AsksValue, listNumber, Listing, AsksSources, AsksTargets}
+use Rattle.questions.specs.declared.Tip.{Tip}
+use Rattle.questions.specs.declared.Tip.the-variants.{Source, Target}
+use Rattle.questions.specs.Asked.{endOf, met, RowRight}
+use Rattle.rounds.proofs.Sound.{net-sound, wire-in}
+use Rattle.net.proofs.NetLaws.{number-refused, number-net, number-passed}
+use Rattle.questions.proofs.EndsLaws.{sources-met, targets-met}
+
+-- What a net gives: a component's row, and the ends of its wires.
+module _ (T : Tables) (z : netNumber T ≡ 0) where
+  pub net-row : (i : ℕ) → i < T .counts .components → RowRight (T .components) (T .inputs) (T .outputs) i
+  net-row i h =
+      record {
+        fit = kindsObeyed-fit T (netNumber-net T z .kinds) i h;
+        inputs-in = net-sound T z .inputs-in i h;
+        outputs-in = net-sound T z .outputs-in i h;
+      }
+
+  pub net-end : (e : Tip) (k : ℕ) → k < T .counts .wires → endOf (T .wires) k e < 256
+  net-end Source k h = omega (arith, net-sound T z .source (wireAt T k) (wire-in T k h), net-sound T z .few)
+  net-end Target k h = omega (arith, net-sound T z .target (wireAt T k) (wire-in T k h), net-sound T z .few)
+
+-- A question that the number refuses, and one of a net.
+of-refused : (T : Tables) (g : Given) (k : ℕ) → k ≡ netNumber T → (k ≡ 0 → ⊥) → declined (refusedBy k) ≡ ofNet T g
+of-refused T g k e ne = rw (← e, ne-eqb k 0 ne)
+
+of-net : (T : Tables) (g : Given) → netNumber T ≡ 0 → g ≡ ofNet T g
+of-net T g z = rw z
+
+-- Calm or not.
+pub calm-refused : (T : Tables) (k : ℕ) → k ≡ netNumber T → (k ≡ 0 → ⊥) → AsksCalm T (NoCalm (refusedBy k))
+calm-refused T = of-refused T (done (level (calm T) ∷ []))
+
+pub calm-is : (T : Tables) (b : Bool) → netNumber T ≡ 0 → b ≡ every (λ i. is Clock (fieldsAt T i)) (currentList T)
+    → AsksCalm T (CalmIs b)
+unfolding calm
+calm-is T b z e = ap (λ (x : Bool). done (level x ∷ [])) e ∙ of-net T (done (level (calm T) ∷ [])) z
+
+-- The index of an id.
+pub index-refused : (T : Tables) (id k : ℕ) → k ≡ netNumber T → (k ≡ 0 → ⊥) → AsksIndex T id (NoIndex (refusedBy k))
+index-refused T id = of-refused T (indexFound (indexOf T id))
+
+pub index-found : (T : Tables) (id : ℕ) (r : Index) → netNumber T ≡ 0
+    → indexGives r ≡ indexFound (first (λ i. eqb (idAt T i) id) (indexes T))
+    → AsksIndex T id r
+unfolding indexOf
+index-found T id r z e = e ∙ of-net T (indexFound (indexOf T id)) z
+
+-- A port's value.
+module _ (T : Tables) (side : Side) (i p : ℕ) where
+  pub value-refused : (k : ℕ) → k ≡ netNumber T → (k ≡ 0 → ⊥) → AsksValue T side i p (NoPort (refusedBy k))
+  value-refused = of-refused T (valueOnNet T side i p)
+
+  lent-value : (side : Side)
+      → valueOnNet (lent (T .components) (T .inputs) (T .outputs) [] (T .counts)) side i p ≡ valueOnNet T side i p
+  unfolding valueOnNet
+  lent-value Inputs = refl
+  lent-value Outputs = refl
+
+  pub value-there : (r : Port) → netNumber T ≡ 0
+      → valueGives r ≡ valueOnNet (lent (T .components) (T .inputs) (T .outputs) [] (T .counts)) side i p
+      → AsksValue T side i p r
+  value-there r z e = e ∙ lent-value side ∙ of-net T (valueOnNet T side i p) z
+
+-- The same inside the tables that are looked at: no such component; a port of it, or none.
+module _ (T : Tables) (side : Side) (i p : ℕ) where
+  pub value-none : T .counts .components ≤ i → valueGives (NoPort (refusedBy 17)) ≡ valueOnNet T side i p
+  unfolding valueOnNet
+  value-none h = rw (le-leb (T .counts .components) i h)
+
+  module _ (r : Port) (f : Fields) (start w : ℕ) (h : i < T .counts .components) (e : f ≡ fieldsAt T i) where
+    pub value-input : side ≡ Inputs → start ≡ firstInput T i → w ≡ inputWidth f
+        → valueGives r ≡ cond (leb (f .inputs) p) (declined (refusedBy 17)) (done (getD (T .inputs) (start + p) 0 ∷ w ∷ []))
+        → valueGives r ≡ valueOnNet T side i p
+    unfolding valueOnNet
+    value-input k q u given = given ∙ rw (k, u, q, e, lt-leb (T .counts .components) i h)
+
+    pub value-output : side ≡ Outputs → start ≡ firstOutput T i → w ≡ outputWidth f
+        → valueGives r ≡ cond (leb (f .outputs) p) (declined (refusedBy 17)) (done (getD (T .outputs) (start + p) 0 ∷ w ∷ []))
+        → valueGives r ≡ valueOnNet T side i p
+    unfolding valueOnNet
+    value-output k q u given = given ∙ rw (k, u, q, e, lt-leb (T .counts .components) i h)
+
+-- Sources and targets: what is checked, in the order of the numbers.
+module _ (T : Tables) (i : ℕ) (list : List ℕ) where
+  -- What is asked of a net.
+  abbrev there : ℕ
+  there = cond (leb (T .counts .components) i) 17 0
+
+  pub list-short : length list < 256 → 2 ≡ listNumber T i list
+  unfolding listNumber
+  list-short h = rw (lt-ltb (length list) 256 h)
+
+  long : 256 ≤ length list → listNumber T i list ≡ onNet T there
+  unfolding listNumber
+  long h = rw (le-ltb (length list) 256 h)
+
+  pub list-refused : (k : ℕ) → 256 ≤ length list → k ≡ netNumber T → (k ≡ 0 → ⊥) → k ≡ listNumber T i list
+  list-refused k h e ne = sym (long h ∙ number-refused T there k e ne)
+
+  pub list-none : 256 ≤ length list → netNumber T ≡ 0 → T .counts .components ≤ i → 17 ≡ listNumber T i list
+  list-none h z l = sym (long h ∙ number-net T there z ∙ rw (le-leb (T .counts .components) i l))
+
+  pub list-passed : 256 ≤ length list → netNumber T ≡ 0 → i < T .counts .components → 0 ≡ listNumber T i list
+  list-passed h z l = sym (long h ∙ number-net T there z ∙ rw (lt-leb (T .counts .components) i l))
+
+  -- and what holds where nothing was refused.
+  module _ (z : listNumber T i list ≡ 0) where
+    pub list-full : 256 ≤ length list
+    unfolding listNumber
+    list-full = by-test (ltb (length list) 256) refl z
+      where
+        by-test : (b : Bool) → ltb (length list) 256 ≡ b → cond b 2 (onNet T there) ≡ 0 → 256 ≤ length list
+        by-test true q e = absurd (omega arith)
+        by-test false q e = ltb-false (length list) 256 q
+
+    pub list-net : netNumber T ≡ 0
+    list-net = number-passed T there (sym (long list-full) ∙ z)
+
+-- The answer and the lent list, where m is the number and xs is listed.
+module _ (m : ℕ) (xs list : List ℕ) where
+  pub joined-refused : (k : ℕ) → k ≡ m → (k ≡ 0 → ⊥) → Listing m xs list (NotListed (refusedBy k)) list
+  joined-refused k e ne = rw (← e, ne-eqb k 0 ne) (refl, refl)
+
+  pub joined-listed : (n : ℕ) (u : List ℕ) → m ≡ 0 → (n ≡ length xs) × (u ≡ overlay xs list) → Listing m xs list (Count n) u
+  joined-listed n u z e = rw z (ap (λ (k : ℕ). done (k ∷ [])) (e .0), e .1)
+
+-- Sources and targets are what wires join.
+module _ (T : Tables) (i : ℕ) (list : List ℕ) (r : Listed) (u : List ℕ) where
+  pub sources-joined : Listing (listNumber T i list) (met (T .wires) (T .counts .wires) Target Source i (T .counts .components)) list r u
+      → AsksSources T i list r u
+  sources-joined e = rw (sources-met T i) e
+
+  pub targets-joined : Listing (listNumber T i list) (met (T .wires) (T .counts .wires) Source Target i (T .counts .components)) list r u
+      → AsksTargets T i list r u
+  targets-joined e = rw (targets-met T i) e

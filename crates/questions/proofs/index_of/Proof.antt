@@ -1,0 +1,44 @@
+-- `index_of`: refused by the number, or what the search finds.
+-- Assumes nothing.
+use mathlib.Core.Path.{_≡_, sym, _∙_}
+use Rattle.tables.specs.Tables.{Tables, tablesOf}
+use Rattle.net.specs.Net.{netNumber}
+use Rattle.questions.proofs.QuestionsLaws.{index-refused, index-found}
+use borrow.Author.Needs.{needs}
+use Rattle.questions.proofs.index_of.Statement.{statement}
+use Rattle.questions.proofs.index_of.Tie as tie
+
+abbrev came : tie.Start → Tables
+came s =
+    let a = s .args in
+    tablesOf (a .components .now) (a .inputs .now) (a .outputs .now) (a .wires .now) (a .current .now)
+    (a .following .now)
+    (a .standing .now) (a .counts)
+
+abbrev start : tie.Else1 → tie.Start
+start c = c .before .before .before .before .before .before .before .before .before
+
+is-net : (c : tie.Else1) → netNumber (came (start c)) ≡ 0
+is-net c = sym (c .before .net-number .ensures) ∙ c .if1 .left
+
+net-number-requires : tie.Need-net-number-requires
+net-number-requires c κs = search needs
+
+refused-by-requires : tie.Need-refused-by-requires
+refused-by-requires c κs = search needs
+
+returns : tie.Need-returns
+returns c =
+    let s = c .before .before .before .before .before .before .before .before .before .before in
+    rw (c .refused-by .ensures) (index-refused (came s) (s .args .id .0) _ (c .before .before .net-number .ensures) (c .before .if1 .taken))
+
+search-id-requires : tie.Need-search-id-requires
+search-id-requires c κs = search needs
+
+returns-2 : tie.Need-returns-2
+returns-2 c =
+    let s = c .before .before .before .before .before .before .before .before .before .before in
+    index-found (came s) (s .args .id .0) (c .search-id .result) (is-net (c .before)) (c .search-id .ensures)
+
+pub index-of-spec : {M : Type 1} → statement M
+index-of-spec = tie.close (tie.spec net-number-requires refused-by-requires returns search-id-requires returns-2)

@@ -1,0 +1,47 @@
+-- `is_calm`: refused by the number, or what the current list names.
+-- Assumes nothing.
+use mathlib.Core.Path.{_≡_, sym, _∙_}
+use Rattle.tables.specs.Tables.{Tables, tablesOf}
+use Rattle.net.specs.Net.{netNumber}
+use Rattle.rounds.proofs.Sound.{current-in}
+use Rattle.questions.proofs.QuestionsLaws.{calm-refused, calm-is}
+use borrow.Author.Needs.{needs}
+use Rattle.questions.proofs.is_calm.Statement.{statement}
+use Rattle.questions.proofs.is_calm.Tie as tie
+
+abbrev came : tie.Start → Tables
+came s =
+    let a = s .args in
+    tablesOf (a .components .now) (a .inputs .now) (a .outputs .now) (a .wires .now) (a .current .now)
+    (a .following .now)
+    (a .standing .now) (a .counts)
+
+abbrev start : tie.Else1 → tie.Start
+start c = c .before .before .before .before .before .before .before .before .before
+
+is-net : (c : tie.Else1) → netNumber (came (start c)) ≡ 0
+is-net c = sym (c .before .net-number .ensures) ∙ c .if1 .left
+
+net-number-requires : tie.Need-net-number-requires
+net-number-requires c κs = search needs
+
+refused-by-requires : tie.Need-refused-by-requires
+refused-by-requires c κs = search needs
+
+returns : tie.Need-returns
+returns c =
+    let s = c .before .before .before .before .before .before .before .before .before .before in
+    rw (c .refused-by .ensures) (calm-refused (came s) _ (c .before .before .net-number .ensures) (c .before .if1 .taken))
+
+only-clocks-requires : tie.Need-only-clocks-requires
+only-clocks-requires c κs =
+    let s = c .before .before .before .before .before .before .before .before .before in
+    current-in (came s) (is-net c)
+
+returns-2 : tie.Need-returns-2
+returns-2 c =
+    let s = c .before .before .before .before .before .before .before .before .before .before in
+    calm-is (came s) _ (is-net (c .before)) (c .only-clocks .ensures)
+
+pub is-calm-spec : {M : Type 1} → statement M
+is-calm-spec = tie.close (tie.spec net-number-requires refused-by-requires returns only-clocks-requires returns-2)

@@ -1,0 +1,48 @@
+-- `value_of`: refused by the number, or the value on the net.
+-- Assumes nothing.
+use mathlib.Core.Path.{_≡_, sym, _∙_}
+use Rattle.tables.specs.Tables.{Tables, tablesOf}
+use Rattle.net.specs.Net.{netNumber}
+use Rattle.questions.proofs.QuestionsLaws.{net-row, value-refused, value-there}
+use borrow.Author.Needs.{needs}
+use Rattle.questions.proofs.value_of.Statement.{statement}
+use Rattle.questions.proofs.value_of.Tie as tie
+
+abbrev came : tie.Start → Tables
+came s =
+    let a = s .args in
+    tablesOf (a .components .now) (a .inputs .now) (a .outputs .now) (a .wires .now) (a .current .now)
+    (a .following .now)
+    (a .standing .now) (a .counts)
+
+abbrev start : tie.Else1 → tie.Start
+start c = c .before .before .before .before .before .before .before .before .before
+
+is-net : (c : tie.Else1) → netNumber (came (start c)) ≡ 0
+is-net c = sym (c .before .net-number .ensures) ∙ c .if1 .left
+
+net-number-requires : tie.Need-net-number-requires
+net-number-requires c κs = search needs
+
+refused-by-requires : tie.Need-refused-by-requires
+refused-by-requires c κs = search needs
+
+returns : tie.Need-returns
+returns c =
+    let s = c .before .before .before .before .before .before .before .before .before .before in
+    let a = s .args in
+    rw (c .refused-by .ensures) (value-refused (came s) (a .side) (a .index .0) (a .port) _ (c .before .before .net-number .ensures) (c .before .if1 .taken))
+
+value-in-requires : tie.Need-value-in-requires
+value-in-requires c κs =
+    let s = c .before .before .before .before .before .before .before .before .before in
+    net-row (came s) (is-net c) (s .args .index .0)
+
+returns-2 : tie.Need-returns-2
+returns-2 c =
+    let s = c .before .before .before .before .before .before .before .before .before .before in
+    let a = s .args in
+    value-there (came s) (a .side) (a .index .0) (a .port) (c .value-in .result) (is-net (c .before)) (c .value-in .ensures)
+
+pub value-of-spec : {M : Type 1} → statement M
+value-of-spec = tie.close (tie.spec net-number-requires refused-by-requires returns value-in-requires returns-2)

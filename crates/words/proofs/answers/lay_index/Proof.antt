@@ -1,0 +1,49 @@
+-- `lay_index`: the answer's values at the front of the words, or nothing.
+-- Assumes nothing.
+use Prim.Native.Nat.{_<_}
+use native.Mathlib.Omega.{arith}
+use Rattle.questions.specs.declared.Index.the-variants.{Refused}
+use Rattle.questions.specs.Questions.{indexGives}
+use Rattle.words.proofs.WordsLaws.{one-laid, none-laid}
+use borrow.Author.Needs.{needs}
+use Rattle.words.proofs.answers.lay_index.Statement.{statement}
+use Rattle.words.proofs.answers.lay_index.Tie as tie
+
+enum-known-answer : tie.Need-enum-known-answer
+enum-known-answer c = search needs
+
+slice-write-found : tie.Need-slice-write-found
+slice-write-found c = search needs
+
+enum-known-answer-2 : tie.Need-enum-known-answer-2
+enum-known-answer-2 c = search needs
+
+mul-result : tie.Need-mul-result
+mul-result c =
+    let h : indexGives (Refused (c .before .before .answer2 .given .0 .0)) .number < 65536 = rw (c .before .before .answer2 .given .1) at (c .before .before .before .before .pre .1) in
+    omega arith
+
+same-length : tie.Need-same-length
+same-length c = search needs
+
+returns : tie.Need-returns
+returns c =
+    let e = c .before .answer .given .1 in
+    (rw e, rw e (one-laid (c .before .before .before .args .found .now) (c .before .answer .given .0 .0 .0) (c .before .before .before .pre .0)))
+
+returns-2 : tie.Need-returns-2
+returns-2 c =
+    let e = c .before .before .answer2 .given .1 in
+    (rw e, rw e (none-laid (c .before .before .before .before .args .found .now)))
+
+pub lay-index-spec : {M : Type 1} → statement M
+lay-index-spec =
+    tie.close
+    (tie.spec
+    enum-known-answer
+    slice-write-found
+    enum-known-answer-2
+    mul-result
+    same-length
+    returns
+    returns-2)

@@ -1,0 +1,131 @@
+// Answers in lent words.
+ghost use mathlib.Core.Path.{_≡_};
+ghost use Prim.Native.Nat.{_*_, _<_, _≤_};
+ghost use lib.ListN.{length, take, drop};
+ghost use Rattle.lists.specs.Lists.{overlay};
+ghost use Rattle.value.specs.Value.{level};
+ghost use Rattle.primitive.specs.Evaluate.{evaluatedGives};
+ghost use Rattle.simulator.specs.Calls.{ranGives};
+ghost use Rattle.questions.specs.Questions.{calmGives, indexGives, valueGives, listGives};
+ghost use Rattle.words.specs.Words.{valuesIn, sideOf};
+use crate::counts::lay;
+use primitive::Evaluated;
+use questions::Calm;
+use questions::Index;
+use questions::Listed;
+use questions::Port;
+use questions::Side;
+use simulator::Ran;
+
+// A number, as a call says it.
+pub fn speak(number: u32) -> u32
+    requires { ⌜ number < 65536 ⌝ }
+    ensures { λ r. ⌜ r ≡ 65536 * number ⌝ }
+{
+    65536 * number
+}
+
+// Side 0 is the inputs, any other the outputs.
+pub fn side_of(number: u32) -> Side
+    ensures { λ r. ⌜ r ≡ sideOf number ⌝ }
+{
+    if number == 0 {
+        Side::Inputs
+    } else {
+        Side::Outputs
+    }
+}
+
+// 1 or 0.
+fn level_of(high: bool) -> u64
+    ensures { λ r. ⌜ r ≡ level high ⌝ }
+{
+    if high { 1 } else { 0 }
+}
+
+// The word of an answer, calm or not; and so of each of the other answers below. A refusal lays nothing.
+pub fn lay_calm(found: &mut [u64], answer: Calm) -> u32
+    requires { ⌜ (1 ≤ length (now found)) × (calmGives answer .number < 65536) ⌝ }
+    ensures { λ r. ⌜ (r ≡ 65536 * calmGives answer .number) × (now (found .exit) ≡ overlay (valuesIn (calmGives answer)) (now (found .entry))) ⌝ }
+{
+    match answer {
+        Calm::Is(calm) => {
+            found[0] = level_of(calm);
+            0
+        }
+        Calm::Refused(refusal) => 65536 * refusal.number,
+    }
+}
+
+pub fn lay_index(found: &mut [u64], answer: Index) -> u32
+    requires { ⌜ (1 ≤ length (now found)) × (indexGives answer .number < 65536) ⌝ }
+    ensures { λ r. ⌜ (r ≡ 65536 * indexGives answer .number) × (now (found .exit) ≡ overlay (valuesIn (indexGives answer)) (now (found .entry))) ⌝ }
+{
+    match answer {
+        Index::Is(index) => {
+            found[0] = index.0 as u64;
+            0
+        }
+        Index::Refused(refusal) => 65536 * refusal.number,
+    }
+}
+
+pub fn lay_value(found: &mut [u64], answer: Port) -> u32
+    requires { ⌜ (2 ≤ length (now found)) × (valueGives answer .number < 65536) ⌝ }
+    ensures { λ r. ⌜ (r ≡ 65536 * valueGives answer .number) × (now (found .exit) ≡ overlay (valuesIn (valueGives answer)) (now (found .entry))) ⌝ }
+{
+    match answer {
+        Port::Is(value) => {
+            found[0] = value.number;
+            found[1] = value.width;
+            0
+        }
+        Port::Refused(refusal) => 65536 * refusal.number,
+    }
+}
+
+pub fn lay_listed(found: &mut [u64], answer: Listed) -> u32
+    requires { ⌜ (1 ≤ length (now found)) × (listGives answer .number < 65536) ⌝ }
+    ensures { λ r. ⌜ (r ≡ 65536 * listGives answer .number) × (now (found .exit) ≡ overlay (valuesIn (listGives answer)) (now (found .entry))) ⌝ }
+{
+    match answer {
+        Listed::Count(count) => {
+            found[0] = count as u64;
+            0
+        }
+        Listed::Refused(refusal) => 65536 * refusal.number,
+    }
+}
+
+// The counts of a run, and its two words.
+pub fn lay_run(words: &mut [u64], found: &mut [u64], answer: Ran) -> u32
+    requires { ⌜ (7 ≤ length (now words)) × (2 ≤ length (now found)) × (ranGives answer .number < 65536) ⌝ }
+    ensures { λ r. ⌜ (r ≡ 65536 * ranGives answer .number)
+        × (now (words .exit) ≡ overlay (drop 2 (valuesIn (ranGives answer))) (now (words .entry)))
+        × (now (found .exit) ≡ overlay (take 2 (valuesIn (ranGives answer))) (now (found .entry))) ⌝ }
+{
+    match answer {
+        Ran::Done {
+            counts,
+            rounds,
+            evaluations,
+        } => {
+            lay(words, counts);
+            found[0] = rounds as u64;
+            found[1] = evaluations as u64;
+            0
+        }
+        Ran::Refused(refusal) => 65536 * refusal.number,
+    }
+}
+
+// The number of an evaluation.
+pub fn say_evaluated(answer: Evaluated) -> u32
+    requires { ⌜ evaluatedGives answer .number < 65536 ⌝ }
+    ensures { λ r. ⌜ r ≡ 65536 * evaluatedGives answer .number ⌝ }
+{
+    match answer {
+        Evaluated::Done => 0,
+        Evaluated::Refused(refusal) => 65536 * refusal.number,
+    }
+}

@@ -1,0 +1,17 @@
+// Counts and answers in words of 64 bits, as the host's calls are lent them. Rule: docs/SPECIFICATION.md, "Numbers given back".
+// Crate host calls all of it, and has tested what the functions require.
+mod answers;
+mod counts;
+
+pub use answers::lay_calm;
+pub use answers::lay_index;
+pub use answers::lay_listed;
+pub use answers::lay_run;
+pub use answers::lay_value;
+pub use answers::say_evaluated;
+pub use answers::side_of;
+pub use answers::speak;
+pub use counts::counts_in;
+pub use counts::keep;
+pub use counts::keep_loaded;
+pub use counts::lay;
