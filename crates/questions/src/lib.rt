@@ -15,7 +15,9 @@ ghost use Rattle.questions.specs.Questions.{AsksCalm, indexGives, indexF
 ghost use Rattle.questions.specs.Questions.{listNumber, Listing, AsksSources, AsksTargets};
 ghost use Rattle.questions.specs.Asked.{compAt, endOf, meets, met, markedBelow, RowRight};
 use kinds::Id;
+use kinds::Refusal;
 use kinds::refused_by;
+use rounds::only_clocks;
 use tables::Counts;
 use tables::FlatIdx;
 use tables::Wire;
