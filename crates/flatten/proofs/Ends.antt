@@ -5,7 +5,7 @@ use mathlib.Core.Path.{_≡_, refl, sym, subst}
 use mathlib.Core.Bool.{Bool, true, false, not}
 use Prim.Native.Nat.{ℕ, _<_}
 use native.Mathlib.Nat.{zero-add}
-use borrow.Author.Tests.{eq-eqb, eqb-true, not-false}
+use borrow.Author.Tests.{eqb-true, not-false}
 use lib.Dec.{eqb}
 use Rattle.lists.specs.Lists.{any}
 use Rattle.lists.proofs.MembersLaws.{In, any-none, map-complete}
@@ -19,7 +19,7 @@ use Rattle.flatten.specs.declared.Lead.{Lead}
 use Rattle.flatten.specs.Descent.{comesFrom, goesTo, wiresAt, wires, fails15}
 use Rattle.flatten.specs.Leads.{From, starts, through, Into, ends, maps}
 use Rattle.flatten.proofs.Accepted.{Passed}
-use Rattle.flatten.proofs.Components.{primitive-component, output-component, component-composite}
+use Rattle.flatten.proofs.Components.{output-component, component-composite}
 use Rattle.flatten.proofs.DescentLeads.{mapsIn-sound, targets-sound, outMap-there, source-sound}
 use Rattle.flatten.proofs.EnteredOnce.{entry-there}
 use Rattle.flatten.proofs.Wires.{lead, Yielded, wires-sound, connection-ends}
@@ -86,8 +86,7 @@ module _ (at : ℕ → Record) (n : ℕ) (d : Passed at n) where
           → outputWidth (fieldsOf (at (w .src .comp))) ≡ inputWidth (fieldsOf (at (w .dst .comp)))
       yielded-width y =
           let p = y .by in
-          let made = eq-eqb _ 1 (primitive-component (at (comesFrom at n p .comp)) (source-there p (y .in-file) (y .connects) .of-primitive)) in
-          let fifteen : any differs (wiresAt at n p) ≡ false = rw (y .connects, made) at (passes p (y .in-file)) in
+          let fifteen : any differs (wiresAt at n p) ≡ false = rw (y .connects) at (passes p (y .in-file)) in
           let yielded : In w (wiresAt at n p) =
           rw (y .source-is) (map-complete (lead (comesFrom at n p)) (w .dst) (goesTo at n p) (y .target-is)) in
           eqb-true _ _ (not-false _ (any-none differs w (wiresAt at n p) fifteen yielded))

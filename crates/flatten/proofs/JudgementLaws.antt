@@ -78,7 +78,7 @@ later-refused k (some p) v r e = e
 later-refused k none v r e = let z : _≡_ {A = ℕ} 0 1 = cc in absurd (omega arith)
 
 -- Checks that accept leave the judgement to those behind them.
-judged-append : (n : ℕ) (xs ys : List Check) → judged n xs ≡ Accepted → judged n (xs ++ ys) ≡ judged n ys
+pub judged-append : (n : ℕ) (xs ys : List Check) → judged n xs ≡ Accepted → judged n (xs ++ ys) ≡ judged n ys
 judged-append n [] ys e = refl
 judged-append n (x ∷ xs) ys e = by-found (judged-append n xs ys) (first (x .fails) (from 0 n)) e
   where

@@ -12,3 +12,4 @@ pub mod Bound
 pub mod ConnectionLaws
 pub mod WidthsLaws
 pub mod WireTheorems
+pub mod SameVerdict

@@ -3,7 +3,7 @@
 use mathlib.Core.Path.{_≡_, sym, ap, _∙_}
 use mathlib.Core.Bool.{Bool, false, not}
 use mathlib.Core.List.{List, [], _∷_}
-use Prim.Native.Nat.{ℕ, _-_, _/_, _<_}
+use Prim.Native.Nat.{ℕ, _-_, _/_}
 use native.Mathlib.Nat.{sub-zero}
 use borrow.Author.Tests.{eq-eqb, ne-eqb}
 use lib.Dec.{eqb}
@@ -28,12 +28,9 @@ use Rattle.component.proofs.RecordLaws.{no-connection, refused-is, taken-form}
 use Rattle.flatten.specs.declared.Pin.{Pin}
 use Rattle.flatten.specs.declared.Lead.{Lead}
 use Rattle.flatten.specs.Descent.{outputBelow, comesFrom, goesTo, wiresAt, fails15}
-use Rattle.flatten.specs.Searches.{unlike, PassedBefore}
+use Rattle.flatten.specs.Searches.{unlike}
 use Rattle.flatten.specs.Targets.{targetIn, targetsIn}
 use Rattle.flatten.proofs.DescentLaws.{source-is, form-is}
-use Rattle.flatten.proofs.Accepted.{passed-before}
-use Rattle.flatten.proofs.Components.{primitive-component}
-use Rattle.flatten.proofs.Ends.{source-there}
 
 -- The search for a target of another width starts at the first.
 pub differs-start : (s t : List ℕ) (w m : ℕ)
@@ -48,7 +45,7 @@ pub differs-at : (s ts : List ℕ) (w k : ℕ) (t : Pin) (b x : Bool) → t ≡ 
 differs-at s ts w k t b x e d h = ap (unlike (recordAt s) w) (sym e) ∙ sym d ∙ h
 
 -- The ends of a wire differ in width.
-abbrev differing : (ℕ → Record) → Lead → Bool
+abbrev pub differing : (ℕ → Record) → Lead → Bool
 differing at w = not (eqb (outputWidth (fieldsOf (at (w .src .comp)))) (inputWidth (fieldsOf (at (w .dst .comp)))))
 
 module _ (s : List ℕ) where
@@ -65,23 +62,19 @@ module _ (s : List ℕ) where
       rw (ne-eqb (formOf (recordAt s p)) 2 (λ z. no-connection x k (sym (taken-form (recordAt s p) r e o x h) ∙ z)))
 
   -- a connection, one of whose targets ts has another width than its source, or none has
-  module _ (p : ℕ) (l : p < n) (o a b : ℕ) (f t : ChildNo) (e : recordAt s p ≡ apart o (Connection f a t b))
-      (passed : PassedBefore (recordAt s) n 15) where
-    pub fails15-connection : (j q : ℕ) (out : Pin) (v : Fields) (w : ℕ) (ts : List Pin) (y : Bool) → ts ≡ goesTo (recordAt s) n p
-        → j ≡ deepest → q ≡ child (recordAt s) n o (f .0) → out ≡ outputBelow (recordAt s) n j q a
-        → v ≡ fieldsOf (recordAt s (out .comp)) → w ≡ outputWidth v → y ≡ any (unlike (recordAt s) w) ts
-        → y ≡ fails15 (recordAt s) n p
-    fails15-connection j q out v w ts y read ej eq eo ev ew ey =
-        let source = comesFrom (recordAt s) n p in
-        let connects = form-is s n p o a b f t e in
-        let made : formOf (recordAt s (source .comp)) ≡ 1 =
-        primitive-component (recordAt s (source .comp)) (source-there (recordAt s) n (passed-before s passed) p l connects .of-primitive) in
-        let comes : out ≡ source = source-is s n p o a b f t e j q out ej eq eo in
-        let width : w ≡ outputWidth (fieldsOf (recordAt s (source .comp))) =
-        ew ∙ ap outputWidth (ev ∙ ap (λ (u : Pin). fieldsOf (recordAt s (u .comp))) comes) in
-        let there : fails15 (recordAt s) n p ≡ any (differing (recordAt s)) (wiresAt (recordAt s) n p) =
-        rw (eq-eqb (formOf (recordAt s p)) 2 connects, eq-eqb (formOf (recordAt s (source .comp))) 1 made) in
-        ey ∙ ap (λ (u : ℕ). any (unlike (recordAt s) u) ts) width
-        ∙ ap (any (unlike (recordAt s) (outputWidth (fieldsOf (recordAt s (source .comp)))))) read
-        ∙ sym (any-map (differing (recordAt s)) (λ (u : Pin). record { src = source; dst = u }) (goesTo (recordAt s) n p))
-        ∙ sym there
+  pub fails15-connection : (p o a b : ℕ) (f t : ChildNo) → recordAt s p ≡ apart o (Connection f a t b) → (j q : ℕ) (out : Pin) (v : Fields) (w : ℕ)
+      (ts : List Pin) (y : Bool) → ts ≡ goesTo (recordAt s) n p
+      → j ≡ deepest → q ≡ child (recordAt s) n o (f .0) → out ≡ outputBelow (recordAt s) n j q a
+      → v ≡ fieldsOf (recordAt s (out .comp)) → w ≡ outputWidth v → y ≡ any (unlike (recordAt s) w) ts
+      → y ≡ fails15 (recordAt s) n p
+  fails15-connection p o a b f t e j q out v w ts y read ej eq eo ev ew ey =
+      let source = comesFrom (recordAt s) n p in
+      let comes : out ≡ source = source-is s n p o a b f t e j q out ej eq eo in
+      let width : w ≡ outputWidth (fieldsOf (recordAt s (source .comp))) =
+      ew ∙ ap outputWidth (ev ∙ ap (λ (u : Pin). fieldsOf (recordAt s (u .comp))) comes) in
+      let there : fails15 (recordAt s) n p ≡ any (differing (recordAt s)) (wiresAt (recordAt s) n p) =
+      rw (eq-eqb (formOf (recordAt s p)) 2 (form-is s n p o a b f t e)) in
+      ey ∙ ap (λ (u : ℕ). any (unlike (recordAt s) u) ts) width
+      ∙ ap (any (unlike (recordAt s) (outputWidth (fieldsOf (recordAt s (source .comp)))))) read
+      ∙ sym (any-map (differing (recordAt s)) (λ (u : Pin). record { src = source; dst = u }) (goesTo (recordAt s) n p))
+      ∙ sym there
