@@ -2,7 +2,7 @@
 -- far decide the check.
 -- Assumes nothing.
 use mathlib.Core.Path.{_≡_, refl, sym, ap, _∙_}
-use mathlib.Core.Bool.{Bool, true, false, cond, not, _&&_, _||_}
+use mathlib.Core.Bool.{Bool, true, false, cond, not, _&&_, _||_, or-true}
 use mathlib.Core.Logic.{⊎-elim}
 use mathlib.Core.List.{List, [], _∷_}
 use Prim.Native.Nat.{ℕ, zero, suc, _+_, _-_, _/_, _<_, _≤_}
@@ -79,10 +79,6 @@ module _ (m : ℕ) (r : Reading) (e : number r ≡ m) where
 
   pub number-refused : (k : ℕ) → r ≡ Refused k → k ≡ m
   number-refused k h = sym (ap number h) ∙ e
-
-or-true : (a : Bool) → (a || true) ≡ true
-or-true true = refl
-or-true false = refl
 
 -- 4: the order of two record kinds
 module _ (f g o m : ℕ) where

@@ -11,7 +11,8 @@ use lib.Dec.{eqb}
 use lib.ListN.{length, getD, take, drop}
 use types.Run.{OneOf}
 use denote.Enum.Declared.{tagOf}
-use Rattle.lists.proofs.ListsLaws.{and-left, and-right}
+use Rattle.lists.proofs.TestsLaws.{or-first}
+use Rattle.lists.proofs.TestsLaws.{and-left, and-right}
 use Rattle.kinds.specs.declared.table.Fields.{Fields}
 use Rattle.component.specs.Record.{le16, le32, le64, numbersIn, bare, wellFormed, noRecord, recordIn, recordAt, fieldsOf, noFields}
 use Rattle.component.specs.Reading.{ownerOf, formOf, apart, formBy, said, number, StandsAs}
@@ -124,17 +125,13 @@ module _ (t : Record) (r : Reading) (e : said r ≡ t) where
   sees-component o x i f h k = taken-is t r e o x h ∙ ap (apart o) k
 
 -- Taking a record apart that check 3 passes, by its record kind.
-or-false : (a b : Bool) → b ≡ false → (a || b) ≡ true → a ≡ true
-or-false true b h e = refl
-or-false false b h e = sym h ∙ e
-
 module _ (r : Record) (w : wellFormed r ≡ true) where
   pub take-component : r .form ≡ 1
       → apart (r .owner) (Component (record { 0 = r .id })
       (record { kind = r .kind; inputs = r .a; outputs = r .b; width = r .c; parameter = r .parameter })) ≡ r
   take-component e =
       let v : ((eqb (r .d) 0 || false) || false || false) ≡ true = rw e at w in
-      let z = sym (eqb-true (r .d) 0 (or-false _ false refl (or-false _ false refl (or-false _ false refl v)))) in
+      let z = sym (eqb-true (r .d) 0 (or-first _ false refl (or-first _ false refl (or-first _ false refl v)))) in
       let y = sym e in
       λ j. record {
         form = y j;
@@ -176,12 +173,12 @@ module _ (r : Record) (w : wellFormed r ≡ true) where
       → apart (r .owner) (Connection (record { 0 = r .a }) (r .b) (record { 0 = r .c }) (r .d)) ≡ r
   take-connection e =
       let v : (bare r || false || false) ≡ true = rw e at w in
-      line-is 2 (r .b) (r .c) (r .d) e (or-false _ false refl (or-false _ false refl v)) refl refl refl
+      line-is 2 (r .b) (r .c) (r .d) e (or-first _ false refl (or-first _ false refl v)) refl refl refl
 
   pub take-input-map : r .form ≡ 3 → apart (r .owner) (InputMap (r .a) (record { 0 = r .c }) (r .d)) ≡ r
   take-input-map e =
       let v : ((bare r && eqb (r .b) 0) || false) ≡ true = rw e at w in
-      let u = or-false _ false refl v in
+      let u = or-first _ false refl v in
       line-is 3 0 (r .c) (r .d) e (and-left (bare r) (eqb (r .b) 0) u) (eqb-true (r .b) 0 (and-right (bare r) (eqb (r .b) 0) u)) refl refl
 
   pub take-output-map : (r .form ≡ 1 → ⊥) → (r .form ≡ 2 → ⊥) → (r .form ≡ 3 → ⊥)

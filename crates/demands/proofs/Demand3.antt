@@ -1,10 +1,11 @@
 -- Demand 3 is met: the invariant that rounds and edits keep on the tables (crate quiet), carried to the drawing by what a load leaves
 -- (crate loaded) and by the wires being what the drawing leads to (crate flatten). Assumes nothing.
-use mathlib.Core.Path.{_≡_, refl, sym, ap, _∙_, subst, transport}
-use mathlib.Core.Bool.{Bool, true, false, _||_}
+use mathlib.Core.Path.{_≡_, sym, ap, _∙_, subst, transport}
+use mathlib.Core.Bool.{Bool, true, _||_}
 use mathlib.Core.List.{List}
 use Prim.Native.Nat.{ℕ, _+_, _<_}
 use lib.ListN.{getD}
+use Rattle.lists.proofs.TestsLaws.{or-second}
 use Rattle.lists.specs.Lists.{has, keep}
 use Rattle.lists.proofs.MembersLaws.{In, has-complete, map-complete, keep-complete}
 use Rattle.kinds.specs.declared.Kind.the-variants.{Switch, Clock, Const}
@@ -30,10 +31,6 @@ use Rattle.quiet.proofs.Since.{Fresh}
 use Rattle.quiet.proofs.Obeyed.{Equal as EqualAt, Follows as FollowsAt, ObeyedAt, SatisfiedAt, unbroken-obeyed}
 use Rattle.demands.proofs.Called.{reached-kept}
 use Rattle.demands.specs.Demand.{Equal, Follows, Satisfied, Obeyed, Demand3}
-
-or-second : (a b : Bool) → b ≡ true → (a || b) ≡ true
-or-second true b e = refl
-or-second false b e = e
 
 -- What the drawing leads from and to are ports of primitives.
 module _ (at : ℕ → Record) (n : ℕ) where

@@ -9,7 +9,7 @@ use borrow.Author.Tests.{eq-eqb, ltb-true}
 use lib.ListN.{getD}
 use lib.Dec.{ltb}
 use Rattle.lists.specs.Lists.{has, every, appendNew, strike, overlay}
-use Rattle.lists.proofs.ListsLaws.{and-left, and-right}
+use Rattle.lists.proofs.TestsLaws.{and-left, and-right}
 use Rattle.kinds.specs.Kinds.{obeys}
 use Rattle.primitive.specs.Evaluate.{functionOf, outputsAfter}
 use Rattle.component.specs.declared.Verdict.the-variants.{Accepted}

@@ -14,8 +14,9 @@ use borrow.Author.Tests.{eqb-true, eqb-false, eq-eqb, ne-eqb, ltb-false, leb-fal
 use lib.ListN.{length, getD}
 use lib.Dec.{eqb, leb}
 use Rattle.lists.specs.Lists.{from, keep}
-use Rattle.lists.proofs.ListsLaws.{and-left, and-right}
-use Rattle.lists.proofs.MembersLaws.{In, or-left-false, or-right-false, or-cases, and-right-false, getD-cases}
+use Rattle.lists.proofs.TestsLaws.{and-left, and-right}
+use Rattle.lists.proofs.MembersLaws.{In, getD-cases}
+use Rattle.lists.proofs.TestsLaws.{or-left, or-right, or-cases, and-right-false}
 use Rattle.lists.proofs.MembersLaws.{keep-sound, from-sound, distinct-place, distinct-keep, distinct-from}
 use Rattle.kinds.specs.declared.table.Fields.{Fields}
 use Rattle.kinds.specs.Kinds.{forCustom, unknown}
@@ -54,12 +55,12 @@ module _ (at : ℕ → Record) (n : ℕ) (d : Passed at n) where
   pub component-number : (c : ℕ) → formOf (at c) ≡ 1 → c < 256
   component-number c e =
       let six : (leb 256 c || deeper at deepest c) ≡ false = rw e at (d .passes 6 refl c (component-below c e)) in
-      leb-false 256 c (or-left-false (leb 256 c) (deeper at deepest c) six)
+      leb-false 256 c (or-left (leb 256 c) (deeper at deepest c) six)
 
   pub component-deep : (c : ℕ) → formOf (at c) ≡ 1 → deeper at deepest c ≡ false
   component-deep c e =
       let six : (leb 256 c || deeper at deepest c) ≡ false = rw e at (d .passes 6 refl c (component-below c e)) in
-      or-right-false (leb 256 c) (deeper at deepest c) six
+      or-right (leb 256 c) (deeper at deepest c) six
 
   -- A component that is no primitive is a composite.
   pub component-composite : (c : ℕ) → formOf (at c) ≡ 1 → isPrimitive (at c) ≡ false → composite (at c) ≡ true
@@ -86,7 +87,7 @@ module _ (at : ℕ → Record) (n : ℕ) (d : Passed at n) where
   -- Components stand first: what stands before a component is one.
   component-before : (q : ℕ) → suc q < n → formOf (at (suc q)) ≡ 1 → formOf (at q) ≡ 1
   component-before q l e =
-      let four = ltb-false 1 (formOf (at q)) (or-left-false _ _ (rw e at (d .passes 4 refl (suc q) l))) in
+      let four = ltb-false 1 (formOf (at q)) (or-left _ _ (rw e at (d .passes 4 refl (suc q) l))) in
       let three = eqb-false (formOf (at q)) 0 (d .passes 3 refl q (omega arith)) in
       omega arith
 

@@ -13,7 +13,7 @@ use borrow.Author.Tests.{eqb-true, ne-eqb, ltb-true, not-false}
 use lib.ListN.{length}
 use lib.Dec.{eqb}
 use Rattle.lists.specs.Lists.{from, joined}
-use Rattle.lists.proofs.ListsLaws.{and-left, and-right}
+use Rattle.lists.proofs.TestsLaws.{and-left, and-right}
 use Rattle.lists.proofs.MembersLaws.{In, in-cond, in-getD, getD-cases, keep-sound, from0-sound, from0-complete}
 use Rattle.lists.proofs.MembersLaws.{joined-sound, joined-complete}
 use Rattle.component.specs.declared.Record.{Record}

@@ -16,8 +16,9 @@ use native.Mathlib.Omega.{arith}
 use borrow.Author.Tests.{eqb-true, eq-eqb, ltb-true, not-false}
 use lib.Dec.{eqb}
 use Rattle.lists.specs.Lists.{from, any, joined}
-use Rattle.lists.proofs.ListsLaws.{and-right}
-use Rattle.lists.proofs.MembersLaws.{In, Distinct, in-cond, or-cases, any-none, from0-sound, from0-complete}
+use Rattle.lists.proofs.TestsLaws.{and-right}
+use Rattle.lists.proofs.MembersLaws.{In, Distinct, in-cond, any-none, from0-sound, from0-complete}
+use Rattle.lists.proofs.TestsLaws.{or-cases}
 use Rattle.lists.proofs.MembersLaws.{distinct-joined, distinct-from}
 use Rattle.component.specs.declared.Record.{Record}
 use Rattle.component.specs.Record.{toOf, inputOf, portOf, inputsOf, isPrimitive, entering, enteringAs}

@@ -13,7 +13,8 @@ use lib.Dec.{eqb, ltb, leb}
 use lib.ListN.{length, getD, take, drop, take-append-drop}
 use lib.Seq.{drop-cons, take-suc}
 use Rattle.lists.specs.Lists.{from, every, first}
-use Rattle.lists.proofs.ListsLaws.{and-left, and-right, first-here, first-next, first-none}
+use Rattle.lists.proofs.ListsLaws.{first-here, first-next, first-none}
+use Rattle.lists.proofs.TestsLaws.{and-left, and-right}
 use Rattle.kinds.specs.declared.answers.Refusal.{Refusal}
 use Rattle.kinds.proofs.GivenLaws.{done-declined, declined-refusal}
 use Rattle.component.specs.declared.Verdict.{Verdict}

@@ -12,8 +12,10 @@ use lib.ListN.{length, getD, length-append}
 use lib.Seq.{getD-append-seam}
 use lib.Dec.{ltb}
 use Rattle.lists.specs.Lists.{from, keep, any, total}
-use Rattle.lists.proofs.MembersLaws.{In, Distinct, and-right-false, or-left-false, or-right-false, any-none, keep-sound, keep-complete}
-use Rattle.lists.proofs.MembersLaws.{keep-append, total-append, in-getD, from0-sound, from0-complete, from-append}
+use Rattle.lists.proofs.MembersLaws.{In, Distinct, any-none, keep-sound, keep-complete}
+use Rattle.lists.proofs.TestsLaws.{and-right-false, or-left, or-right}
+use Rattle.lists.proofs.MembersLaws.{total-append, in-getD, from0-sound, from0-complete, from-append}
+use Rattle.lists.proofs.ListsLaws.{keep-append}
 use Rattle.lists.proofs.MembersLaws.{from-last, from-length, distinct-place, distinct-keep, distinct-from, distinct-map}
 use Rattle.lists.proofs.MembersLaws.{distinct-bound}
 use Rattle.kinds.specs.Kinds.{primitive, obeys}
@@ -149,7 +151,7 @@ module _ (at : ℕ → Record) (n : ℕ) (d : Passed at n) where
       let inputs = ltb 1024 (inputsBefore at (suc p)) in
       let outputs = ltb 1024 (outputsBefore at (suc p)) in
       let eleven : (inputs || outputs) ≡ false = rw e at (d .passes 11 refl p h) in
-      (ltb-false 1024 _ (or-left-false inputs outputs eleven), ltb-false 1024 _ (or-right-false inputs outputs eleven))
+      (ltb-false 1024 _ (or-left inputs outputs eleven), ltb-false 1024 _ (or-right inputs outputs eleven))
 
   -- All primitives together have at most 1,024 inputs and at most 1,024 outputs (check 11).
   pub inputs-bound : inputsBefore at n ≤ 1024

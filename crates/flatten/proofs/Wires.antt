@@ -8,7 +8,7 @@ use native.Mathlib.Omega.{arith}
 use borrow.Author.Tests.{eqb-true, ltb-true, not-false}
 use lib.Dec.{eqb}
 use Rattle.lists.specs.Lists.{from}
-use Rattle.lists.proofs.ListsLaws.{and-left, and-right}
+use Rattle.lists.proofs.TestsLaws.{and-left, and-right}
 use Rattle.lists.proofs.MembersLaws.{In, in-cond, from0-sound, from0-complete, joined-sound, joined-complete, map-sound}
 use Rattle.lists.proofs.MembersLaws.{map-complete}
 use Rattle.component.specs.declared.Record.{Record}

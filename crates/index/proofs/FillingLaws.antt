@@ -13,8 +13,10 @@ use borrow.Author.Tests.{eq-eqb, ne-eqb, lt-ltb, le-ltb, eqb-true, eqb-false, no
 use lib.Dec.{eqb, ltb}
 use lib.ListN.{length, getD, set, length-set, length-append, List·getD-eq-default}
 use lib.Seq.{getD-set-same, getD-set-other}
+use Rattle.lists.proofs.TestsLaws.{and-both}
 use Rattle.lists.specs.Lists.{from, keep}
-use Rattle.lists.proofs.ListsLaws.{and-left, and-right, keep-snoc-here, keep-snoc-next, length-keep-le, getD-snoc-end}
+use Rattle.lists.proofs.ListsLaws.{keep-snoc-here, keep-snoc-next, length-keep-le, getD-snoc-end}
+use Rattle.lists.proofs.TestsLaws.{and-left, and-right}
 use Rattle.lists.proofs.ListsLaws.{getD-snoc-else}
 use Rattle.component.specs.declared.Record.{Record}
 use Rattle.component.specs.declared.Says.{Says}
@@ -100,9 +102,6 @@ module _ (w form : ℕ) (r : Reading) (q : ℕ) (counts t : List ℕ) where
           let e = put-kind ∙ not-false b k in
           (rw (e, put-owner, lt-ltb o 256 g, lt-ltb (getD counts o 0) w l), rw (e, put-owner, lt-ltb o 256 g))
 
-pub both-true : (a b : Bool) → a ≡ true → b ≡ true → (a && b) ≡ true
-both-true a b e d = rw (e, d)
-
 -- What the step does to the words and to the count of an owner o: nothing unless the record is its own.
 module _ (w form : ℕ) (r : Record) (q : ℕ) (counts t : List ℕ) where
   -- the owner, how many it has so far, and the tests of the step
@@ -116,7 +115,7 @@ module _ (w form : ℕ) (r : Record) (q : ℕ) (counts t : List ℕ) where
   counting = eqb (formOf r) form && ltb m 256
 
   owner-else : (o : ℕ) → ownedAs form o r ≡ false → eqb (formOf r) form ≡ true → o ≡ m → ⊥
-  owner-else o e f z = false≢true (sym e ∙ both-true (eqb (formOf r) form) (eqb m o) f (eq-eqb m o (sym z)))
+  owner-else o e f z = false≢true (sym e ∙ and-both (eqb (formOf r) form) (eqb m o) f (eq-eqb m o (sym z)))
 
   putWord-else : (o k : ℕ) → k < w → ownedAs form o r ≡ false
       → getD (putWord w form r q counts t) (w * o + k) 0 ≡ getD t (w * o + k) 0
@@ -144,7 +143,7 @@ module _ (w form : ℕ) (r : Record) (q : ℕ) (counts t : List ℕ) where
 
     counting-is : counting ≡ true
     counting-is =
-        both-true (eqb (formOf r) form) (ltb m 256) (and-left (eqb (formOf r) form) (eqb m o) e)
+        and-both (eqb (formOf r) form) (ltb m 256) (and-left (eqb (formOf r) form) (eqb m o) e)
         (lt-ltb m 256 (omega (arith, owner-is)))
 
     putCount-owner : length counts ≡ 256 → getD (putCount form r counts) o 0 ≡ getD counts o 0 + 1

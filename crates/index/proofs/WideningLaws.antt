@@ -13,7 +13,8 @@ use lib.Dec.{eqb, ltb}
 use lib.ListN.{length, getD, set, take, drop, length-set, length-drop, List·getD-append}
 use lib.Seq.{getD-set-same, getD-set-other, getD-take, getD-append-add, length-take-le}
 use borrow.Rule.Slice.PartMut.{midOf, postOf, putMid, same-len-mid}
-use Rattle.lists.proofs.ListsLaws.{and-left, and-right}
+use Rattle.lists.proofs.TestsLaws.{and-both}
+use Rattle.lists.proofs.TestsLaws.{and-left, and-right}
 use Rattle.component.specs.declared.Record.{Record}
 use types.Run.{OneOf}
 use denote.Enum.Declared.{tagOf}
@@ -28,7 +29,6 @@ use Rattle.component.proofs.RecordLaws.{no-input-map, refused-is, taken-form}
 use Rattle.component.proofs.Says.{the-type}
 use Rattle.index.specs.Index.{widenLow, widenHigh, IsRange}
 use Rattle.component.specs.Record.{ownedAs}
-use Rattle.index.proofs.FillingLaws.{both-true}
 
 -- A step of the stretches, by the tests made: the record is refused; no input map; of an owner past the index; not the first of its
 -- owner; the first.
@@ -133,7 +133,7 @@ module _ (r : Record) (q : ℕ) (t : List ℕ) (size : length t ≡ 512) (c : �
 
     mapping-is : mapping r ≡ true
     mapping-is =
-        both-true (eqb (formOf r) 3) (ltb (ownerOf r) 256) (and-left (eqb (formOf r) 3) (eqb (ownerOf r) c) e)
+        and-both (eqb (formOf r) 3) (ltb (ownerOf r) 256) (and-left (eqb (formOf r) 3) (eqb (ownerOf r) c) e)
         (lt-ltb (ownerOf r) 256 (omega (arith, mapper-is)))
 
     widenLow-own : getD (widenLow r q t) c 0 ≤ q

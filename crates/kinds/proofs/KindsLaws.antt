@@ -10,7 +10,8 @@ use lib.Arith.{lt-of-le-ne}
 use lib.Dec.{eqb}
 use lib.ListN.{length, List·getD-eq-default}
 use Rattle.lists.specs.Lists.{from, every}
-use Rattle.lists.proofs.ListsLaws.{and-left, and-right, every-from}
+use Rattle.lists.proofs.ListsLaws.{every-from}
+use Rattle.lists.proofs.TestsLaws.{and-left, and-right}
 use Rattle.kinds.specs.Kinds.{numbered, numberOf, kindIn, kindOf, forCustom, unknown, seenAs, row, rowOf}
 use Rattle.kinds.specs.declared.table.Fields.{Fields}
 use Rattle.kinds.specs.declared.table.Row.{Row}

@@ -6,7 +6,8 @@ use Prim.Native.Nat.{ℕ, _≤_}
 use native.Mathlib.Omega.{arith}
 use borrow.Author.Tests.{leb-true}
 use lib.Dec.{leb}
-use Rattle.lists.proofs.ListsLaws.{and-left, and-right, within-least, within-most}
+use Rattle.lists.proofs.ListsLaws.{within-least, within-most}
+use Rattle.lists.proofs.TestsLaws.{and-left, and-right}
 use Rattle.kinds.specs.declared.Kind.{Kind}
 use Rattle.kinds.specs.declared.Seen.{Seen}
 use Rattle.kinds.specs.declared.Seen.the-variants.{Known, Kept, Unknown}

@@ -11,7 +11,8 @@ use borrow.Author.Tests.{ltb-false}
 use lib.ListN.{length, length-append}
 use lib.Dec.{ltb}
 use Rattle.lists.specs.Lists.{from, joined}
-use Rattle.lists.proofs.ListsLaws.{and-left, every-from}
+use Rattle.lists.proofs.ListsLaws.{every-from}
+use Rattle.lists.proofs.TestsLaws.{and-left}
 use Rattle.lists.proofs.MembersLaws.{In}
 use Rattle.value.specs.Value.{below}
 use Rattle.value.proofs.ValueLaws.{below-lt}

@@ -1,3 +1,4 @@
+pub mod TestsLaws
 pub mod ListsLaws
 pub mod MembersLaws
 pub mod NamesLaws

@@ -1,10 +1,10 @@
--- Laws of the words of specs/Lists.antt: a test of two parts; loops over positions against `from`, by what they look
+-- Laws of the words of specs/Lists.antt: loops over positions against `from`, by what they look
 -- for: whether one passes, the first that passes, the kth that passes, how many pass, the sum over those that pass; and
 -- `every`.
--- Not here: laws of length, getD, take, drop and _++_ (lib.ListN, lib.Seq).
+-- Not here: tests of two parts (TestsLaws); laws of length, getD, take, drop and _++_ (lib.ListN, lib.Seq).
 -- Assumes nothing.
 use mathlib.Core.Path.{_≡_, refl, sym, ap, _∙_}
-use mathlib.Core.Bool.{Bool, true, false, cond, _&&_, _||_, false≢true}
+use mathlib.Core.Bool.{Bool, true, false, cond}
 use mathlib.Core.List.{List, [], _∷_, _++_, append-nil}
 use mathlib.Core.Option.{Option, none, some}
 use Prim.Native.Nat.{ℕ, zero, suc, _+_, _-_, _≤_, _<_}
@@ -13,26 +13,10 @@ use native.Mathlib.Decide.{decLt}
 use native.Mathlib.Omega.{arith}
 use borrow.Author.Tests.{leb-true}
 use lib.Dec.{leb}
-use lib.ListN.{length, getD}
+use lib.ListN.{length, getD, replicate, length-replicate, getD-replicate, List·getD-eq-default}
 use lib.Seq.{getD-append-seam}
+use Rattle.lists.proofs.TestsLaws.{and-left, and-right}
 use Rattle.lists.specs.Lists.{within, from, keep, every, any, total, joined, first, refusal, _if_}
-
-pub and-left : (a b : Bool) → (a && b) ≡ true → a ≡ true
-and-left true b e = refl
-and-left false b e = e
-
-pub and-right : (a b : Bool) → (a && b) ≡ true → b ≡ true
-and-right true b e = e
-and-right false b e = absurd (false≢true e)
-
--- Of two tests neither of which holds.
-pub or-left : (a b : Bool) → (a || b) ≡ false → a ≡ false
-or-left true b e = e
-or-left false b e = refl
-
-pub or-right : (a b : Bool) → (a || b) ≡ false → b ≡ false
-or-right true b e = absurd (false≢true (sym e))
-or-right false b e = e
 
 -- A number given back is 0 exactly if no test holds.
 pub refusal-first : (k : ℕ) (b : Bool) (cs : List (ℕ × Bool)) → (k ≡ 0 → ⊥) → refusal ((k if b) ∷ cs) ≡ 0 → b ≡ false
@@ -176,13 +160,13 @@ from-snoc a q h =
         let e : suc a + k ≡ a + suc k = omega arith in
         ap (λ (l : List ℕ). a ∷ l) (by-count k (suc a) ∙ ap (λ (p : ℕ). from (suc a) k ++ (p ∷ [])) e)
 
-keep-append : (f : ℕ → Bool) (xs ys : List ℕ) → keep f (xs ++ ys) ≡ keep f xs ++ keep f ys
+pub keep-append : {A : Type 0} (f : A → Bool) (xs ys : List A) → keep f (xs ++ ys) ≡ keep f xs ++ keep f ys
 keep-append f [] ys = refl
-keep-append f (x ∷ xs) ys = by-test (f x) (keep-append f xs ys)
+keep-append {A} f (x ∷ xs) ys = by-test (f x) (keep-append f xs ys)
   where
     by-test : (b : Bool) → keep f (xs ++ ys) ≡ keep f xs ++ keep f ys
         → cond b (x ∷ keep f (xs ++ ys)) (keep f (xs ++ ys)) ≡ cond b (x ∷ keep f xs) (keep f xs) ++ keep f ys
-    by-test true e = ap (λ (l : List ℕ). x ∷ l) e
+    by-test true e = ap (λ (l : List A). x ∷ l) e
     by-test false e = e
 
 module _ (f : ℕ → Bool) (a q : ℕ) (h : a ≤ q) where
@@ -228,3 +212,11 @@ every-at f q (suc k) i e h l =
 
 pub every-from : (f : ℕ → Bool) (n : ℕ) → every f (from 0 n) ≡ true → (i : ℕ) → i < n → f i ≡ true
 every-from f n e i h = every-at f 0 n i e (omega arith) (omega arith)
+
+-- A list of zeros holds 0 everywhere, past its end too.
+pub replicate-zero : (n x : ℕ) → _≡_ {A = ℕ} (getD (replicate n 0) x 0) 0
+replicate-zero n x = by-place (decLt x n)
+  where
+    by-place : Dec (x < n) → _≡_ {A = ℕ} (getD (replicate n 0) x 0) 0
+    by-place (yes h) = getD-replicate n x 0 0 h
+    by-place (no h) = List·getD-eq-default (replicate n 0) 0 (omega (arith, length-replicate {A = ℕ} n 0))

@@ -1,13 +1,13 @@
 -- Members of a list, lists without repeats, and counting with them.
 --   In a xs        a stands in xs
 --   Distinct xs    no two places of xs hold the same thing
--- First tests of two parts; then members of a list, by place and by test; then lists without repeats, and that distinct
+-- First members of a list, by place and by test; then lists without repeats, and that distinct
 -- things are no more than the list that holds them; then sums and lengths; then lists made of others; then numbers.
 -- Not here: laws of length, getD, take and drop (lib.ListN, lib.Seq).
 -- Assumes nothing.
 use mathlib.Core.Path.{_≡_, refl, sym, ap, _∙_, subst}
 use mathlib.Core.Logic.{_⊎_, inl, inr, ⊎-elim}
-use mathlib.Core.Bool.{Bool, true, false, cond, not, _&&_, _||_, false≢true, true≢false}
+use mathlib.Core.Bool.{Bool, true, false, cond, not, _||_, false≢true, true≢false}
 use mathlib.Core.List.{List, [], _∷_, _++_, map}
 use mathlib.Core.Option.{none, some}
 use Prim.Native.Nat.{ℕ, zero, suc, _+_, _≤_, _<_}
@@ -17,29 +17,11 @@ use borrow.Author.Tests.{eqb-true, eq-eqb, not-true}
 use lib.ListN.{length, getD, length-append, List·getD-eq-default}
 use lib.Dec.{eqb}
 use Rattle.lists.specs.Lists.{from, keep, every, any, total, joined, first, has, distinct}
-use Rattle.lists.proofs.ListsLaws.{and-left, and-right}
-
--- Tests of two parts.
-
-pub and-right-false : (a b : Bool) → (a && b) ≡ false → a ≡ true → b ≡ false
-and-right-false true b e h = e
-and-right-false false b e h = absurd (false≢true h)
-
-pub or-left-false : (a b : Bool) → (a || b) ≡ false → a ≡ false
-or-left-false true b e = e
-or-left-false false b e = refl
-
-pub or-right-false : (a b : Bool) → (a || b) ≡ false → b ≡ false
-or-right-false true b e = absurd (true≢false e)
-or-right-false false b e = e
+use Rattle.lists.proofs.TestsLaws.{and-left, and-right, or-left, or-right, or-cases}
 
 or-assoc : (a b c : Bool) → (a || (b || c)) ≡ ((a || b) || c)
 or-assoc true b c = refl
 or-assoc false b c = refl
-
-pub or-cases : (a b : Bool) → (a || b) ≡ true → (a ≡ true) ⊎ (b ≡ true)
-or-cases true b e = inl refl
-or-cases false b e = inr e
 
 -- Membership.
 
@@ -110,8 +92,8 @@ module _ {A : Type 0} where
   -- Where a test finds nothing, no member passes it.
   pub any-none : (f : A → Bool) (a : A) (xs : List A) → any f xs ≡ false → In a xs → f a ≡ false
   any-none f a [] e h = absurd h
-  any-none f a (x ∷ xs) e (inl u) = ap f u ∙ or-left-false (f x) (any f xs) e
-  any-none f a (x ∷ xs) e (inr u) = any-none f a xs (or-right-false (f x) (any f xs) e) u
+  any-none f a (x ∷ xs) e (inl u) = ap f u ∙ or-left (f x) (any f xs) e
+  any-none f a (x ∷ xs) e (inr u) = any-none f a xs (or-right (f x) (any f xs) e) u
 
   pub any-append : (f : A → Bool) (xs ys : List A) → any f (xs ++ ys) ≡ (any f xs || any f ys)
   any-append f [] ys = refl
@@ -224,15 +206,6 @@ module _ {A : Type 0} where
           → length (cond b (x ∷ keep f xs) (keep f xs)) ≤ suc (length xs)
       by-test true h = omega arith
       by-test false h = omega arith
-
-  pub keep-append : (f : A → Bool) (xs ys : List A) → keep f (xs ++ ys) ≡ keep f xs ++ keep f ys
-  keep-append f [] ys = refl
-  keep-append f (x ∷ xs) ys = by-test (f x) (keep-append f xs ys)
-    where
-      by-test : (b : Bool) → keep f (xs ++ ys) ≡ keep f xs ++ keep f ys
-          → cond b (x ∷ keep f (xs ++ ys)) (keep f (xs ++ ys)) ≡ cond b (x ∷ keep f xs) (keep f xs) ++ keep f ys
-      by-test true e = ap (λ (l : List A). x ∷ l) e
-      by-test false e = e
 
   pub total-append : (f : A → ℕ) (xs ys : List A) → total f (xs ++ ys) ≡ total f xs + total f ys
   total-append f [] ys = omega arith

@@ -14,7 +14,7 @@ use borrow.Author.Tests.{ltb-true, lt-ltb, ne-eqb}
 use lib.ListN.{length}
 use lib.Dec.{eqb, ltb}
 use Rattle.lists.specs.Lists.{from, every, total, has, distinct, appendNew, strike}
-use Rattle.lists.proofs.ListsLaws.{and-left, and-right}
+use Rattle.lists.proofs.TestsLaws.{and-left, and-right}
 use Rattle.lists.proofs.MembersLaws.{In, in-left, in-right, in-cases, has-sound, has-complete, keep-sound, keep-complete, every-sound, every-complete, Distinct, distinct-append, distinct-keep, distinct-bound, distinct-sound, distinct-complete, map-complete, total-append, from0-complete, from-length, from-last}
 
 -- Appending unless there.

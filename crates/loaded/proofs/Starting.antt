@@ -9,7 +9,7 @@ use native.Mathlib.Omega.{arith}
 use borrow.Author.Tests.{eqb-true, lt-ltb}
 use lib.ListN.{replicate}
 use lib.Pow.{pow-pos}
-use Rattle.lists.proofs.ListsLaws.{and-right}
+use Rattle.lists.proofs.TestsLaws.{and-right}
 use Rattle.value.specs.Value.{widest, below, allFit}
 use Rattle.kinds.specs.declared.Kind.the-variants.{Const}
 use Rattle.kinds.specs.declared.table.Fields.{Fields}

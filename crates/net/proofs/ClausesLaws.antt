@@ -9,7 +9,8 @@ use borrow.Author.Tests.{leb-true, le-leb, eqb-true}
 use lib.ListN.{length}
 use lib.Dec.{leb, ltb, eqb}
 use Rattle.lists.specs.Lists.{from, every, distinct}
-use Rattle.lists.proofs.ListsLaws.{and-left, and-right, every-from, every-end}
+use Rattle.lists.proofs.ListsLaws.{every-from, every-end}
+use Rattle.lists.proofs.TestsLaws.{and-left, and-right}
 use Rattle.kinds.specs.Kinds.{primitive, obeys, inputWidth, outputWidth}
 use Rattle.tables.specs.declared.Wire.{Wire}
 use Rattle.tables.specs.declared.Counts.{Counts}

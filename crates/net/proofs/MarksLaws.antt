@@ -3,16 +3,15 @@
 --   naming n seen xs     besides, each of xs is below n
 -- Assumes nothing.
 use mathlib.Core.Path.{_≡_, refl, sym, ap, _∙_}
-use mathlib.Core.Bool.{Bool, true, false, not, _&&_, _||_}
+use mathlib.Core.Bool.{Bool, true, false, not, _&&_, _||_, and-true, and-false}
 use mathlib.Core.List.{List, [], _∷_, map}
 use Prim.Native.Nat.{ℕ, suc, _+_, _-_, _≤_, _<_}
 use native.Mathlib.Numerals.{add-one}
-use native.Mathlib.Decide.{decLt}
-use native.Mathlib.Omega.{arith}
 use borrow.Author.Tests.{ne-eqb, eqb-true, eqb-false, lt-ltb, le-ltb}
-use lib.ListN.{length, getD, set, replicate, length-replicate, getD-replicate, List·getD-eq-default}
+use lib.ListN.{length, getD, set, replicate}
 use lib.Seq.{slice, slice-cons, slice-empty, getD-set-same, getD-set-other}
 use lib.Dec.{eqb, ltb}
+use Rattle.lists.proofs.ListsLaws.{replicate-zero}
 use Rattle.lists.specs.Lists.{from, every, has, distinct}
 use Rattle.lists.proofs.ListsLaws.{from-step, from-end}
 
@@ -23,21 +22,10 @@ unmarked seen x = eqb (getD seen x 0) 0
 abbrev pub fresh : List ℕ → List ℕ → Bool
 fresh seen xs = every (unmarked seen) xs && distinct xs
 
-and-false : (a : Bool) → (a && false) ≡ false
-and-false true = refl
-and-false false = refl
-
 -- Where nothing is marked.
-replicate-unmarked : (n x : ℕ) → _≡_ {A = ℕ} (getD (replicate n 0) x 0) 0
-replicate-unmarked n x = by-place (decLt x n)
-  where
-    by-place : Dec (x < n) → _≡_ {A = ℕ} (getD (replicate n 0) x 0) 0
-    by-place (yes h) = getD-replicate n x 0 0 h
-    by-place (no h) = List·getD-eq-default (replicate n 0) 0 (omega (arith, length-replicate {A = ℕ} n 0))
-
 replicate-every : (n : ℕ) (xs : List ℕ) → every (unmarked (replicate n 0)) xs ≡ true
 replicate-every n [] = refl
-replicate-every n (x ∷ xs) = rw (replicate-unmarked n x) (replicate-every n xs)
+replicate-every n (x ∷ xs) = rw (replicate-zero n x) (replicate-every n xs)
 
 pub fresh-start : (n : ℕ) (xs : List ℕ) → fresh (replicate n 0) xs ≡ distinct xs
 fresh-start n xs = ap (λ (b : Bool). b && distinct xs) (replicate-every n xs)
@@ -59,10 +47,6 @@ mark-one seen x h y = by-test (eqb x y) refl
     by-test false e =
         let z : getD (set seen x 1) y 0 ≡ getD seen y 0 = getD-set-other seen x y 1 0 (λ q. eqb-false x y e (sym q)) in
         rw (e, z) (sym (and-true (unmarked seen y)))
-      where
-        and-true : (a : Bool) → (a && true) ≡ a
-        and-true true = refl
-        and-true false = refl
 
 mark-every : (seen : List ℕ) (x : ℕ) → x < length seen → (xs : List ℕ)
     → every (unmarked (set seen x 1)) xs ≡ (every (unmarked seen) xs && not (has x xs))

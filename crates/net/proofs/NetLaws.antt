@@ -12,7 +12,8 @@ use borrow.Author.Tests.{ltb-true, eqb-true, not-false, eq-eqb, ne-eqb}
 use lib.ListN.{length, getD}
 use lib.Dec.{eqb, ltb}
 use Rattle.lists.specs.Lists.{from, every, distinct}
-use Rattle.lists.proofs.ListsLaws.{and-left, and-right, every-from, refusal-first, refusal-rest}
+use Rattle.lists.proofs.ListsLaws.{every-from, refusal-first, refusal-rest}
+use Rattle.lists.proofs.TestsLaws.{and-left, and-right}
 use Rattle.lists.proofs.MembersLaws.{In, Distinct, every-sound, map-complete, distinct-sound, distinct-bound, from-length, from0-complete}
 use Rattle.value.specs.Value.{allFit}
 use Rattle.kinds.specs.declared.Kind.the-variants.{Const}

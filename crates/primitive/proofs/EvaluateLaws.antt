@@ -11,7 +11,8 @@ use lib.ListN.{length, getD, take, drop}
 use lib.Seq.{sets, sets-eq, length-take-le}
 use lib.Dec.{ltb}
 use Rattle.lists.specs.Lists.{from, every, refusal, _if_}
-use Rattle.lists.proofs.ListsLaws.{or-left, or-right, refusal-first, refusal-rest, every-fails, every-next, every-end}
+use Rattle.lists.proofs.ListsLaws.{refusal-first, refusal-rest, every-fails, every-next, every-end}
+use Rattle.lists.proofs.TestsLaws.{or-left, or-right}
 use Rattle.value.specs.Value.{ofWidth, fitsIn}
 use Rattle.kinds.specs.declared.table.Fields.{Fields}
 use Rattle.primitive.specs.declared.Evaluated.{Evaluated}

@@ -9,7 +9,7 @@ use native.Mathlib.Omega.{arith}
 use borrow.Author.Tests.{le-leb, lt-ltb}
 use lib.ListN.{length, getD}
 use Rattle.lists.specs.Lists.{within, from, every}
-use Rattle.lists.proofs.ListsLaws.{and-left, and-right}
+use Rattle.lists.proofs.TestsLaws.{and-left, and-right}
 use Rattle.value.specs.Value.{widest, below, ofWidth, allFit, bitOf, complement}
 use Rattle.value.proofs.ValueLaws.{bitOf-fits, complement-fits}
 use Rattle.kinds.specs.declared.Kind.{Kind}

@@ -5,15 +5,16 @@ use mathlib.Core.Path.{_≡_, refl, sym, ap, _∙_}
 use mathlib.Core.Bool.{Bool, true, false, cond, _&&_, _||_, or-true, or-false, and-comm}
 use mathlib.Core.List.{List, [], _∷_, _++_, append-nil}
 use Prim.Native.Nat.{ℕ, suc, _+_, _<_}
-use native.Mathlib.Decide.{decLt}
 use native.Mathlib.Numerals.{add-one}
 use native.Mathlib.Omega.{arith}
 use borrow.Author.Tests.{eqb-true, eqb-false, eq-eqb, ne-eqb}
-use lib.ListN.{length, getD, drop, set, replicate, length-append, length-replicate, getD-replicate, List·getD-eq-default}
+use lib.ListN.{length, getD, drop, set, replicate, length-append}
 use lib.Seq.{drop-cons, append-snoc, getD-set-same, getD-set-other, set-append-seam}
 use lib.Dec.{eqb}
+use Rattle.lists.proofs.ListsLaws.{replicate-zero}
 use Rattle.lists.specs.Lists.{from, keep, any, overlay}
-use Rattle.lists.proofs.MembersLaws.{any-append, any-map, from-last, keep-append}
+use Rattle.lists.proofs.MembersLaws.{any-append, any-map, from-last}
+use Rattle.lists.proofs.ListsLaws.{keep-append}
 use Rattle.tables.specs.declared.Wire.{Wire}
 use Rattle.tables.specs.Tables.{Tables, wireAt, joins, sources, targets, indexes}
 use Rattle.questions.specs.declared.Tip.{Tip}
@@ -93,13 +94,6 @@ module _ (marks t u : List ℕ) (listed j : ℕ) (count : listed ≡ length (mar
   list-none e = rw (marked-none marks j e) (count, so-far)
 
 -- Nothing is marked at first.
-replicate-zero : (n x : ℕ) → _≡_ {A = ℕ} (getD (replicate n 0) x 0) 0
-replicate-zero n x = by-place (decLt x n)
-  where
-    by-place : Dec (x < n) → _≡_ {A = ℕ} (getD (replicate n 0) x 0) 0
-    by-place (yes h) = getD-replicate n x 0 0 h
-    by-place (no h) = List·getD-eq-default (replicate n 0) 0 (omega (arith, length-replicate {A = ℕ} n 0))
-
 keep-cong : (f g : ℕ → Bool) (xs : List ℕ) → ((x : ℕ) → f x ≡ g x) → keep f xs ≡ keep g xs
 keep-cong f g [] e = refl
 keep-cong f g (x ∷ xs) e = rw (e x, keep-cong f g xs e)

@@ -12,8 +12,9 @@ use borrow.Author.Tests.{not-true, eq-eqb}
 use lib.ListN.{length, getD, set, length-set}
 use lib.Seq.{getD-set-same, getD-set-other}
 use lib.Dec.{eqb}
-use Rattle.lists.proofs.ListsLaws.{and-left, and-right}
-use Rattle.lists.proofs.MembersLaws.{In, or-cases, any-none}
+use Rattle.lists.proofs.TestsLaws.{and-left, and-right}
+use Rattle.lists.proofs.MembersLaws.{In, any-none}
+use Rattle.lists.proofs.TestsLaws.{or-cases}
 use Rattle.lists.proofs.NamesLaws.{names-append}
 use Rattle.value.specs.Value.{fits, ofWidth}
 use Rattle.kinds.specs.declared.Kind.the-variants.{Switch, Input, Const}

@@ -14,7 +14,7 @@ use native.Mathlib.Omega.{arith}
 use lib.ListN.{length, getD}
 use lib.Seq.{slice, slice-cons, slice-empty}
 use Rattle.lists.specs.Lists.{has}
-use Rattle.lists.proofs.ListsLaws.{or-left}
+use Rattle.lists.proofs.TestsLaws.{or-left}
 use Rattle.lists.proofs.MembersLaws.{In, has-complete}
 use Rattle.kinds.specs.declared.Kind.the-variants.{Switch, Clock, Const}
 use Rattle.kinds.specs.Kinds.{is}

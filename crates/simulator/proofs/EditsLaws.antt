@@ -12,7 +12,8 @@ use lib.Dec.{leb, eqb}
 use Rattle.lists.specs.Lists.{refusal, _if_, appendNew, overlay, from}
 use Rattle.lists.proofs.MembersLaws.{any-map}
 use Rattle.tables.specs.declared.Wire.{Wire}
-use Rattle.lists.proofs.ListsLaws.{and-left, refusal-first, refusal-rest}
+use Rattle.lists.proofs.ListsLaws.{refusal-first, refusal-rest}
+use Rattle.lists.proofs.TestsLaws.{and-left}
 use Rattle.value.specs.Value.{fits, ofWidth}
 use Rattle.kinds.specs.declared.Kind.the-variants.{Switch, Input}
 use Rattle.kinds.specs.declared.table.Fields.{Fields}

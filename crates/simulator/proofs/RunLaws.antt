@@ -13,7 +13,7 @@ use lib.ListN.{length, take}
 use lib.Seq.{length-take-le}
 use lib.Dec.{ltb}
 use Rattle.lists.specs.Lists.{every}
-use Rattle.lists.proofs.ListsLaws.{and-left, and-right}
+use Rattle.lists.proofs.TestsLaws.{and-left, and-right}
 use Rattle.kinds.specs.declared.Kind.the-variants.{Clock}
 use Rattle.kinds.specs.Kinds.{is}
 use Rattle.kinds.specs.Given.{refusedBy, done}

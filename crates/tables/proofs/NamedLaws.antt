@@ -16,7 +16,8 @@ use lib.Seq.{take-all, take-length, take-suc, take-suc-set, set-split, append-sn
 use lib.Dec.{eqb}
 use Rattle.lists.proofs.OverlayLaws.{overlay-front}
 use Rattle.lists.specs.Lists.{has, appendNew, strike, overlay}
-use Rattle.lists.proofs.MembersLaws.{in-getD, keep-append, has-complete}
+use Rattle.lists.proofs.MembersLaws.{in-getD, has-complete}
+use Rattle.lists.proofs.ListsLaws.{keep-append}
 
 -- A list in two parts.
 pub has-append : (x : ℕ) (xs ys : List ℕ) → has x (xs ++ ys) ≡ (has x xs || has x ys)

@@ -4,7 +4,7 @@
 use mathlib.Core.Path.{_≡_}
 use mathlib.Core.Bool.{Bool, true, _&&_}
 use mathlib.Core.List.{List, [], _∷_, foldl}
-use Rattle.lists.proofs.ListsLaws.{and-left, and-right}
+use Rattle.lists.proofs.TestsLaws.{and-left, and-right}
 
 abbrev pub AllTrue : List Bool → Type 0
 AllTrue [] = Unit

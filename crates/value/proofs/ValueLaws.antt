@@ -12,7 +12,8 @@ use lib.Dec.{eqb}
 use lib.Pow.{pow-pos, pow-mono, shl-exact, shr-lt, ones-split, split}
 use lib.Arith.{digits-div}
 use Rattle.lists.specs.Lists.{within}
-use Rattle.lists.proofs.ListsLaws.{and-left, and-right, within-most}
+use Rattle.lists.proofs.ListsLaws.{within-most}
+use Rattle.lists.proofs.TestsLaws.{and-left, and-right}
 use Rattle.value.specs.declared.Value.{Value}
 use Rattle.value.specs.Value.{widest, level, ones, below, fits, bitOf, flipped, complement}
 

@@ -8,7 +8,7 @@ use native.Mathlib.Omega.{arith}
 use borrow.Author.Tests.{ltb-false}
 use lib.Dec.{ltb}
 use Rattle.lists.specs.Lists.{from, keep, total}
-use Rattle.lists.proofs.ListsLaws.{or-left, or-right}
+use Rattle.lists.proofs.TestsLaws.{or-left, or-right}
 use Rattle.component.specs.declared.Record.{Record}
 use Rattle.component.specs.Record.{recordAt, isPrimitive, inputsOf, outputsOf}
 use Rattle.component.specs.Drawing.{inputsBefore, outputsBefore}

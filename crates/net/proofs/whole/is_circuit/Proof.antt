@@ -5,7 +5,7 @@ use Rattle.tables.specs.Tables.{Tables}
 use borrow.Author.Tests.{not-true, not-false}
 use mathlib.Core.Path.{_≡_, sym, _∙_}
 use mathlib.Core.List.{[]}
-use Rattle.lists.proofs.ListsLaws.{and-right}
+use Rattle.lists.proofs.TestsLaws.{and-right}
 use Rattle.net.specs.Net.{countsWithin, kindsObeyed, idsDistinct, portsFollow, valuesFit, constsHeld, wiresFit}
 use Rattle.net.specs.Parts.{lent}
 use Rattle.net.proofs.ClausesLaws.{countsWithin-sound, portsInside}

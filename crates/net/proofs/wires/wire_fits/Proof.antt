@@ -4,7 +4,7 @@ use borrow.Author.Tests.{not-true, not-false, ltb-true}
 use mathlib.Core.Bool.{Bool}
 use mathlib.Core.List.{[]}
 use lib.Dec.{ltb}
-use Rattle.lists.proofs.ListsLaws.{and-left, and-right}
+use Rattle.lists.proofs.TestsLaws.{and-left, and-right}
 use Rattle.tables.specs.Tables.{Tables}
 use Rattle.net.specs.Parts.{lent}
 use Rattle.net.proofs.ClausesLaws.{kindsObeyed-fit, wireFits-none, wireFits-both}
