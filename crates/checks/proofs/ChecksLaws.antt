@@ -10,7 +10,7 @@ use native.Mathlib.Nat.{sub-zero}
 use native.Mathlib.Numerals.{add-one}
 use native.Mathlib.Decide.{decLt}
 use native.Mathlib.Omega.{arith}
-use borrow.Author.Tests.{eq-eqb, ne-eqb, le-leb, lt-leb, lt-ltb, le-ltb, ltb-true, not-true, not-false}
+use borrow.Author.Tests.{eqb-false, eq-eqb, ne-eqb, le-leb, lt-leb, lt-ltb, le-ltb, ltb-true, not-true, not-false}
 use lib.Dec.{eqb, leb, ltb}
 use lib.ListN.{length}
 use types.Run.{OneOf}
@@ -36,7 +36,7 @@ use Rattle.component.specs.Reading.{given}
 use Rattle.component.specs.Record.{inputsOf, outputsOf, isPrimitive, composite}
 use Rattle.component.specs.Record.{hasId, entering, enters}
 use Rattle.component.specs.Drawing.{isComponent, child, deepest, holds, deeper, outMaps, inputsBefore, outputsBefore}
-use Rattle.component.specs.Drawing.{fails4, fails5, fails6, fails7, fails8, fails9}
+use Rattle.component.specs.Drawing.{fails3, fails4, fails5, fails6, fails7, fails8, fails9}
 use Rattle.component.specs.Drawing.{fails10, fails11, fails12, fails13, fails14}
 use Rattle.component.proofs.Says.{the-type}
 use Rattle.component.proofs.RecordLaws.{formBy-tag, no-component, refused-is, taken-is, taken-form, taken-owner, unseen-test, unseen-fields, seen-is}
@@ -158,7 +158,11 @@ formBy-some : (x : Says) → formBy x ≡ 0 → ⊥
 formBy-some x h = omega (arith, formBy-tag x)
 
 module _ (s : List ℕ) where
-  -- 4: the first record is no component; it is one; a later one that is refused; one after a refused one; any other
+  -- A record that check 3 passes is not refused.
+  pub not-refused : (p : ℕ) (r : Reading) {k : ℕ} → fails3 (recordAt s) p ≡ false → said r ≡ recordAt s p → r ≡ Refused k → ⊥
+  not-refused p r t e h = eqb-false (formOf (recordAt s p)) 0 t (ap formOf (refused-is (recordAt s p) r e h))
+
+  -- 4: the first record is no component; it is one; one after a refused one; any other
   pub fails4-first-none : (p : ℕ) (g : Stands) → p ≡ 0 → StandsAs g (recordAt s 0) → g ≡ Nothing → true ≡ fails4 (recordAt s) p
   fails4-first-none p g z e h = rw (z, unseen-test (recordAt s 0) g e h)
 
@@ -168,14 +172,11 @@ module _ (s : List ℕ) where
 
   module _ (p : ℕ) (z : p ≡ 0 → ⊥) (r : Reading) (e : said r ≡ recordAt s p) where
     fails4-pred : (p : ℕ) → (p ≡ 0 → ⊥) → fails4 (recordAt s) p
-        ≡ (not (eqb (formOf (recordAt s p)) 0) && (ltb (formOf (recordAt s p)) (formOf (recordAt s (p - 1)))
+        ≡ (ltb (formOf (recordAt s p)) (formOf (recordAt s (p - 1)))
         || (eqb (formOf (recordAt s p)) (formOf (recordAt s (p - 1))) && leb 2 (formOf (recordAt s (p - 1)))
-        && ltb (ownerOf (recordAt s p)) (ownerOf (recordAt s (p - 1))))))
+        && ltb (ownerOf (recordAt s p)) (ownerOf (recordAt s (p - 1)))))
     fails4-pred zero z = absurd (z refl)
     fails4-pred (suc q) z = let e : suc q - 1 ≡ q = omega arith in rw e
-
-    pub fails4-refused : {k : ℕ} → r ≡ Refused k → false ≡ fails4 (recordAt s) p
-    fails4-refused h = sym (fails4-pred p z ∙ rw (refused-is (recordAt s p) r e h))
 
     module _ (o : ℕ) (x : Says) (h : r ≡ Taken o x) (v : Reading) (d : said v ≡ recordAt s (p - 1)) where
       pub fails4-after : {k : ℕ} → v ≡ Refused k → false ≡ fails4 (recordAt s) p
@@ -189,14 +190,12 @@ module _ (s : List ℕ) where
           → b ≡ (ltb (formBy x) (formBy y) || (eqb (formBy x) (formBy y) && leb 2 (formBy y) && ltb o m))
           → b ≡ fails4 (recordAt s) p
       fails4-later m y b k i =
-          let n = ne-eqb (formBy x) 0 (formBy-some x) in
           i ∙ sym (fails4-pred p z
           ∙ rw (
             taken-form (recordAt s p) r e o x h,
             taken-owner (recordAt s p) r e o x h,
             taken-form (recordAt s (p - 1)) v d m y k,
             taken-owner (recordAt s (p - 1)) v d m y k,
-            n,
           ))
 
   -- a component's owners, from the inside out: the root; no component; one whose owner is the one asked for; any other; none left
@@ -246,16 +245,9 @@ module _ (s : List ℕ) where
   deeper-none zero q b e h = e
   deeper-none (suc d) q b e h = absurd (omega arith)
 
-  -- 5: a refused record; the root; an owner that is no composite; a record that is no component; owned by the component before; by
+  -- 5: the root; an owner that is no composite; a record that is no component; owned by the component before; by
   -- another
   module _ (p : ℕ) (r : Reading) (e : said r ≡ recordAt s p) where
-    pub fails5-refused : {k : ℕ} → r ≡ Refused k → false ≡ fails5 (recordAt s) p
-    fails5-refused h = by-place p (refused-is (recordAt s p) r e h)
-      where
-        by-place : (p : ℕ) → recordAt s p ≡ noRecord → false ≡ fails5 (recordAt s) p
-        by-place zero z = rw z
-        by-place (suc q) z = rw z
-
     module _ (o : ℕ) (x : Says) (h : r ≡ Taken o x) where
       pub fails5-root : p ≡ 0 → not (eqb o 0) ≡ fails5 (recordAt s) p
       fails5-root z =
@@ -270,14 +262,13 @@ module _ (s : List ℕ) where
             ∙ rw (
               taken-form (recordAt s p) r e o x h,
               taken-owner (recordAt s p) r e o x h,
-              ne-eqb (formBy x) 0 (formBy-some x),
               ← d,
             )
           where
             by-place : (p : ℕ) → (p ≡ 0 → ⊥) → fails5 (recordAt s) p
-                ≡ (not (eqb (formOf (recordAt s p)) 0) && not (composite (recordAt s (ownerOf (recordAt s p)))
+                ≡ not (composite (recordAt s (ownerOf (recordAt s p)))
                 && (not (eqb (formOf (recordAt s p)) 1) || eqb (ownerOf (recordAt s p)) (p - 1)
-                || holds (recordAt s) (p - 1) (ownerOf (recordAt s p)) (p - 1))))
+                || holds (recordAt s) (p - 1) (ownerOf (recordAt s p)) (p - 1)))
             by-place zero z = absurd (z refl)
             by-place (suc q) z = let k : suc q - 1 ≡ q = omega arith in rw k
 

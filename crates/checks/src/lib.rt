@@ -1,6 +1,6 @@
 // The checks 3 to 14, each of one record: it answers the refusal's number, or 0. Rule: docs/SPECIFICATION.md, "Numbers given back".
 ghost use mathlib.Core.Path.{_≡_};
-ghost use mathlib.Core.Bool.{cond, _&&_, _||_};
+ghost use mathlib.Core.Bool.{false, cond, _&&_, _||_};
 ghost use Prim.Native.Nat.{_≤_, _<_};
 ghost use lib.ListN.{length};
 ghost use lib.Dec.{eqb, leb, ltb};
@@ -64,8 +64,9 @@ fn falls(here: Says, owner: u16, before: Says, was: u16) -> bool
     }
 }
 
-// 4: kinds do not fall, nor owners among equal kinds 2 to 4; the first record is of kind 1.
+// 4: kinds do not fall, nor owners among equal kinds 2 to 4; the first record is of kind 1. Check 3 has passed.
 fn check4(file: &[u8], p: usize) -> u32
+    requires { ⌜ fails3 (recordAt (now file)) p ≡ false ⌝ }
     ensures { λ r. ⌜ r ≡ given 4 (fails4 (recordAt (now (file .entry))) p) ⌝ }
 {
     if p == 0 {
@@ -117,8 +118,9 @@ fn is_composite_at(file: &[u8], p: usize) -> bool
     fields_at(file, p).kind == 0
 }
 
-// 5: the root's owner is 0; any other is a composite, a component's one that is the component before or holds it.
+// 5: the root's owner is 0; any other is a composite, a component's one that is the component before or holds it. Check 3 has passed.
 fn check5(file: &[u8], p: usize) -> u32
+    requires { ⌜ fails3 (recordAt (now file)) p ≡ false ⌝ }
     ensures { λ r. ⌜ r ≡ given 5 (fails5 (recordAt (now (file .entry))) p) ⌝ }
 {
     let Reading::Taken { owner, says } = record_at(file, p) else {
@@ -432,9 +434,9 @@ fn check14(file: &[u8], p: usize) -> u32
 }
 
 // What check k, of 3 to 14, gives of the record at p. Crate flatten calls it over all records of a file, in number order, with the
-// index filled.
+// index filled: where k is past 3, check 3 has passed.
 pub fn check(file: &[u8], index: &[u16], k: u32, p: usize) -> u32
-    requires { ⌜ IsIndex (now file) (now index) ⌝ }
+    requires { ⌜ IsIndex (now file) (now index) × (3 < k → fails3 (recordAt (now file)) p ≡ false) ⌝ }
     ensures { λ r. ⌜ r ≡ given k (failsBy (recordAt (now (file .entry))) (recordCount (now (file .entry))) k p) ⌝ }
 {
     match k {

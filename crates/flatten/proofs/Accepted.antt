@@ -72,17 +72,18 @@ pub record Passed (at : ℕ → Record) (n : ℕ) : Type 0 where
 recordAt-past : (file : List ℕ) (p : ℕ) → recordCount file ≤ p → recordAt file p ≡ noRecord
 recordAt-past file p h = rw (le-ltb p (recordCount file) h)
 
+-- No record fails a check whose place is before that of m, where the checks before m have passed.
+pub passed-check : (at : ℕ → Record) (n m k p : ℕ) → PassedBefore at n m → k - 3 < m - 3 → p < n → checkNumbered at n k .fails p ≡ false
+passed-check at n m k p e h l =
+    ap (λ (c : Check). c .fails p) (sym (getD-take (m - 3) (checks at n) (k - 3) noCheck h))
+    ∙ judged-place n (take (m - 3) (checks at n)) e (k - 3) p l
+
 pub passed-before : (file : List ℕ) → PassedBefore (recordAt file) (recordCount file) 15 → Passed (recordAt file) (recordCount file)
 passed-before file e =
     record {
       past = recordAt-past file;
-      passes = λ k h p l.
-          ap (λ (c : Check). c .fails p) (sym (getD-take 12 all (k - 3) noCheck (omega (arith, ltb-true k 15 h))))
-          ∙ judged-place (recordCount file) (take 12 all) e (k - 3) p l;
+      passes = λ k h p l. passed-check (recordAt file) (recordCount file) 15 k p e (omega (arith, ltb-true k 15 h)) l;
     }
-  where
-    all : List Check
-    all = checks (recordAt file) (recordCount file)
 
 -- An accepted file has a size that check 1 passes.
 pub accepted-sized : (file : List ℕ) → verdict file ≡ Accepted → sized file ≡ true

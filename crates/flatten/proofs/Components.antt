@@ -10,7 +10,7 @@ use mathlib.Core.List.{List}
 use Prim.Native.Nat.{ℕ, zero, suc, _-_, _≤_, _<_}
 use native.Mathlib.Decide.{decLt}
 use native.Mathlib.Omega.{arith}
-use borrow.Author.Tests.{eqb-true, eqb-false, eq-eqb, ne-eqb, ltb-false, leb-false, not-true, not-false}
+use borrow.Author.Tests.{eqb-true, eqb-false, eq-eqb, ltb-false, leb-false, not-true, not-false}
 use lib.ListN.{length, getD}
 use lib.Dec.{eqb, leb}
 use Rattle.lists.specs.Lists.{from, keep}
@@ -81,8 +81,7 @@ module _ (at : ℕ → Record) (n : ℕ) (d : Passed at n) where
   owner-composite zero l h =
       let z : formOf (at 0) ≡ 1 = eqb-true (formOf (at 0)) 1 (not-false _ (d .passes 4 refl 0 l)) in absurd (omega arith)
   owner-composite (suc q) l h =
-      let some = ne-eqb (formOf (at (suc q))) 0 (λ z. omega arith) in
-      and-left (composite (at (ownerOf (at (suc q))))) _ (not-false _ (rw some at (d .passes 5 refl (suc q) l)))
+      and-left (composite (at (ownerOf (at (suc q))))) _ (not-false _ (d .passes 5 refl (suc q) l))
 
   -- Components stand first: what stands before a component is one.
   component-before : (q : ℕ) → suc q < n → formOf (at (suc q)) ≡ 1 → formOf (at q) ≡ 1

@@ -1,17 +1,18 @@
--- Check 15 does not ask whether the source of a connection is there, since the checks before it have settled that; a check that asked it
--- as well would change no verdict. docs/SPECIFICATION.md, "Numbers given back".
+-- Checks 4 and 5 do not ask whether a record is one, nor check 15 whether the source of a connection is there, since the checks before
+-- them have settled that; checks that asked it as well would change no verdict. docs/SPECIFICATION.md, "Numbers given back".
+--   asked3 at f p        the record at p, if check 3 passes it or it is the first, fails f
 --   asked15 at n p       the connection at p, if its source is a component, yields a wire whose ends differ in width
---   asked at n           the checks of a drawing with that one
+--   asked at n           the checks of a drawing with these for 4, 5 and 15
 --   Same n done cs ds    the checks cs and ds say the same of each of n records, each where those before it, done first, have passed
 -- Assumes nothing.
-use mathlib.Core.Path.{_≡_, refl, sym, ap, _∙_}
+use mathlib.Core.Path.{_≡_, refl, sym, ap, _∙_, subst}
 use mathlib.Core.Logic.{inl, inr}
-use mathlib.Core.Bool.{Bool, true, false, cond, _&&_}
-use mathlib.Core.List.{List, [], _∷_, _++_}
+use mathlib.Core.Bool.{Bool, true, false, cond, not, _&&_}
+use mathlib.Core.List.{List, [], _∷_, _++_, append-nil, append-assoc}
 use mathlib.Core.Option.{Option, none, some}
-use Prim.Native.Nat.{ℕ, _<_}
+use Prim.Native.Nat.{ℕ, zero, suc, _<_}
 use borrow.Author.Tests.{eq-eqb, eqb-true}
-use lib.ListN.{take}
+use lib.ListN.{take, drop}
 use lib.Dec.{eqb}
 use Rattle.lists.specs.Lists.{from, any, first}
 use Rattle.lists.proofs.MembersLaws.{In, from0-sound}
@@ -20,10 +21,10 @@ use Rattle.component.specs.declared.Verdict.{Verdict}
 use Rattle.component.specs.declared.Verdict.the-variants.{Accepted}
 use Rattle.component.specs.Record.{recordAt, recordCount}
 use Rattle.component.specs.Reading.{formOf}
-use Rattle.component.specs.Drawing.{isComponent}
+use Rattle.component.specs.Drawing.{isComponent, fails3, fails4, fails5}
 use Rattle.flatten.specs.Descent.{comesFrom, wiresAt, fails15}
 use Rattle.flatten.specs.Verdict.{Check, check, checks, refused, orLater, judged, sized, verdict}
-use Rattle.flatten.proofs.Accepted.{passed-before}
+use Rattle.flatten.proofs.Accepted.{judged-passes, passed-before}
 use Rattle.flatten.proofs.JudgementLaws.{judged-append}
 use Rattle.flatten.proofs.Components.{primitive-component}
 use Rattle.flatten.proofs.Ends.{source-there}
@@ -39,6 +40,14 @@ module _ (n : ℕ) where
   Same done [] (d ∷ ds) = ⊥
   Same done (c ∷ cs) [] = ⊥
   Same done (c ∷ cs) (d ∷ ds) = (judged n done ≡ Accepted → Agree c d) × Same (done ++ (d ∷ [])) cs ds
+
+  -- Checks that are the same in both, in front.
+  same-append : (done ks cs ds : List Check) → Same (done ++ ks) cs ds → Same done (ks ++ cs) (ks ++ ds)
+  same-append done [] cs ds s = subst (λ (l : List Check). Same l cs ds) (append-nil done) s
+  same-append done (k ∷ ks) cs ds s = (
+    λ e. (refl, λ p l. refl),
+    same-append (done ++ (k ∷ [])) ks cs ds (subst (λ (l : List Check). Same l cs ds) (sym (append-assoc done (k ∷ []) ks)) s),
+  )
 
   first-members : (f g : ℕ → Bool) (xs : List ℕ) → ((x : ℕ) → In x xs → f x ≡ g x) → first f xs ≡ first g xs
   first-members f g [] h = refl
@@ -63,12 +72,22 @@ module _ (n : ℕ) where
       by-found later (some p) z = refl
       by-found later none z = later z
 
+abbrev pub asked3 : (ℕ → Record) → (ℕ → Bool) → ℕ → Bool
+asked3 at f zero = f zero
+asked3 at f (suc q) = not (fails3 at (suc q)) && f (suc q)
+
+asked3-same : (at : ℕ → Record) (f : ℕ → Bool) (p : ℕ) → fails3 at p ≡ false → asked3 at f p ≡ f p
+asked3-same at f zero e = refl
+asked3-same at f (suc q) e = rw e
+
 module _ (at : ℕ → Record) (n : ℕ) where
   abbrev pub asked15 : ℕ → Bool
   asked15 p = eqb (formOf (at p)) 2 && isComponent at (comesFrom at n p .comp) && any (differing at) (wiresAt at n p)
 
   abbrev pub asked : List Check
-  asked = take 12 (checks at n) ++ (check 15 asked15 ∷ [])
+  asked =
+      check 3 (fails3 at) ∷ check 4 (asked3 at (fails4 at)) ∷ check 5 (asked3 at (fails5 at))
+      ∷ (take 9 (drop 3 (checks at n)) ++ (check 15 asked15 ∷ []))
 
 module _ (file : List ℕ) where
   abbrev at : ℕ → Record
@@ -88,35 +107,19 @@ module _ (file : List ℕ) where
           let source = source-there at n (passed-before file e) p l (eqb-true (formOf (at p)) 2 u) in
           rw (eq-eqb _ 1 (primitive-component (at (comesFrom at n p .comp)) (source .of-primitive)))
 
+  -- Before 4 and 5, check 3 has passed.
+  asked3-passed : (f : ℕ → Bool) (ks : List Check) → judged n (check 3 (fails3 at) ∷ ks) ≡ Accepted → (p : ℕ) → p < n → asked3 at f p ≡ f p
+  asked3-passed f ks e p l =
+      asked3-same at f p (judged-passes n (check 3 (fails3 at) ∷ ks) e (check 3 (fails3 at)) (inl refl) p l)
+
   same : Same n [] (asked at n) (checks at n)
   same =
-      let as-is : (c : Check) → Agree n c c = λ c. (refl, λ p l. refl) in (
-        λ e. as-is _,
-        (
-          λ e. as-is _,
-          (
-            λ e. as-is _,
-            (
-              λ e. as-is _,
-              (
-                λ e. as-is _,
-                (
-                  λ e. as-is _,
-                  (
-                    λ e. as-is _,
-                    (
-                      λ e. as-is _,
-                      (
-                        λ e. as-is _,
-                        (λ e. as-is _, (λ e. as-is _, (λ e. as-is _, (λ e. (refl, asked15-same e), tt)))),
-                      ),
-                    ),
-                  ),
-                ),
-              ),
-            ),
-          ),
-        ),
+      let first-three = check 3 (fails3 at) ∷ check 4 (fails4 at) ∷ check 5 (fails5 at) ∷ [] in
+      let middle = take 9 (drop 3 (checks at n)) in
+      let last : Same n (first-three ++ middle) (check 15 (asked15 at n) ∷ []) (check 15 (fails15 at n) ∷ []) = (λ e. (refl, asked15-same e), tt) in
+      let later = same-append n first-three middle (check 15 (asked15 at n) ∷ []) (check 15 (fails15 at n) ∷ []) last in (
+        λ e. (refl, λ p l. refl),
+        (λ e. (refl, asked3-passed (fails4 at) [] e), (λ e. (refl, asked3-passed (fails5 at) (check 4 (fails4 at) ∷ []) e), later)),
       )
 
   -- The verdict is the same.

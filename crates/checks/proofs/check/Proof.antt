@@ -1,10 +1,17 @@
 -- `check`: each number names its check.
 -- Assumes nothing.
+use native.Mathlib.Omega.{arith}
 use borrow.Author.Tests.{ne-eqb}
 use Rattle.checks.specs.Checks.{failsBy}
 use borrow.Author.Needs.{needs}
 use Rattle.checks.proofs.check.Statement.{statement}
 use Rattle.checks.proofs.check.Tie as tie
+
+check4-requires : tie.Need-check4-requires
+check4-requires c κs = c .before .before .before .pre .1 (omega arith)
+
+check5-requires : tie.Need-check5-requires
+check5-requires c κs = c .before .before .before .pre .1 (omega arith)
 
 returns : tie.Need-returns
 unfolding failsBy
@@ -80,8 +87,8 @@ check-spec =
     tie.close
     (tie.spec
     (λ c κs. search needs)
-    (λ c κs. search needs)
-    (λ c κs. search needs)
+    check4-requires
+    check5-requires
     (λ c κs. search needs)
     (λ c κs. search needs)
     (λ c κs. search needs)

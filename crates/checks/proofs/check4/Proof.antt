@@ -1,6 +1,6 @@
 -- `check4`: the tests are those of the definition, at the record and the one before it.
 -- Assumes nothing.
-use Rattle.checks.proofs.ChecksLaws.{given-by, given-fails, given-passes, fails4-first-none, fails4-first, fails4-refused, fails4-after, fails4-later}
+use Rattle.checks.proofs.ChecksLaws.{given-by, given-fails, given-passes, fails4-first-none, fails4-first, not-refused, fails4-after, fails4-later}
 use borrow.Author.Needs.{needs}
 use Rattle.checks.proofs.check4.Statement.{statement}
 use Rattle.checks.proofs.check4.Tie as tie
@@ -12,7 +12,7 @@ returns-2 : tie.Need-returns-2
 returns-2 c = search (given-passes, fails4-first)
 
 returns-3 : tie.Need-returns-3
-returns-3 c = search (given-passes, fails4-refused)
+returns-3 c = absurd (search (not-refused))
 
 returns-4 : tie.Need-returns-4
 returns-4 c = search (given-passes, fails4-after)

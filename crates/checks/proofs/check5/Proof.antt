@@ -1,12 +1,13 @@
 -- `check5`: the tests stand in the order of the definition, and each decides it at its way out.
 -- Assumes nothing.
-use Rattle.checks.proofs.ChecksLaws.{given-by, given-fails, given-passes, fails5-refused, fails5-root, fails5-owner, fails5-line, fails5-before, fails5-held}
+use Rattle.checks.proofs.ChecksLaws.{given-by, given-fails, given-passes, not-refused}
+use Rattle.checks.proofs.ChecksLaws.{fails5-root, fails5-owner, fails5-line, fails5-before, fails5-held}
 use borrow.Author.Needs.{needs}
 use Rattle.checks.proofs.check5.Statement.{statement}
 use Rattle.checks.proofs.check5.Tie as tie
 
 returns : tie.Need-returns
-returns c = search (given-passes, fails5-refused)
+returns c = absurd (search (not-refused))
 
 returns-2 : tie.Need-returns-2
 returns-2 c = search (given-by, fails5-root)

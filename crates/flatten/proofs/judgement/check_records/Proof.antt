@@ -13,7 +13,8 @@ use Rattle.flatten.proofs.judgement.check_records.Tie as tie
 
 abbrev Inv-loop : tie.InvT-loop
 Inv-loop file index k p₀ p =
-    first (failsAt (recordAt file) (length file / 24) k) (from p (length file / 24 - p)) ≡ first (failsAt (recordAt file) (length file / 24) k) (from 0 (length file / 24))
+    first (failsAt (recordAt file) (length file / 24) k) (from p (length file / 24 - p))
+    ≡ first (failsAt (recordAt file) (length file / 24) k) (from 0 (length file / 24))
 
 abbrev μ-loop : tie.MeasureT-loop
 μ-loop file index k p₀ p = length file / 24 - p

@@ -1,6 +1,6 @@
 -- `any_differs`: the invariant: whether one of the targets to come has another width is the answer.
 -- Assumes nothing.
-use mathlib.Core.Path.{_≡_, sym, _∙_}
+use mathlib.Core.Path.{_≡_}
 use Prim.Native.Nat.{_-_}
 use native.Mathlib.Omega.{arith}
 use Rattle.lists.specs.Lists.{from, any}

@@ -78,8 +78,8 @@ returns-3 c =
     let read = connection-read (a .file .now) _ (passed-before (a .file .now) (s .pre .1)) (a .p) (s .pre .0 .2) _ _ _ _ _ at-p
     _ _ (depth .deepest2 .ensures) (child .child-of2 .ensures) _ _ _ (listed .list-targets .ensures) refl in
     given-by 15 _ _ _ (c .given .ensures)
-    (fails15-connection (a .file .now) (a .p) _ _ _ _ _ at-p _ _ _ _ _ _ _ read (above .deepest .ensures) (start .child-of .ensures) (source .source-of .ensures) (fields .fields-at .ensures)
-    (width .output-width .ensures) (c .before .any-differs .ensures))
+    (fails15-connection (a .file .now) (a .p) _ _ _ _ _ at-p _ _ _ _ _ _ _ read (above .deepest .ensures) (start .child-of .ensures)
+    (source .source-of .ensures) (fields .fields-at .ensures) (width .output-width .ensures) (c .before .any-differs .ensures))
 
 pub check15-spec : {M : Type 1} → statement M
 check15-spec =

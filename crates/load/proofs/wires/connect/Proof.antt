@@ -4,7 +4,6 @@ use mathlib.Core.Path.{refl}
 use Prim.Native.Nat.{_/_}
 use lib.ListN.{length}
 use borrow.Author.Needs.{needs}
-use Rattle.tables.specs.Words.{wirePlace}
 use Rattle.flatten.proofs.Accepted.{accepted-passed}
 use Rattle.flatten.proofs.DescentLaws.{connection-at}
 use Rattle.flatten.proofs.ConnectionLaws.{connection-room, connection-within}

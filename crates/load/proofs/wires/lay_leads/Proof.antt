@@ -9,7 +9,6 @@ use Rattle.flatten.specs.Targets.{targetsIn}
 use Rattle.tables.specs.Words.{wirePlace}
 use Rattle.load.specs.Laying.{Written, leadBy}
 use Rattle.load.proofs.WiresLaws.{leads-start, leads-size, leads-step, leads-end}
-use borrow.Author.Needs.{needs}
 use Rattle.load.proofs.wires.lay_leads.Statement.{statement}
 use Rattle.load.proofs.wires.lay_leads.Tie as tie
 
