@@ -34,7 +34,8 @@ use Rattle.component.specs.Reading.{idOf, ownerOf, formOf, apart, formBy, said,
 use Rattle.checks.specs.Checks.{EntryAs}
 use Rattle.component.specs.Reading.{given}
 use Rattle.component.specs.Record.{inputsOf, outputsOf, isPrimitive, composite}
-use Rattle.component.specs.Record.{hasId, entering, enters}
+use Rattle.component.specs.Record.{entering}
+use Rattle.component.specs.Reading.{hasId, enters}
 use Rattle.component.specs.Drawing.{isComponent, child, deepest, holds, deeper, outMaps, inputsBefore, outputsBefore}
 use Rattle.component.specs.Drawing.{fails3, fails4, fails5, fails6, fails7, fails8, fails9}
 use Rattle.component.specs.Drawing.{fails10, fails11, fails12, fails13, fails14}

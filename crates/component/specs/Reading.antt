@@ -3,7 +3,7 @@
 -- Assumes nothing.
 use mathlib.Core.Path.{_≡_}
 use Prim.Native.Nat.{ℕ}
-use mathlib.Core.Bool.{Bool, cond}
+use mathlib.Core.Bool.{Bool, cond, _&&_}
 use Rattle.component.specs.declared.Record.{Record}
 use Rattle.component.specs.declared.Says.{Says}
 use Rattle.component.specs.declared.Says.the-variants.{Component, Connection, InputMap, OutputMap}
@@ -11,7 +11,8 @@ use Rattle.component.specs.declared.Reading.{Reading}
 use Rattle.component.specs.declared.Reading.the-variants.{Taken, Refused}
 use Rattle.component.specs.declared.Stands.{Stands}
 use Rattle.component.specs.declared.Stands.the-variants.{Component as StandsComponent, Nothing}
-use Rattle.component.specs.Record.{noRecord}
+use lib.Dec.{eqb}
+use Rattle.component.specs.Record.{noRecord, wellFormed, entering, toOf, inputOf}
 
 -- Its record kind, its owner and its id, as laws speak of them.
 abbrev pub formOf : Record → ℕ
@@ -67,3 +68,15 @@ StandsAs Nothing r = formOf r ≡ 1 → ⊥
 -- The number of a check that fails, else 0.
 abbrev pub given : ℕ → Bool → ℕ
 given k b = cond b k 0
+
+-- Nine numbers as a record, or none where check 3 refuses them.
+abbrev pub recordIn : Record → Record
+recordIn r = cond (wellFormed r) r noRecord
+
+-- A component of id i.
+abbrev pub hasId : ℕ → Record → Bool
+hasId i r = eqb (r .form) 1 && eqb (r .id) i
+
+-- It enters input d of child c of owner o.
+abbrev pub enters : ℕ → ℕ → ℕ → Record → Bool
+enters o c d r = entering r && eqb (r .owner) o && eqb (toOf r) c && eqb (inputOf r) d

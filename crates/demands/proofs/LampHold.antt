@@ -15,7 +15,8 @@ use Rattle.load.proofs.FlatWires.{wire}
 use Rattle.net.specs.Net.{countsWithin, kindsObeyed, idsDistinct, portsFollow, valuesFit, constsHeld, wiresFit, inputsOnce, names, isNet, netNumber}
 use Rattle.rounds.specs.Round.{leave, evaluated, send, visit, round, portSet, editedState, calm, roundOf}
 use Rattle.simulator.specs.Calls.{roundTables, editNumber, editTables, run}
-use Rattle.demands.specs.Lamp.{lamp, lampLoaded, lampSet}
+use Rattle.component.proofs.Drawings.{lamp}
+use Rattle.demands.proofs.Lamp.{lampLoaded, lampSet}
 
 -- What the listing prints of it: the verdict, the wires, rounds until calm.
 pub lamp-accepted : verdict lamp ≡ Accepted

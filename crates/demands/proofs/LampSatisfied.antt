@@ -22,7 +22,8 @@ use Rattle.load.specs.Load.{drawingTables, loadVerdict, loadTables}
 use Rattle.net.specs.Net.{countsWithin, kindsObeyed, idsDistinct, portsFollow, valuesFit, constsHeld, wiresFit, inputsOnce, names, isNet, netNumber}
 use Rattle.rounds.specs.Round.{leave, evaluated, send, visit, round, calm, roundOf}
 use Rattle.simulator.specs.Calls.{roundTables, run, runTables}
-use Rattle.demands.specs.Lamp.{lamp, sevens, lampLoaded}
+use Rattle.component.proofs.Drawings.{lamp}
+use Rattle.demands.proofs.Lamp.{sevens, lampLoaded}
 use Rattle.demands.specs.Reached.{Reached, untilCalm, called}
 use Rattle.demands.specs.Reached as reached
 use Rattle.demands.specs.Demand.{Satisfied}

@@ -1,3 +1,5 @@
+pub mod Lamp
+pub mod Marked
 pub mod LampHold
 pub mod MarkedHold
 pub mod Called

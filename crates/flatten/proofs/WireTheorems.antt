@@ -3,28 +3,24 @@
 -- With `file` accepted, `at` is its records by position and `n` is how many it has.
 -- Assumes nothing.
 use mathlib.Core.Path.{_≡_}
-use mathlib.Core.Bool.{true}
-use mathlib.Core.List.{List, map}
-use Prim.Native.Nat.{ℕ, _≤_, _<_}
+use mathlib.Core.List.{List}
+use Prim.Native.Nat.{ℕ, _≤_}
 use lib.ListN.{length}
 use Rattle.lists.proofs.MembersLaws.{In, Distinct}
-use Rattle.kinds.specs.Kinds.{obeys}
 use Rattle.component.specs.declared.Record.{Record}
 use Rattle.component.specs.declared.Verdict.the-variants.{Accepted}
-use Rattle.component.specs.Record.{recordAt, recordCount, fieldsOf, isPrimitive}
-use Rattle.component.specs.Reading.{idOf}
+use Rattle.component.specs.Record.{recordAt, recordCount}
 use Rattle.component.specs.Drawing.{primitivesBefore, inputsBefore, outputsBefore}
 use Rattle.flatten.specs.declared.Pin.{Pin}
 use Rattle.flatten.specs.declared.Lead.{Lead}
-use Rattle.flatten.specs.Descent.{wires, flat}
+use Rattle.flatten.specs.Descent.{wires}
 use Rattle.flatten.specs.Leads.{Leads}
 use Rattle.flatten.specs.Verdict.{verdict}
 use Rattle.flatten.proofs.Accepted.{Passed, accepted-check, accepted-passed}
 use Rattle.flatten.proofs.Wires.{lead, wires-lead, leads-wires}
 use Rattle.flatten.proofs.Ends.{IsOutput, IsInput, SameWidths, wires-leave, wires-enter, wires-width}
 use Rattle.flatten.proofs.Bound.{entered, wires-distinct, wires-bound}
-use Rattle.flatten.proofs.Primitives.{flat-below, flat-inj, primitives-bound, inputs-bound, outputs-bound}
-use Rattle.flatten.proofs.Primitives.{primitive-obeys, ids-distinct}
+use Rattle.flatten.proofs.Primitives.{primitives-bound, inputs-bound, outputs-bound}
 
 module _ (file : List ℕ) where
   abbrev at : ℕ → Record
@@ -77,20 +73,3 @@ module _ (file : List ℕ) where
     -- and for their outputs, at most 1,024.
     pub accepted-outputs-bound : outputsBefore at n ≤ 1024
     accepted-outputs-bound = outputs-bound at n passed
-
-    -- Each primitive has a flat index below the number of primitives,
-    pub accepted-flat-below : (c : ℕ) → isPrimitive (at c) ≡ true → flat at n c < length (primitivesBefore at n)
-    accepted-flat-below = flat-below at n passed
-
-    -- which no other primitive has.
-    pub accepted-flat-inj : (b c : ℕ) → isPrimitive (at b) ≡ true → isPrimitive (at c) ≡ true
-        → flat at n b ≡ flat at n c → b ≡ c
-    accepted-flat-inj = flat-inj at n
-
-    -- Each primitive obeys the table of kinds.
-    pub accepted-obeys : (c : ℕ) → isPrimitive (at c) ≡ true → obeys (fieldsOf (at c)) ≡ true
-    accepted-obeys = primitive-obeys at n passed
-
-    -- No two primitives have one id.
-    pub accepted-ids-distinct : Distinct (map (λ c. idOf (at c)) (primitivesBefore at n))
-    accepted-ids-distinct = ids-distinct at n passed

@@ -15,6 +15,7 @@ use checks::check;
 use component::Verdict;
 use index::fill_index;
 use kinds::Refusal;
+use kinds::refused_by;
 
 // What check k, of 3 to 15, gives of the record at p, the checks before k having passed.
 fn check_record(file: &[u8], index: &[u16], k: u32, p: usize) -> u32
@@ -81,10 +82,7 @@ pub fn judge_indexed(file: &[u8], index: &mut [u16]) -> Verdict
     ensures { λ _. ⌜ (sized (now (file .entry)) ≡ true → IsIndex (now (file .entry)) (now (index .exit))) ⌝ }
 {
     if !is_sized(file) {
-        return Verdict::Refused(Refusal {
-            number: 1,
-            position: 0,
-        });
+        return Verdict::Refused(refused_by(1));
     }
     fill_index(file, index);
     judge_records(file, index)

@@ -14,7 +14,7 @@ use Rattle.load.specs.Load.{drawingTables, loadVerdict, loadTables}
 use Rattle.net.specs.Net.{countsWithin, kindsObeyed, idsDistinct, portsFollow, valuesFit, constsHeld, wiresFit, inputsOnce, names, isNet, netNumber}
 use Rattle.rounds.specs.Round.{leave, evaluated, send, visit, round, calm, roundOf}
 use Rattle.simulator.specs.Calls.{roundTables}
-use Rattle.demands.specs.Lamp.{recordBytes, componentBytes, connectionBytes, lamp, lampTwice}
+use Rattle.component.proofs.Drawings.{recordBytes, componentBytes, connectionBytes, lamp, lampTwice}
 use Rattle.text.specs.Text.{numeral}
 use Rattle.lines.specs.Lines.{ascii, componentLine, wireLine}
 use Rattle.listing.specs.Listing.{roundLines, listing}

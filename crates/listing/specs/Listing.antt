@@ -5,17 +5,20 @@
 use Prim.Native.Nat.{ℕ, zero, suc}
 use mathlib.Core.Bool.{Bool, true, false, cond}
 use mathlib.Core.List.{List, _++_}
+use lib.ListN.{replicate}
 use Rattle.component.specs.declared.Verdict.{Verdict}
 use Rattle.component.specs.declared.Verdict.the-variants.{Accepted, Refused}
-use Rattle.tables.specs.Tables.{Tables, tablesFilled, currentList}
+use Rattle.tables.specs.Tables.{Tables, tablesOf, countsOf, currentList}
 use Rattle.load.specs.Load.{loadVerdict, loadTables}
 use Rattle.rounds.specs.Round.{calm}
 use Rattle.simulator.specs.Calls.{roundTables}
 use Rattle.lines.specs.Lines.{ascii, componentsText, wiresText, roundLine, refusedLine}
 
--- Tables of full size, every word 0.
+-- Tables of full size, every word and every count 0.
 abbrev pub fresh : Tables
-fresh = tablesFilled 0
+fresh =
+    tablesOf (replicate 2048 0) (replicate 1024 0) (replicate 1024 0) (replicate 4096 0) (replicate 256 0) (replicate 256 0) (replicate 256 0)
+    (countsOf 0 0 0 0 0 0 0)
 
 -- How the rounds end.
 abbrev pub ending : Bool → List ℕ

@@ -12,6 +12,7 @@ use Rattle.lists.specs.Lists.{from, joined, overlay}
 use Rattle.lists.proofs.MembersLaws.{from-length}
 use Rattle.lists.proofs.OverlayLaws.{sets-overlay}
 use Rattle.kinds.specs.declared.answers.Refusal.{Refusal}
+use Rattle.kinds.specs.Given.{refusedBy}
 use Rattle.component.specs.declared.Verdict.{Verdict}
 use Rattle.component.specs.declared.Verdict.the-variants.{Accepted, Refused}
 use Rattle.component.specs.Record.{recordAt, recordCount}
@@ -129,14 +130,14 @@ module _ (s cs is os ws cur fol std : List ℕ) where
   lent = tablesOf cs is os ws cur fol std
 
   -- The ways out of the judgement, whatever the counts: 1; 2; and 0 or 3 to 15.
-  pub judge-unsized : sized s ≡ false → (m : Counts) → refused 1 0 ≡ loadVerdict s (lent m)
+  pub judge-unsized : sized s ≡ false → (r : Refusal) → r ≡ refusedBy 1 → (m : Counts) → Refused r ≡ loadVerdict s (lent m)
   unfolding loadVerdict
-  judge-unsized e m = rw e
+  judge-unsized e r d m = rw (e, d)
 
   module _ (sz : sized s ≡ true) where
-    pub judge-short : ((m : Counts) → fullSize (lent m) ≡ false) → (m : Counts) → refused 2 0 ≡ loadVerdict s (lent m)
+    pub judge-short : ((m : Counts) → fullSize (lent m) ≡ false) → (r : Refusal) → r ≡ refusedBy 2 → (m : Counts) → Refused r ≡ loadVerdict s (lent m)
     unfolding loadVerdict
-    judge-short e m = rw (sz, e m)
+    judge-short e r d m = rw (sz, e m, d)
 
     pub judge-file : ((m : Counts) → fullSize (lent m) ≡ true) → (v : Verdict) → v ≡ verdict s → (m : Counts)
         → v ≡ loadVerdict s (lent m)

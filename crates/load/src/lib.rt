@@ -15,7 +15,7 @@ ghost use Rattle.tables.specs.declared.Counts.{Counts};
 ghost use Rattle.tables.specs.Tables.{tablesOf, countsAfter};
 ghost use Rattle.load.specs.Load.{drawingTables, loadVerdict, Loads};
 use component::Verdict;
-use kinds::Refusal;
+use kinds::refused_by;
 use names::count_up;
 use names::lay_standing;
 use rows::lay_components;
@@ -83,10 +83,7 @@ fn judge_load(
     ensures { λ r. ⌜ (r ≡ Accepted → IsIndex (now (file .entry)) (now (index .exit))) ⌝ }
 {
     if !flatten::is_sized(file) {
-        return Verdict::Refused(Refusal {
-            number: 1,
-            position: 0,
-        });
+        return Verdict::Refused(refused_by(1));
     }
     if !tables::full_size(
         components,
@@ -97,10 +94,7 @@ fn judge_load(
         following,
         standing,
     ) {
-        return Verdict::Refused(Refusal {
-            number: 2,
-            position: 0,
-        });
+        return Verdict::Refused(refused_by(2));
     }
     flatten::judge_indexed(file, index)
 }

@@ -9,7 +9,8 @@ use lib.ListN.{getD, drop}
 use lib.Seq.{getD-take, getD-drop}
 use lib.Dec.{ltb}
 use Rattle.component.specs.declared.Record.{Record}
-use Rattle.component.specs.Record.{IsBytes, le32, numbersIn, wellFormed, noRecord, recordIn, recordCount, partAt, recordAt}
+use Rattle.component.specs.Record.{IsBytes, le32, numbersIn, wellFormed, noRecord, recordCount, partAt, recordAt}
+use Rattle.component.specs.Reading.{recordIn}
 use Rattle.component.specs.Reading.{idOf}
 
 module _ (file : List ℕ) (bytes : IsBytes file) where

@@ -7,29 +7,24 @@ use mathlib.Core.Path.{_≡_, sym, _∙_, subst}
 use mathlib.Core.Bool.{true}
 use mathlib.Core.List.{List}
 use Prim.Native.Nat.{ℕ, _<_}
-use lib.ListN.{getD}
 use Rattle.lists.specs.Lists.{from}
 use Rattle.lists.proofs.MembersLaws.{In}
-use Rattle.primitive.specs.Evaluate.{starting}
 use Rattle.component.specs.declared.Record.{Record}
 use Rattle.component.specs.declared.Verdict.the-variants.{Accepted}
-use Rattle.component.specs.Record.{IsBytes, recordAt, recordCount, fieldsOf, isPrimitive}
+use Rattle.component.specs.Record.{IsBytes, recordAt, recordCount, isPrimitive}
 use Rattle.flatten.specs.declared.Pin.{Pin}
 use Rattle.flatten.specs.Descent.{flat}
 use Rattle.flatten.specs.Leads.{Leads}
 use Rattle.flatten.proofs.Accepted.{Passed}
-use Rattle.tables.specs.declared.Wire.{Wire}
-use Rattle.tables.specs.Tables.{Tables, fullSize, outputsAt, wiresIn, currentList, followingList, standingList}
+use Rattle.tables.specs.Tables.{Tables, fullSize, wiresIn, currentList, followingList, standingList}
 use Rattle.load.specs.Load.{flatPin, standingAtLoad, drawingTables, loadVerdict, loadTables}
 use Rattle.load.proofs.FlatWires.{wire}
-use Rattle.load.proofs.LoadLaws.{load-passed}
 use Rattle.net.specs.Net.{isNet}
-use Rattle.loaded.proofs.LoadedPorts.{loaded-input, loaded-outputs}
-use Rattle.tables.proofs.SameLaws.{SameWiring, SameLengths}
-use Rattle.loaded.proofs.Sizes.{loaded-current, loaded-following, loaded-standing, loaded-lengths}
+use Rattle.tables.proofs.SameLaws.{SameWiring}
+use Rattle.loaded.proofs.Sizes.{loaded-current, loaded-following, loaded-standing}
 use Rattle.loaded.proofs.LoadNet.{load-checked, load-loaded, load-fullSize, load-net}
 use Rattle.loaded.proofs.Drawn.{IsDrawn, loaded-drawn, drawn-kept, PrimitiveAt, drawn-primitive, drawn-below}
-use Rattle.loaded.proofs.Drawn.{leads-wired, wired-leads, wire-drawn}
+use Rattle.loaded.proofs.Drawn.{leads-wired}
 
 module _ (file : List ℕ) where
   abbrev at : ℕ → Record
@@ -57,24 +52,6 @@ module _ (file : List ℕ) where
       -- L is of full size: check 2 passes on it.
       pub accepted-fullSize : fullSize L ≡ true
       accepted-fullSize = load-fullSize file T accepted
-
-      -- Each table is as long as it was lent.
-      pub accepted-lengths : SameLengths T L
-      accepted-lengths = after (SameLengths T) (loaded-lengths at n passed T (load-passed file T accepted .full))
-
-      -- Every input is 0.
-      pub accepted-input : (i : ℕ) → i < L .counts .inputs → getD (L .inputs) i 0 ≡ 0
-      unfolding drawingTables
-      accepted-input =
-          after (λ (U : Tables). (i : ℕ) → i < U .counts .inputs → getD (U .inputs) i 0 ≡ 0)
-          (λ i h. loaded-input at n T i h)
-
-      -- The outputs of each primitive are 0, a Const's output its value.
-      pub accepted-outputs : (c : ℕ) → isPrimitive (at c) ≡ true
-          → outputsAt L (L .outputs) (flat at n c) ≡ starting (fieldsOf (at c))
-      accepted-outputs c e =
-          after (λ (U : Tables). outputsAt U (U .outputs) (flat at n c) ≡ starting (fieldsOf (at c)))
-          (loaded-outputs at n passed T c e)
 
       -- The current list names all components,
       pub accepted-current : currentList L ≡ from 0 (L .counts .components)
@@ -110,13 +87,3 @@ module _ (file : List ℕ) where
         pub accepted-leads-wired : (s t : Pin) → Leads at n s t
             → In (wire (flatPin at n s) (flatPin at n t)) (wiresIn U)
         accepted-leads-wired = leads-wired at n passed U accepted-drawn
-
-        -- wherever U has a wire between ports of primitives, the drawing leads from one to the other;
-        pub accepted-wired-leads : (s t : Pin) → isPrimitive (at (s .comp)) ≡ true → isPrimitive (at (t .comp)) ≡ true
-            → In (wire (flatPin at n s) (flatPin at n t)) (wiresIn U) → Leads at n s t
-        accepted-wired-leads = wired-leads at n passed U accepted-drawn
-
-        -- and each wire of U is one that the drawing leads along.
-        pub accepted-wire-drawn : (v : Wire) → In v (wiresIn U)
-            → (s : Pin) × (t : Pin) × Leads at n s t × (v ≡ wire (flatPin at n s) (flatPin at n t))
-        accepted-wire-drawn = wire-drawn at n passed U accepted-drawn

@@ -4,7 +4,6 @@
 use mathlib.Core.Path.{_≡_, sym}
 use mathlib.Core.Bool.{true}
 use Prim.Native.Nat.{ℕ}
-use borrow.Author.Tests.{ne-eqb}
 use Rattle.tables.specs.Tables.{Tables, fullSize}
 use Rattle.net.specs.Net.{isNet, netNumber}
 use Rattle.net.proofs.NetLaws.{netNumber-full, netNumber-isNet, netNumber-0}
@@ -15,7 +14,7 @@ use Rattle.rounds.proofs.Sound.{isNet-wiring}
 use Rattle.rounds.proofs.Held.{Held}
 use Rattle.simulator.proofs.Kept.{by-number}
 use Rattle.quiet.proofs.Edited.{editNumber-editable, edited-held}
-use Rattle.tables.proofs.SameLaws.{SameWiring, SameLengths, sameWiring-none, sameLengths-none}
+use Rattle.tables.proofs.SameLaws.{SameWiring, SameLengths, sameWiring-none}
 use Rattle.rounds.proofs.Left.{leave-wiring, isNet-held, leave-lengths, fullSize-kept, isNet-kept}
 
 -- An edit that is not refused: the tables are a net, and it leaves a net of full size.
@@ -46,11 +45,6 @@ pub editTables-done : (T : Tables) (i v : ℕ) → editNumber T i v ≡ 0
 unfolding editTables
 editTables-done T i v e = rw e
 
--- A refused edit changes no table.
-pub editTables-refused : (T : Tables) (i v : ℕ) → (editNumber T i v ≡ 0 → ⊥) → editTables T i v ≡ T
-unfolding editTables
-editTables-refused T i v e = rw (ne-eqb (editNumber T i v) 0 e)
-
 -- Any edit, refused or not, of any tables leaves components and wires as they were, and their counts.
 pub editTables-wiring : (T : Tables) (i v : ℕ) → SameWiring T (editTables T i v)
 unfolding editTables
@@ -58,14 +52,6 @@ editTables-wiring T i v =
     by-number (SameWiring T) (editNumber T i v) (leave T (editedState T i v (stateOf T))) T
     (λ e. leave-wiring T (editedState T i v (stateOf T)))
     (sameWiring-none T)
-
--- No edit changes the length of a table.
-pub editTables-lengths : (T : Tables) (i v : ℕ) → SameLengths T (editTables T i v)
-unfolding editTables
-editTables-lengths T i v =
-    by-number (SameLengths T) (editNumber T i v) (leave T (editedState T i v (stateOf T))) T
-    (edited-lengths T i v)
-    (sameLengths-none T)
 
 -- An edit of a net, refused or not, leaves a net.
 pub editTables-net : (T : Tables) (i v : ℕ) → netNumber T ≡ 0 → netNumber (editTables T i v) ≡ 0

@@ -10,8 +10,8 @@ use Rattle.tables.specs.Tables.{Tables}
 use Rattle.net.specs.Net.{netNumber}
 use Rattle.rounds.specs.Round.{calm}
 use Rattle.simulator.specs.Calls.{roundTables, run, runTables}
-use Rattle.tables.proofs.SameLaws.{SameWiring, SameLengths, sameWiring-none, sameWiring-more, sameLengths-none, sameLengths-more}
-use Rattle.simulator.proofs.Kept.{by-number, roundTables-wiring, roundTables-lengths, roundTables-net}
+use Rattle.tables.proofs.SameLaws.{SameWiring, sameWiring-none, sameWiring-more}
+use Rattle.simulator.proofs.Kept.{by-number, roundTables-wiring, roundTables-net}
 use Rattle.quiet.proofs.Since.{Unbroken, roundTables-unbroken}
 
 -- A run of one round or more stops after its first, or goes on.
@@ -54,12 +54,6 @@ module _ (T : Tables) (t limit : ℕ) where
   runTables-wiring =
       run-call (SameWiring T) T t limit (λ U a. sameWiring-more T U (roundTables U t) a (roundTables-wiring U t))
       (sameWiring-none T)
-
-  -- and no table gets another length.
-  pub runTables-lengths : SameLengths T (runTables T t limit)
-  runTables-lengths =
-      run-call (SameLengths T) T t limit (λ U a. sameLengths-more T U (roundTables U t) a (roundTables-lengths U t))
-      (sameLengths-none T)
 
   -- On a net the rounds are made.
   pub runTables-made : netNumber T ≡ 0 → runTables T t limit ≡ run limit t T .tables

@@ -5,7 +5,7 @@ use mathlib.Core.Path.{_≡_, refl, sym, ap, _∙_}
 use mathlib.Core.Bool.{Bool, true, false, cond}
 use mathlib.Core.List.{List}
 use Prim.Native.Nat.{ℕ}
-use borrow.Author.Tests.{eqb-true, ne-eqb}
+use borrow.Author.Tests.{eqb-true}
 use lib.Dec.{eqb}
 use Rattle.tables.specs.declared.Wire.{Wire}
 use Rattle.tables.specs.Tables.{Tables, fullSize, wiresIn}
@@ -62,11 +62,6 @@ by-number P k new old f g = by-test (eqb k 0) refl
 pub roundTables-done : (T : Tables) (t : ℕ) → netNumber T ≡ 0 → roundTables T t ≡ roundOf t T
 unfolding roundTables
 roundTables-done T t e = rw e
-
--- A refused round changes no table.
-pub roundTables-refused : (T : Tables) (t : ℕ) → (netNumber T ≡ 0 → ⊥) → roundTables T t ≡ T
-unfolding roundTables
-roundTables-refused T t e = rw (ne-eqb (netNumber T) 0 e)
 
 -- Any round, refused or not, of any tables leaves components and wires as they were, and their counts.
 pub roundTables-wiring : (T : Tables) (t : ℕ) → SameWiring T (roundTables T t)

@@ -15,7 +15,11 @@ use Rattle.lists.specs.Lists.{within}
 use Rattle.lists.proofs.ListsLaws.{within-most}
 use Rattle.lists.proofs.TestsLaws.{and-left, and-right}
 use Rattle.value.specs.declared.Value.{Value}
-use Rattle.value.specs.Value.{widest, level, ones, below, fits, bitOf, flipped, complement}
+use Rattle.value.specs.Value.{widest, level, ones, below, fits, bitOf, ofWidth, complement}
+
+-- The complement of a value that fits.
+abbrev flipped : Value → Value
+flipped v = ofWidth (v .width) (ones (v .width) - v .number)
 
 -- One moved up k places is the power, where that fits a word.
 pub one-shl : (k : ℕ) → k < 64 → 1 * 2 ^ k % 2 ^ 64 ≡ 2 ^ k

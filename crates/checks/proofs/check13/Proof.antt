@@ -3,7 +3,8 @@
 use mathlib.Core.Path.{_≡_}
 use Prim.Native.Nat.{_-_}
 use Rattle.lists.specs.Lists.{from, any}
-use Rattle.component.specs.Record.{recordAt, enters}
+use Rattle.component.specs.Record.{recordAt}
+use Rattle.component.specs.Reading.{enters}
 use Rattle.component.specs.Drawing.{fails13}
 use Rattle.checks.proofs.ChecksLaws.{given-fails, given-passes, fails13-other, fails13-start}
 use Rattle.component.proofs.ScanLaws.{tested, scan-any-here, scan-any-next, scan-any-none}

@@ -11,22 +11,24 @@ use Rattle.load.proofs.judge_load.Tie as tie
 
 returns : tie.Need-returns
 returns c =
-    let a = c .before .before .before .before .before .before .before .before .before .before .before .args in (
+    let b = c .before in
+    let a = b .before .before .before .before .before .before .before .before .before .before .before .args in (
       judge-unsized (a .file .now) (a .components .now) (a .inputs .now) (a .outputs .now) (a .wires .now) (a .current .now)
           (a .following .now) (a .standing .now)
-          (sym (c .before .is-sized .ensures) ∙ not-true _ (c .if1 .taken)),
-      λ y. absurd (refused-not 1 0 y),
+          (sym (b .before .is-sized .ensures) ∙ not-true _ (b .if1 .taken)) _ (c .refused-by .ensures),
+      λ y. absurd (refused-not _ _ y),
     )
 
 returns-2 : tie.Need-returns-2
 returns-2 c =
-    let d = c .before .before in
+    let b = c .before in
+    let d = b .before .before in
     let a = d .before .before .before .before .before .before .before .before .before .before .before .args in (
       judge-short (a .file .now) (a .components .now) (a .inputs .now) (a .outputs .now) (a .wires .now) (a .current .now)
           (a .following .now) (a .standing .now)
           (sym (d .before .is-sized .ensures) ∙ not-false _ (d .if1 .left))
-          (λ m. sym (c .before .full-size .ensures m) ∙ not-true _ (c .if2 .taken)),
-      λ y. absurd (refused-not 2 0 y),
+          (λ m. sym (b .before .full-size .ensures m) ∙ not-true _ (b .if2 .taken)) _ (c .refused-by .ensures),
+      λ y. absurd (refused-not _ _ y),
     )
 
 returns-3 : tie.Need-returns-3
@@ -47,7 +49,9 @@ judge-load-spec =
     tie.close
     (tie.spec
     (λ c κs. search needs)
+    (λ c κs. search needs)
     returns
+    (λ c κs. search needs)
     (λ c κs. search needs)
     returns-2
     (λ c κs. search needs)

@@ -6,7 +6,7 @@ use Rattle.flatten.proofs.judgement.judge_indexed.Statement.{statement}
 use Rattle.flatten.proofs.judgement.judge_indexed.Tie as tie
 
 returns : tie.Need-returns
-returns c = (search (verdict-sized), λ z. absurd (search (unsized)))
+returns c = (rw (c .refused-by .ensures) (search (verdict-sized)), λ z. absurd (search (unsized)))
 
 fill-index-requires : tie.Need-fill-index-requires
 fill-index-requires c κs = (search (sized-most), search needs)
@@ -21,6 +21,7 @@ pub judge-indexed-spec : {M : Type 1} → statement M
 judge-indexed-spec =
     tie.close
     (tie.spec
+    (λ c κs. search needs)
     (λ c κs. search needs)
     returns
     fill-index-requires

@@ -14,7 +14,7 @@ use Rattle.component.specs.Record.{recordAt, recordCount}
 use Rattle.kinds.specs.Given.{spoken}
 use Rattle.flatten.specs.Verdict.{verdict, verdictGives}
 use Rattle.load.specs.Load.{flatWires}
-use Rattle.demands.specs.Lamp.{lamp, lampTwice}
+use Rattle.component.proofs.Drawings.{lamp, lampTwice}
 use Rattle.tables.specs.Tables.{wireWords}
 
 -- What the definitions find, and what the document wants.
