@@ -48,7 +48,7 @@
  *   - No memory is lent twice in one call: no two tables overlap, and neither do a table and the file or the words for an answer.
  *   - While a call runs, nobody else writes to what it is lent, nor reads what it writes. Apart from that calls may run in any
  *     number of threads at once.
- *   - A load or a judgement needs up to 171,000 bytes of stack, each other call less than 8,000. A thread with a
+ *   - A load or a judgement needs up to 180,000 bytes of stack, each other call less than 8,000. A thread with a
  *     small stack must not load or judge.
  *
  * WHEN TO LIGHT: once a round has run since the load, and the three lists name nothing but Clocks, the whole drawing is
