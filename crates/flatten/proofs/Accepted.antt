@@ -7,7 +7,7 @@
 use mathlib.Core.Path.{_≡_, refl, sym, ap, _∙_}
 use mathlib.Core.Logic.{_⊎_, inl, inr}
 use mathlib.Core.Bool.{Bool, true, false, cond}
-use mathlib.Core.List.{List, [], _∷_, map}
+use mathlib.Core.List.{List, [], _∷_}
 use mathlib.Core.Option.{Option, none, some}
 use Prim.Native.Nat.{ℕ, _-_, _≤_, _<_}
 use native.Mathlib.Omega.{arith}
@@ -58,10 +58,6 @@ judged-place n ks e j p l = by-place (getD-cases ks j noCheck)
 -- The check of a number; one that never fails where there is none.
 abbrev pub checkNumbered : (ℕ → Record) → ℕ → ℕ → Check
 checkNumbered at n k = getD (checks at n) (k - 3) noCheck
-
--- The checks of a drawing have the numbers 3 to 15, in order.
-pub checks-numbers : (at : ℕ → Record) (n : ℕ) → map (λ (k : Check). k .number) (checks at n) ≡ from 3 13
-checks-numbers at n = refl
 
 -- A drawing that passes every check before 15, and has no record past its end: with d : Passed at n, `d .passes 4 refl p` says of record p
 -- that it does not fail check 4.

@@ -2,7 +2,7 @@
 -- the drawing leads from one to the other.
 -- docs/SPECIFICATION.md, "Flattening".
 -- Assumes nothing.
-use mathlib.Core.Path.{_≡_, refl, sym, ap, subst, subst₂}
+use mathlib.Core.Path.{_≡_, refl, ap, subst}
 use mathlib.Core.Bool.{true}
 use mathlib.Core.List.{List, [], _∷_, map}
 use Prim.Native.Nat.{ℕ, _≤_}
@@ -19,8 +19,8 @@ use Rattle.tables.specs.declared.End.{End}
 use Rattle.tables.specs.declared.Wire.{Wire}
 use Rattle.load.specs.Load.{flatPin, flatWires}
 use Rattle.flatten.proofs.Accepted.{Passed}
-use Rattle.flatten.proofs.Wires.{lead, wires-lead, leads-wires}
-use Rattle.flatten.proofs.Ends.{wires-leave, wires-enter}
+use Rattle.flatten.proofs.Wires.{lead, leads-wires}
+use Rattle.flatten.proofs.Ends.{wires-enter}
 use Rattle.flatten.proofs.Primitives.{flat-inj}
 use Rattle.flatten.proofs.Bound.{entered, wires-distinct, wires-bound}
 
@@ -61,18 +61,6 @@ module _ (at : ℕ → Record) (n : ℕ) (d : Passed at n) where
   -- Wherever the drawing leads from an output to an input, there is a flat wire;
   pub leads-flatWires : (s t : Pin) → Leads at n s t → In (wire (flatPin at n s) (flatPin at n t)) (flatWires at n)
   leads-flatWires s t r = flatWires-complete at n (lead s t) (leads-wires at n d s t r)
-
-  -- and where there is one between ports of primitives, the drawing leads from one to the other.
-  pub flatWires-lead : (s t : Pin) → isPrimitive (at (s .comp)) ≡ true → isPrimitive (at (t .comp)) ≡ true
-      → In (wire (flatPin at n s) (flatPin at n t)) (flatWires at n) → Leads at n s t
-  flatWires-lead s t e f h =
-      let r = flatWires-sound at n (wire (flatPin at n s) (flatPin at n t)) h in
-      let w = r .0 in
-      let leaves = wires-leave at n d w (r .1) .of-primitive in
-      let enters = wires-enter at n d w (r .1) .of-primitive in
-      let a : s ≡ w .src = flatPin-inj at n s (w .src) e leaves (ap (λ (v : Wire). v .src) (r .2)) in
-      let b : t ≡ w .dst = flatPin-inj at n t (w .dst) f enters (ap (λ (v : Wire). v .dst) (r .2)) in
-      subst₂ (Leads at n) (sym a) (sym b) (wires-lead at n d w (r .1))
 
   -- No two flat wires enter one input.
   pub flatWires-distinct : Distinct (enteredEnds (flatWires at n))

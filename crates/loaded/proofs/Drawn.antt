@@ -28,7 +28,7 @@ use Rattle.tables.specs.declared.Wire.{Wire}
 use Rattle.tables.specs.Tables.{Tables, fieldsAt, idAt, firstInput, firstOutput, inputPlace}
 use Rattle.tables.specs.Tables.{indexes, wiresIn}
 use Rattle.load.specs.Load.{primitives, flatPin, flatWires, drawingTables}
-use Rattle.load.proofs.FlatWires.{wire, flatWires-sound, leads-flatWires, flatWires-lead}
+use Rattle.load.proofs.FlatWires.{wire, flatWires-sound, leads-flatWires}
 use Rattle.net.specs.Net.{isOutput, isInput}
 use Rattle.loaded.proofs.Entries.{loaded-wires, loaded-fields, loaded-id, loaded-firstInput, loaded-firstOutput}
 use Rattle.tables.proofs.SameLaws.{SameWiring, sameWiring-word, sameWiring-fields, sameWiring-wires}
@@ -142,11 +142,6 @@ module _ (at : ℕ → Record) (n : ℕ) (p : Passed at n) (U : Tables) (d : IsD
   -- Where the drawing leads from an output to an input, the tables have a wire;
   pub leads-wired : (s t : Pin) → Leads at n s t → In (wire (flatPin at n s) (flatPin at n t)) (wiresIn U)
   leads-wired s t r = rw (d .wires) (leads-flatWires at n p s t r)
-
-  -- where they have a wire between ports of primitives, the drawing leads from one to the other;
-  pub wired-leads : (s t : Pin) → isPrimitive (at (s .comp)) ≡ true → isPrimitive (at (t .comp)) ≡ true
-      → In (wire (flatPin at n s) (flatPin at n t)) (wiresIn U) → Leads at n s t
-  wired-leads s t e f h = flatWires-lead at n p s t e f (rw (d .wires) at h)
 
   -- and each of their wires is one that the drawing leads along.
   pub wire-drawn : (v : Wire) → In v (wiresIn U)

@@ -24,7 +24,8 @@ use Rattle.tables.proofs.SameLaws.{SameWiring}
 use Rattle.loaded.proofs.Sizes.{loaded-current, loaded-following, loaded-standing}
 use Rattle.loaded.proofs.LoadNet.{load-checked, load-loaded, load-fullSize, load-net}
 use Rattle.loaded.proofs.Drawn.{IsDrawn, loaded-drawn, drawn-kept, PrimitiveAt, drawn-primitive, drawn-below}
-use Rattle.loaded.proofs.Drawn.{leads-wired}
+use Rattle.loaded.proofs.Drawn.{leads-wired, wire-drawn}
+use Rattle.tables.specs.declared.Wire.{Wire}
 
 module _ (file : List ℕ) where
   abbrev at : ℕ → Record
@@ -87,3 +88,8 @@ module _ (file : List ℕ) where
         pub accepted-leads-wired : (s t : Pin) → Leads at n s t
             → In (wire (flatPin at n s) (flatPin at n t)) (wiresIn U)
         accepted-leads-wired = leads-wired at n passed U accepted-drawn
+
+        -- and each wire of U is one that the drawing leads along.
+        pub accepted-wire-drawn : (v : Wire) → In v (wiresIn U)
+            → (s : Pin) × (t : Pin) × Leads at n s t × (v ≡ wire (flatPin at n s) (flatPin at n t))
+        accepted-wire-drawn = wire-drawn at n passed U accepted-drawn

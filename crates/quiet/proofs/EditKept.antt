@@ -14,8 +14,8 @@ use Rattle.rounds.proofs.Sound.{isNet-wiring}
 use Rattle.rounds.proofs.Held.{Held}
 use Rattle.simulator.proofs.Kept.{by-number}
 use Rattle.quiet.proofs.Edited.{editNumber-editable, edited-held}
-use Rattle.tables.proofs.SameLaws.{SameWiring, SameLengths, sameWiring-none}
-use Rattle.rounds.proofs.Left.{leave-wiring, isNet-held, leave-lengths, fullSize-kept, isNet-kept}
+use Rattle.tables.proofs.SameLaws.{SameWiring, sameWiring-none}
+use Rattle.rounds.proofs.Left.{leave-wiring, isNet-held, fullSize-kept, isNet-kept}
 
 -- An edit that is not refused: the tables are a net, and it leaves a net of full size.
 module _ (T : Tables) (i v : ℕ) (e : editNumber T i v ≡ 0) where
@@ -35,9 +35,6 @@ module _ (T : Tables) (i v : ℕ) (e : editNumber T i v ≡ 0) where
       sym (netNumber-0 (leave T (editedState T i v (stateOf T)))
       (fullSize-kept T full net (editedState T i v (stateOf T)) edited-leaves)
       (isNet-kept T full net (editedState T i v (stateOf T)) edited-leaves))
-
-  edited-lengths : SameLengths T (leave T (editedState T i v (stateOf T)))
-  edited-lengths = leave-lengths T full net (editedState T i v (stateOf T)) edited-leaves
 
 -- The tables after an edit that is not refused.
 pub editTables-done : (T : Tables) (i v : ℕ) → editNumber T i v ≡ 0

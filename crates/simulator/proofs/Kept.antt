@@ -15,8 +15,8 @@ use Rattle.rounds.specs.Round.{stateOf, leave, round, roundOf}
 use Rattle.simulator.specs.Calls.{after, roundTables}
 use Rattle.rounds.proofs.Sound.{Sound, isNet-wiring}
 use Rattle.rounds.proofs.Held.{Held, Order, stored-order, round-held}
-use Rattle.tables.proofs.SameLaws.{SameWiring, SameLengths, sameWiring-none, sameLengths-none}
-use Rattle.rounds.proofs.Left.{leave-wiring, isNet-held, leave-lengths, fullSize-kept, isNet-kept}
+use Rattle.tables.proofs.SameLaws.{SameWiring, sameWiring-none}
+use Rattle.rounds.proofs.Left.{leave-wiring, isNet-held, fullSize-kept, isNet-kept}
 
 -- On a net of full size.
 module _ (T : Tables) (full : fullSize T ≡ true) (net : isNet T ≡ true) where
@@ -34,9 +34,6 @@ module _ (T : Tables) (full : fullSize T ≡ true) (net : isNet T ≡ true) wher
     pub round-fullSize : fullSize (leave T (round T ws t (stateOf T))) ≡ true
     round-fullSize = fullSize-kept T full net (round T ws t (stateOf T)) round-leaves
 
-    pub round-lengths : SameLengths T (leave T (round T ws t (stateOf T)))
-    round-lengths = leave-lengths T full net (round T ws t (stateOf T)) round-leaves
-
   -- In particular in stored order.
   pub roundOf-isNet : (t : ℕ) → isNet (roundOf t T) ≡ true
   unfolding roundOf
@@ -45,10 +42,6 @@ module _ (T : Tables) (full : fullSize T ≡ true) (net : isNet T ≡ true) wher
   pub roundOf-fullSize : (t : ℕ) → fullSize (roundOf t T) ≡ true
   unfolding roundOf
   roundOf-fullSize t = round-fullSize (wiresIn T) (stored-order T) t
-
-  pub roundOf-lengths : (t : ℕ) → SameLengths T (roundOf t T)
-  unfolding roundOf
-  roundOf-lengths t = round-lengths (wiresIn T) (stored-order T) t
 
 -- A call either is not refused, and its tables are the new ones, or it is, and they are the old ones.
 pub by-number : (P : Tables → Type 0) (k : ℕ) (new old : Tables) → (k ≡ 0 → P new) → P old → P (after k new old)
@@ -69,13 +62,6 @@ unfolding roundTables roundOf
 roundTables-wiring T t =
     by-number (SameWiring T) (netNumber T) (roundOf t T) T (λ e. leave-wiring T (round T (wiresIn T) t (stateOf T)))
     (sameWiring-none T)
-
--- No round changes the length of a table.
-pub roundTables-lengths : (T : Tables) (t : ℕ) → SameLengths T (roundTables T t)
-unfolding roundTables
-roundTables-lengths T t =
-    by-number (SameLengths T) (netNumber T) (roundOf t T) T
-    (λ e. roundOf-lengths T (netNumber-full T e) (netNumber-isNet T e) t) (sameLengths-none T)
 
 -- A round of a net leaves a net: the next call is given neither 2 nor 16.
 pub roundTables-net : (T : Tables) (t : ℕ) → netNumber T ≡ 0 → netNumber (roundTables T t) ≡ 0

@@ -40,18 +40,6 @@ sameWiring-none T =
       wire-count = refl;
     }
 
-pub sameLengths-none : (T : Tables) → SameLengths T T
-sameLengths-none T =
-    record {
-      components = refl;
-      inputs = refl;
-      outputs = refl;
-      wires = refl;
-      current = refl;
-      following = refl;
-      standing = refl;
-    }
-
 pub sameWiring-more : (T U W : Tables) → SameWiring T U → SameWiring U W → SameWiring T W
 sameWiring-more T U W a b =
     record {
@@ -61,18 +49,6 @@ sameWiring-more T U W a b =
       input-count = b .input-count ∙ a .input-count;
       output-count = b .output-count ∙ a .output-count;
       wire-count = b .wire-count ∙ a .wire-count;
-    }
-
-pub sameLengths-more : (T U W : Tables) → SameLengths T U → SameLengths U W → SameLengths T W
-sameLengths-more T U W a b =
-    record {
-      components = b .components ∙ a .components;
-      inputs = b .inputs ∙ a .inputs;
-      outputs = b .outputs ∙ a .outputs;
-      wires = b .wires ∙ a .wires;
-      current = b .current ∙ a .current;
-      following = b .following ∙ a .following;
-      standing = b .standing ∙ a .standing;
     }
 
 -- k wires from their words.

@@ -27,7 +27,7 @@ returns-2 c =
       judge-short (a .file .now) (a .components .now) (a .inputs .now) (a .outputs .now) (a .wires .now) (a .current .now)
           (a .following .now) (a .standing .now)
           (sym (d .before .is-sized .ensures) ∙ not-false _ (d .if1 .left))
-          (λ m. sym (b .before .full-size .ensures m) ∙ not-true _ (b .if2 .taken)) _ (c .refused-by .ensures),
+          (λ m. sym (b .before .full-size .ensures m) ∙ not-true _ (b .if2 .taken)) _ (c .refused-by2 .ensures),
       λ y. absurd (refused-not _ _ y),
     )
 
