@@ -177,7 +177,7 @@ pub fn fields_at(file: &[u8], p: usize) -> Fields
     fields
 }
 
-// Whether a component of kinds 1 to 13 stands at a position of the file.
+// Whether a primitive, a component of a kind other than the composite's, stands at a position of the file.
 pub fn is_primitive_at(file: &[u8], p: usize) -> bool
     ensures { λ r. ⌜ r ≡ isPrimitive (recordAt (now (file .entry)) p) ⌝ }
 {

@@ -6,12 +6,15 @@ use Prim.Native.Nat.{ℕ, _+_, _-_, _≤_, _<_}
 use native.Mathlib.Nat.{sub-zero}
 use native.Mathlib.Decide.{decLt}
 use native.Mathlib.Omega.{arith}
-use lib.ListN.{length}
+use lib.ListN.{length, List·getD-eq-default}
 use lib.Seq.{length-sets}
 use Rattle.lists.specs.Lists.{from, joined}
 use Rattle.lists.proofs.ListsLaws.{from-end, joined-step}
-use Rattle.kinds.specs.Kinds.{kindOf}
-use Rattle.kinds.proofs.KindsLaws.{kindOf-none}
+use Rattle.kinds.specs.Kinds.{numbered, seenAs, kindOf}
+use Rattle.kinds.specs.declared.Kind.{Kind}
+use Rattle.kinds.specs.declared.Kind.the-variants.{Composite}
+use Rattle.kinds.specs.declared.Seen.{Seen}
+use Rattle.kinds.specs.declared.Seen.the-variants.{Known, Kept, Unknown}
 use Rattle.text.specs.Text.{written, placeAfter}
 use Rattle.text.proofs.TextLaws.{put-both, ToCome, begun, put-piece, ended}
 use Rattle.lines.specs.Lines.{nameOf, Puts}
@@ -58,17 +61,17 @@ module _ (f : ℕ → List ℕ) (q n : ℕ) {t bs out : List ℕ} {at next : ℕ
 pub put : (bs : List ℕ) {t u : List ℕ} {at m : ℕ} → (m ≡ placeAfter t at (length bs)) × (u ≡ written t at bs) → Puts t at bs u m
 put bs e = record { place = e .0; buffer = e .1 }
 
--- The next number, of a number that is not the first.
-pub past : (n k : ℕ) → n ≤ k → (k ≡ n → ⊥) → n + 1 ≤ k
-past n k h none = omega arith
+-- A word of more than 8 bits is no kind.
+pub no-kind : (k : ℕ) → 256 ≤ k → Unknown ≡ seenAs k
+no-kind k h = sym (List·getD-eq-default numbered Unknown {n = k} (omega arith))
 
--- A number that is no kind has no name.
-pub no-name-0 : (k : ℕ) → k ≡ 0 → [] ≡ nameOf (kindOf k)
-no-name-0 k e = rw e
+-- A number's name is that of the kind that is read; a number that is no kind has none.
+module _ {t u : List ℕ} {at m : ℕ} (n : ℕ) (s : Seen) (e : s ≡ seenAs n) where
+  pub named-known : (k : Kind) → s ≡ Known k → Puts t at (nameOf k) u m → Puts t at (nameOf (kindOf n)) u m
+  named-known k q p = rw (sym e ∙ q) p
 
-pub no-name : (k : ℕ) → 14 ≤ k → [] ≡ nameOf (kindOf k)
-no-name k h = by-place (decLt 14 k)
-  where
-    by-place : Dec (14 < k) → [] ≡ nameOf (kindOf k)
-    by-place (yes l) = rw (kindOf-none k l)
-    by-place (no l) = let e : k ≡ 14 = omega arith in rw e
+  pub named-kept : s ≡ Kept → Puts t at (nameOf Composite) u m → Puts t at (nameOf (kindOf n)) u m
+  named-kept q p = rw (sym e ∙ q) p
+
+  pub named-unknown : s ≡ Unknown → Puts t at (nameOf Composite) u m → Puts t at (nameOf (kindOf n)) u m
+  named-unknown q p = rw (sym e ∙ q) p

@@ -3,12 +3,15 @@ ghost use mathlib.Core.Path.{_≡_};
 ghost use mathlib.Core.List.{[], _∷_, _++_};
 ghost use Prim.Native.Nat.{_≤_, _<_};
 ghost use lib.ListN.{length, take};
-ghost use Rattle.kinds.specs.Kinds.{kindOf};
+ghost use Rattle.kinds.specs.Kinds.{seenAs, kindOf};
 ghost use Rattle.tables.specs.Tables.{tablesOf, countsOf};
 ghost use Rattle.tables.specs.Words.{fieldsIn, idIn};
 ghost use Rattle.text.specs.Text.{numeral};
 ghost use Rattle.lines.specs.Lines.{nameOf, componentLine, componentsText, wireLine, wiresText, roundLine, refusedLine, Puts};
+use kinds::Kind;
 use kinds::Refusal;
+use kinds::Seen;
+use kinds::kind_of;
 use tables::Counts;
 use tables::Wire;
 
@@ -20,47 +23,47 @@ fn put_ended(out: &mut [u8], at: usize, number: u64, byte: u8) -> usize
     text::put(out, next, byte)
 }
 
-// The name of a kind below 7. The kind 0 is never listed.
-fn put_gate(out: &mut [u8], at: usize, kind: u64) -> usize
-    requires { ⌜ kind < 7 ⌝ }
-    ensures { λ r. ⌜ Puts (now (out .entry)) at (nameOf (kindOf kind)) (now (out .exit)) r ⌝ }
+// The name of a kind. A composite is never listed, and has none.
+fn put_name(out: &mut [u8], at: usize, kind: Kind) -> usize
+    ensures { λ r. ⌜ Puts (now (out .entry)) at (nameOf kind) (now (out .exit)) r ⌝ }
 {
     match kind {
-        1 => text::put_bytes(out, at, b"And"),
-        2 => text::put_bytes(out, at, b"Or"),
-        3 => text::put_bytes(out, at, b"Not"),
-        4 => text::put_bytes(out, at, b"Nand"),
-        5 => text::put_bytes(out, at, b"Nor"),
-        6 => text::put_bytes(out, at, b"Xor"),
-        _ => text::put_bytes(out, at, b""),
+        Kind::Composite => text::put_bytes(out, at, b""),
+        Kind::And => text::put_bytes(out, at, b"And"),
+        Kind::Or => text::put_bytes(out, at, b"Or"),
+        Kind::Not => text::put_bytes(out, at, b"Not"),
+        Kind::Nand => text::put_bytes(out, at, b"Nand"),
+        Kind::Nor => text::put_bytes(out, at, b"Nor"),
+        Kind::Xor => text::put_bytes(out, at, b"Xor"),
+        Kind::Switch => text::put_bytes(out, at, b"Switch"),
+        Kind::Input => text::put_bytes(out, at, b"Input"),
+        Kind::Output => text::put_bytes(out, at, b"Output"),
+        Kind::Splitter => text::put_bytes(out, at, b"Splitter"),
+        Kind::Joiner => text::put_bytes(out, at, b"Joiner"),
+        Kind::Clock => text::put_bytes(out, at, b"Clock"),
+        Kind::Const => text::put_bytes(out, at, b"Const"),
     }
 }
 
-// The name of a kind from 7 on. Past 13 there is none.
-fn put_device(out: &mut [u8], at: usize, kind: u64) -> usize
-    requires { ⌜ 7 ≤ kind ⌝ }
-    ensures { λ r. ⌜ Puts (now (out .entry)) at (nameOf (kindOf kind)) (now (out .exit)) r ⌝ }
+// What a word that should be a kind's number is read as.
+fn seen_as(word: u64) -> Seen
+    ensures { λ r. ⌜ r ≡ seenAs word ⌝ }
 {
-    match kind {
-        7 => text::put_bytes(out, at, b"Switch"),
-        8 => text::put_bytes(out, at, b"Input"),
-        9 => text::put_bytes(out, at, b"Output"),
-        10 => text::put_bytes(out, at, b"Splitter"),
-        11 => text::put_bytes(out, at, b"Joiner"),
-        12 => text::put_bytes(out, at, b"Clock"),
-        13 => text::put_bytes(out, at, b"Const"),
-        _ => text::put_bytes(out, at, b""),
+    if word < 256 {
+        return kind_of(word as u8);
     }
+    Seen::Unknown
 }
 
-// The name of a kind.
-fn put_kind(out: &mut [u8], at: usize, kind: u64) -> usize
-    ensures { λ r. ⌜ Puts (now (out .entry)) at (nameOf (kindOf kind)) (now (out .exit)) r ⌝ }
+// The name of the kind of a number; a number that is no kind has none.
+fn put_kind(out: &mut [u8], at: usize, number: u64) -> usize
+    ensures { λ r. ⌜ Puts (now (out .entry)) at (nameOf (kindOf number)) (now (out .exit)) r ⌝ }
 {
-    if kind < 7 {
-        return put_gate(out, at, kind);
+    match seen_as(number) {
+        Seen::Known(kind) => put_name(out, at, kind),
+        Seen::Kept => put_name(out, at, Kind::Composite),
+        Seen::Unknown => put_name(out, at, Kind::Composite),
     }
-    put_device(out, at, kind)
 }
 
 // A component: its index, its kind and its id.

@@ -7,7 +7,7 @@ ghost use Rattle.net.specs.Net.{kindsObeyed, portsFollow};
 ghost use Rattle.net.specs.Parts.{lent, obeyedAt};
 use tables::Counts;
 
-// Whether component i is of kinds 1 to 13 and obeys the table of kinds. A word that no field can hold obeys nothing.
+// Whether component i is a primitive and obeys the table of kinds. A word that no field can hold obeys nothing.
 fn row_obeyed(components: &[u64], i: usize) -> bool
     ensures { λ r. ⌜ r ≡ obeyedAt (now (components .entry)) i ⌝ }
 {
