@@ -14,7 +14,8 @@ use denote.Enum.Declared.{tagOf}
 use Rattle.lists.proofs.TestsLaws.{or-first}
 use Rattle.lists.proofs.TestsLaws.{and-left, and-right}
 use Rattle.kinds.specs.declared.table.Fields.{Fields}
-use Rattle.component.specs.Record.{le16, le32, le64, numbersIn, bare, wellFormed, noRecord, recordAt, fieldsOf, noFields}
+use Rattle.component.specs.Record.{le16, le32, le64, numbersIn, bare, wellFormed, noRecord, recordAt, fieldsOf}
+use Rattle.component.specs.Reading.{noFields}
 use Rattle.component.specs.Reading.{recordIn}
 use Rattle.component.specs.Reading.{ownerOf, formOf, apart, formBy, said, number, StandsAs}
 use Rattle.component.specs.Reading.{given}

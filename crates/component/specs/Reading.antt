@@ -4,6 +4,7 @@
 use mathlib.Core.Path.{_≡_}
 use Prim.Native.Nat.{ℕ}
 use mathlib.Core.Bool.{Bool, cond, _&&_}
+use Rattle.kinds.specs.declared.table.Fields.{Fields}
 use Rattle.component.specs.declared.Record.{Record}
 use Rattle.component.specs.declared.Says.{Says}
 use Rattle.component.specs.declared.Says.the-variants.{Component, Connection, InputMap, OutputMap}
@@ -80,3 +81,7 @@ hasId i r = eqb (r .form) 1 && eqb (r .id) i
 -- It enters input d of child c of owner o.
 abbrev pub enters : ℕ → ℕ → ℕ → Record → Bool
 enters o c d r = entering r && eqb (r .owner) o && eqb (toOf r) c && eqb (inputOf r) d
+
+-- What a record that is no component has for fields: of a number that is no kind, without ports.
+abbrev pub noFields : Fields
+noFields = record { kind = 255; inputs = 0; outputs = 0; width = 0; parameter = 0 }

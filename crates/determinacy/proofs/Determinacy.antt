@@ -50,8 +50,5 @@ determinacy = (
   λ T id. answer indexGives indexGives-is _,
   λ T side i port. answer valueGives valueGives-is _,
   λ v. equation _,
-  λ v w. equation _,
-  λ v i. equation _,
-  λ v. equation _,
-  λ v high. equation _,
+  λ f. equation _,
 )

@@ -2,11 +2,9 @@
 -- all that was lent to be written. It is stated of the promises that the contracts cite.
 use mathlib.Core.Path.{_≡_}
 use Prim.Native.Nat.{ℕ}
-use mathlib.Core.Bool.{Bool}
 use mathlib.Core.List.{List}
 use Rattle.value.specs.declared.Value.{Value}
 use Rattle.value.specs.declared.Fit.{Fit}
-use Rattle.value.specs.Value.{fits, fitsIn, fitted, bit, complement, setTo}
 use Rattle.kinds.specs.declared.table.Fields.{Fields}
 use Rattle.primitive.specs.Evaluate.{Evaluates}
 use Rattle.flatten.specs.Verdict.{Judges, Speaks}
@@ -25,7 +23,8 @@ Determined {A} {B} P = (a a′ : A) (b b′ : B) → P a b → P a′ b′ → (
 abbrev pub DeterminedAnswer : {A : Type 0} → (A → Type 0) → Type 0
 DeterminedAnswer {A} P = (a a′ : A) → P a → P a′ → a ≡ a′
 
--- The statements, one for each public function: those that write what they are lent, then those that only answer.
+-- The statements, one for each public function: those that write what they are lent, then those that only answer; the last two are for a value's
+-- methods, each of which promises that its answer is a value, or a value beside whether it fits.
 abbrev pub Determinacy : Type 0
 Determinacy =
     ((f : Fields) (xs vs ys ws : List ℕ) (t : ℕ) → Determined (Evaluates f xs vs ys ws t))
@@ -41,8 +40,5 @@ Determinacy =
     × ((T : Tables) → DeterminedAnswer (AsksCalm T))
     × ((T : Tables) (id : ℕ) → DeterminedAnswer (AsksIndex T id))
     × ((T : Tables) (side : Side) (i port : ℕ) → DeterminedAnswer (AsksValue T side i port))
-    × ((v : Value) → DeterminedAnswer (λ (r : Fit). r ≡ fitted v (fits v)))
-    × ((v : Value) (w : ℕ) → DeterminedAnswer (λ (r : Fit). r ≡ fitted v (fitsIn w v)))
-    × ((v : Value) (i : ℕ) → DeterminedAnswer (λ (r : Value). r ≡ bit v i))
-    × ((v : Value) → DeterminedAnswer (λ (r : Value). r ≡ complement v))
-    × ((v : Value) (high : Bool) → DeterminedAnswer (λ (r : Value). r ≡ setTo v high))
+    × ((v : Value) → DeterminedAnswer (λ (r : Value). r ≡ v))
+    × ((f : Fit) → DeterminedAnswer (λ (r : Fit). r ≡ f))

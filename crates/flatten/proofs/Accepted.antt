@@ -20,8 +20,12 @@ use Rattle.lists.proofs.MembersLaws.{In, first-none, from0-complete, getD-cases
 use Rattle.component.specs.declared.Record.{Record}
 use Rattle.component.specs.declared.Verdict.the-variants.{Accepted}
 use Rattle.component.specs.Record.{noRecord, recordAt, recordCount}
-use Rattle.flatten.specs.Verdict.{Check, check, checks, refused, orLater, judged, sized, verdict}
+use Rattle.flatten.specs.Verdict.{checks, refused, orLater, judged, sized, verdict}
 use Rattle.flatten.specs.Searches.{PassedBefore}
+
+-- A check: its number, and the positions that fail it.
+abbrev pub Check : Type 0
+Check = ℕ × (ℕ → Bool)
 
 -- A refusal is no acceptance.
 pub refused-not : (k p : ℕ) → refused k p ≡ Accepted → ⊥
@@ -29,30 +33,30 @@ refused-not k p e = let z : _≡_ {A = ℕ} 0 1 = cc in omega arith
 
 -- Where the judgement is "accepted", no record fails any of the checks.
 pub judged-passes : (n : ℕ) (ks : List Check) → judged n ks ≡ Accepted
-    → (k : Check) → In k ks → (p : ℕ) → p < n → k .fails p ≡ false
+    → (k : Check) → In k ks → (p : ℕ) → p < n → k .1 p ≡ false
 judged-passes n [] e k h p l = absurd h
 judged-passes n (j ∷ ks) e k h p l =
-    by-found (λ z u. judged-passes n ks z k u p l) (first (j .fails) (from 0 n)) refl e h
+    by-found (λ z u. judged-passes n ks z k u p l) (first (j .1) (from 0 n)) refl e h
   where
-    by-found : (judged n ks ≡ Accepted → In k ks → k .fails p ≡ false)
-        → (found : Option ℕ) → first (j .fails) (from 0 n) ≡ found
-        → orLater (j .number) found (judged n ks) ≡ Accepted → In k (j ∷ ks) → k .fails p ≡ false
-    by-found later (some q) z e h = absurd (refused-not (j .number) q e)
+    by-found : (judged n ks ≡ Accepted → In k ks → k .1 p ≡ false)
+        → (found : Option ℕ) → first (j .1) (from 0 n) ≡ found
+        → orLater (j .0) found (judged n ks) ≡ Accepted → In k (j ∷ ks) → k .1 p ≡ false
+    by-found later (some q) z e h = absurd (refused-not (j .0) q e)
     by-found later none z e (inl u) =
-        ap (λ (c : Check). c .fails p) u
-        ∙ first-none (j .fails) p (from 0 n) z (from0-complete n p l)
+        ap (λ (c : Check). c .1 p) u
+        ∙ first-none (j .1) p (from 0 n) z (from0-complete n p l)
     by-found later none z e (inr u) = later e u
 
 -- No check, which never fails.
 abbrev pub noCheck : Check
-noCheck = check 0 (λ p. false)
+noCheck = (0, λ p. false)
 
 -- No record fails the check at a place of the list; past its end there is none.
-judged-place : (n : ℕ) (ks : List Check) → judged n ks ≡ Accepted → (j p : ℕ) → p < n → getD ks j noCheck .fails p ≡ false
+judged-place : (n : ℕ) (ks : List Check) → judged n ks ≡ Accepted → (j p : ℕ) → p < n → getD ks j noCheck .1 p ≡ false
 judged-place n ks e j p l = by-place (getD-cases ks j noCheck)
   where
-    by-place : (getD ks j noCheck ≡ noCheck) ⊎ ((j < length ks) × In (getD ks j noCheck) ks) → getD ks j noCheck .fails p ≡ false
-    by-place (inl u) = ap (λ (c : Check). c .fails p) u
+    by-place : (getD ks j noCheck ≡ noCheck) ⊎ ((j < length ks) × In (getD ks j noCheck) ks) → getD ks j noCheck .1 p ≡ false
+    by-place (inl u) = ap (λ (c : Check). c .1 p) u
     by-place (inr h) = judged-passes n ks e _ (h .1) p l
 
 -- The check of a number; one that never fails where there is none.
@@ -63,15 +67,15 @@ checkNumbered at n k = getD (checks at n) (k - 3) noCheck
 -- that it does not fail check 4.
 pub record Passed (at : ℕ → Record) (n : ℕ) : Type 0 where
   pub past : (p : ℕ) → n ≤ p → at p ≡ noRecord
-  pub passes : (k : ℕ) → ltb k 15 ≡ true → (p : ℕ) → p < n → checkNumbered at n k .fails p ≡ false
+  pub passes : (k : ℕ) → ltb k 15 ≡ true → (p : ℕ) → p < n → checkNumbered at n k .1 p ≡ false
 
 recordAt-past : (file : List ℕ) (p : ℕ) → recordCount file ≤ p → recordAt file p ≡ noRecord
 recordAt-past file p h = rw (le-ltb p (recordCount file) h)
 
 -- No record fails a check whose place is before that of m, where the checks before m have passed.
-pub passed-check : (at : ℕ → Record) (n m k p : ℕ) → PassedBefore at n m → k - 3 < m - 3 → p < n → checkNumbered at n k .fails p ≡ false
+pub passed-check : (at : ℕ → Record) (n m k p : ℕ) → PassedBefore at n m → k - 3 < m - 3 → p < n → checkNumbered at n k .1 p ≡ false
 passed-check at n m k p e h l =
-    ap (λ (c : Check). c .fails p) (sym (getD-take (m - 3) (checks at n) (k - 3) noCheck h))
+    ap (λ (c : Check). c .1 p) (sym (getD-take (m - 3) (checks at n) (k - 3) noCheck h))
     ∙ judged-place n (take (m - 3) (checks at n)) e (k - 3) p l
 
 pub passed-before : (file : List ℕ) → PassedBefore (recordAt file) (recordCount file) 15 → Passed (recordAt file) (recordCount file)
@@ -98,7 +102,7 @@ module _ (file : List ℕ) (accepted : verdict file ≡ Accepted) where
   judged-all = rw (accepted-sized file accepted) at accepted
 
   -- Of an accepted file no record p fails the check numbered k, for any p and k.
-  pub accepted-check : (k p : ℕ) → p < recordCount file → checkNumbered (recordAt file) (recordCount file) k .fails p ≡ false
+  pub accepted-check : (k p : ℕ) → p < recordCount file → checkNumbered (recordAt file) (recordCount file) k .1 p ≡ false
   accepted-check k p l = judged-place (recordCount file) (checks (recordAt file) (recordCount file)) judged-all (k - 3) p l
 
   pub accepted-passed : Passed (recordAt file) (recordCount file)

@@ -14,7 +14,7 @@ use mathlib.Core.List.{List, [], _∷_}
 use Prim.Native.Nat.{ℕ, zero, suc, _≤_, _<_}
 use native.Mathlib.Omega.{arith}
 use borrow.Author.Tests.{eqb-true, eq-eqb, ltb-true, not-false}
-use lib.Dec.{eqb}
+use lib.Dec.{eqb, ltb}
 use Rattle.lists.specs.Lists.{from, any, joined}
 use Rattle.lists.proofs.TestsLaws.{and-right}
 use Rattle.lists.proofs.MembersLaws.{In, Distinct, in-cond, any-none, from0-sound, from0-complete}
@@ -23,7 +23,7 @@ use Rattle.lists.proofs.MembersLaws.{distinct-joined, distinct-from}
 use Rattle.component.specs.declared.Record.{Record}
 use Rattle.component.specs.Record.{toOf, inputOf, portOf, inputsOf, isPrimitive, entering, enteringAs}
 use Rattle.component.specs.Reading.{ownerOf, formOf}
-use Rattle.component.specs.Drawing.{deepest, child, mapsIn, fromThere, portThere, toThere}
+use Rattle.component.specs.Drawing.{deepest, child, mapsIn, fromThere, toThere}
 use Rattle.flatten.specs.declared.Pin.{Pin}
 use Rattle.flatten.specs.Descent.{pin, inputsBelow, goesTo}
 use Rattle.flatten.specs.Leads.{Into, ends, maps}
@@ -66,7 +66,7 @@ module _ (at : ℕ → Record) (n : ℕ) (d : Passed at n) where
       by-connection u = and-right (fromThere at n (at p)) (toThere at n (at p)) (not-false _ (rw u at (d .passes 12 refl p l)))
 
       by-map : formOf (at p) ≡ 3 → toThere at n (at p) ≡ true
-      by-map u = and-right (portThere at (at p)) (toThere at n (at p)) (not-false _ (rw u at (d .passes 12 refl p l)))
+      by-map u = and-right (ltb (portOf (at p)) (inputsOf (at (ownerOf (at p))))) (toThere at n (at p)) (not-false _ (rw u at (d .passes 12 refl p l)))
 
   entry-component : (p : ℕ) → p < n → entering (at p) ≡ true → formOf (at (child at n (ownerOf (at p)) (toOf (at p)))) ≡ 1
   entry-component p l e = input-component (at (child at n (ownerOf (at p)) (toOf (at p)))) _ (entry-there p l e)

@@ -23,9 +23,9 @@ use Rattle.component.specs.Record.{recordAt}
 use Rattle.component.specs.Reading.{given}
 use Rattle.checks.specs.Checks.{failsBy}
 use Rattle.checks.proofs.ChecksLaws.{given-number, given-failed, given-passed}
-use Rattle.flatten.specs.Verdict.{Check, check, checks, refused, orLater, judged, sized, verdict, verdictGives, Judges}
+use Rattle.flatten.specs.Verdict.{checks, refused, orLater, judged, sized, verdict, verdictGives, Judges}
 use Rattle.flatten.specs.Searches.{failsAt, PassedBefore}
-use Rattle.flatten.proofs.Accepted.{refused-not, noCheck}
+use Rattle.flatten.proofs.Accepted.{Check, refused-not, noCheck}
 
 -- What is found is one of the positions looked at.
 first-below : (f : ℕ → Bool) (q k p : ℕ) → first f (from q k) ≡ some p → p < q + k
@@ -57,20 +57,20 @@ module _ (s : List ℕ) (n k : ℕ) where
     search-none l = ap (λ (y : Option ℕ). orLater k y Accepted) (first-none (failsAt (recordAt s) n k) q n x inv l)
 
 -- Checks numbered from m on: the one at place j has number m + j, and F says what fails it, if F says that of each.
-number-at : (cs : List Check) (m j : ℕ) → map (λ (c : Check). c .number) cs ≡ from m (length cs) → j < length cs
-    → getD cs j noCheck .number ≡ m + j
+number-at : (cs : List Check) (m j : ℕ) → map (λ (c : Check). c .0) cs ≡ from m (length cs) → j < length cs
+    → getD cs j noCheck .0 ≡ m + j
 number-at [] m j e h = absurd (omega arith)
-number-at (c ∷ cs) m zero e h = let z : c .number ≡ m = cc in omega arith
+number-at (c ∷ cs) m zero e h = let z : c .0 ≡ m = cc in omega arith
 number-at (c ∷ cs) m (suc j) e h =
-    let z : map (λ (x : Check). x .number) cs ≡ from (suc m) (length cs) = cc in
+    let z : map (λ (x : Check). x .0) cs ≡ from (suc m) (length cs) = cc in
     omega (arith, number-at cs (suc m) j z (omega arith))
 
-fails-at : (F : ℕ → ℕ → Bool) (cs : List Check) (j : ℕ) → map (λ (c : Check). c .fails) cs ≡ map (λ (c : Check). F (c .number)) cs
-    → j < length cs → getD cs j noCheck .fails ≡ F (getD cs j noCheck .number)
+fails-at : (F : ℕ → ℕ → Bool) (cs : List Check) (j : ℕ) → map (λ (c : Check). c .1) cs ≡ map (λ (c : Check). F (c .0)) cs
+    → j < length cs → getD cs j noCheck .1 ≡ F (getD cs j noCheck .0)
 fails-at F [] j e h = absurd (omega arith)
 fails-at F (c ∷ cs) zero e h = cc
 fails-at F (c ∷ cs) (suc j) e h =
-    let z : map (λ (x : Check). x .fails) cs ≡ map (λ (x : Check). F (x .number)) cs = cc in
+    let z : map (λ (x : Check). x .1) cs ≡ map (λ (x : Check). F (x .0)) cs = cc in
     fails-at F cs j z (omega arith)
 
 -- What a check says that finds a record, or none, before the later ones.
@@ -81,11 +81,11 @@ later-refused k none v r e = let z : _≡_ {A = ℕ} 0 1 = cc in absurd (omega a
 -- Checks that accept leave the judgement to those behind them.
 pub judged-append : (n : ℕ) (xs ys : List Check) → judged n xs ≡ Accepted → judged n (xs ++ ys) ≡ judged n ys
 judged-append n [] ys e = refl
-judged-append n (x ∷ xs) ys e = by-found (judged-append n xs ys) (first (x .fails) (from 0 n)) e
+judged-append n (x ∷ xs) ys e = by-found (judged-append n xs ys) (first (x .1) (from 0 n)) e
   where
     by-found : (judged n xs ≡ Accepted → judged n (xs ++ ys) ≡ judged n ys) → (found : Option ℕ)
-        → orLater (x .number) found (judged n xs) ≡ Accepted → orLater (x .number) found (judged n (xs ++ ys)) ≡ judged n ys
-    by-found later (some q) e = absurd (refused-not (x .number) q e)
+        → orLater (x .0) found (judged n xs) ≡ Accepted → orLater (x .0) found (judged n (xs ++ ys)) ≡ judged n ys
+    by-found later (some q) e = absurd (refused-not (x .0) q e)
     by-found later none e = later e
 
 -- The loop over the checks, of which those before k have passed and those from place k - 3 on are still to be made.
@@ -93,13 +93,13 @@ module _ (s : List ℕ) (n k : ℕ) (passed : PassedBefore (recordAt s) n k) whe
   abbrev all : List Check
   all = checks (recordAt s) n
 
-  check-at : 3 ≤ k → k < 16 → getD all (k - 3) noCheck ≡ check k (failsAt (recordAt s) n k)
+  check-at : 3 ≤ k → k < 16 → getD all (k - 3) noCheck ≡ (k, failsAt (recordAt s) n k)
   unfolding failsAt failsBy
   check-at h l =
-      let z : getD all (k - 3) noCheck .number ≡ k = let e = number-at all 3 (k - 3) refl (omega arith) in omega arith in
-      let f : getD all (k - 3) noCheck .fails ≡ failsAt (recordAt s) n k =
+      let z : getD all (k - 3) noCheck .0 ≡ k = let e = number-at all 3 (k - 3) refl (omega arith) in omega arith in
+      let f : getD all (k - 3) noCheck .1 ≡ failsAt (recordAt s) n k =
       fails-at (failsAt (recordAt s) n) all (k - 3) refl (omega arith) ∙ ap (failsAt (recordAt s) n) z in
-      λ j. check (z j) (f j)
+      λ j. (z j, f j)
 
   -- a record fails check k; none does; all checks are made
   module _ (g : Verdict) (e : g ≡ orLater k (first (failsAt (recordAt s) n k) (from 0 n)) Accepted) where
@@ -156,21 +156,21 @@ pub judges-verdict : (s : List ℕ) (v : Verdict) → Judges s v → v ≡ verdi
 judges-verdict s v e = verdictGives-is v (verdict s) e
 
 -- A refusal's number is at most 15, and its position is below 1,024.
-judged-bound : (n : ℕ) (cs : List Check) (r : Refusal) → every (λ (c : Check). ltb (c .number) 16) cs ≡ true → judged n cs ≡ Refused r
+judged-bound : (n : ℕ) (cs : List Check) (r : Refusal) → every (λ (c : Check). ltb (c .0) 16) cs ≡ true → judged n cs ≡ Refused r
     → (r .number < 16) × (r .position < n)
 judged-bound n [] r h e = let z : _≡_ {A = ℕ} 0 1 = cc in absurd (omega arith)
 judged-bound n (c ∷ cs) r h e =
-    by-find (first (c .fails) (from 0 n)) refl e
-    (judged-bound n cs r (and-right (ltb (c .number) 16) (every (λ (x : Check). ltb (x .number) 16) cs) h))
+    by-find (first (c .1) (from 0 n)) refl e
+    (judged-bound n cs r (and-right (ltb (c .0) 16) (every (λ (x : Check). ltb (x .0) 16) cs) h))
   where
-    by-find : (x : Option ℕ) → first (c .fails) (from 0 n) ≡ x → orLater (c .number) x (judged n cs) ≡ Refused r
+    by-find : (x : Option ℕ) → first (c .1) (from 0 n) ≡ x → orLater (c .0) x (judged n cs) ≡ Refused r
         → (judged n cs ≡ Refused r → (r .number < 16) × (r .position < n)) → (r .number < 16) × (r .position < n)
     by-find (some p) u d later =
-        let z : record { number = c .number; position = p } ≡ r = cc in
-        let y : c .number ≡ r .number = ap (λ (x : Refusal). x .number) z in
+        let z : record { number = c .0; position = p } ≡ r = cc in
+        let y : c .0 ≡ r .number = ap (λ (x : Refusal). x .number) z in
         let w : p ≡ r .position = ap (λ (x : Refusal). x .position) z in
-        let l : c .number < 16 = ltb-true (c .number) 16 (and-left (ltb (c .number) 16) (every (λ (x : Check). ltb (x .number) 16) cs) h) in
-        (omega arith, omega (arith, first-below (c .fails) 0 n p u))
+        let l : c .0 < 16 = ltb-true (c .0) 16 (and-left (ltb (c .0) 16) (every (λ (x : Check). ltb (x .0) 16) cs) h) in
+        (omega arith, omega (arith, first-below (c .1) 0 n p u))
     by-find none u d later = later d
 
 pub verdict-bound : (s : List ℕ) (r : Refusal) → verdict s ≡ Refused r → (r .number < 16) × (r .position < 1024)

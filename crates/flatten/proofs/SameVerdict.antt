@@ -23,8 +23,8 @@ use Rattle.component.specs.Record.{recordAt, recordCount}
 use Rattle.component.specs.Reading.{formOf}
 use Rattle.component.specs.Drawing.{isComponent, fails3, fails4, fails5}
 use Rattle.flatten.specs.Descent.{comesFrom, wiresAt, fails15}
-use Rattle.flatten.specs.Verdict.{Check, check, checks, refused, orLater, judged, sized, verdict}
-use Rattle.flatten.proofs.Accepted.{judged-passes, passed-before}
+use Rattle.flatten.specs.Verdict.{checks, refused, orLater, judged, sized, verdict}
+use Rattle.flatten.proofs.Accepted.{Check, judged-passes, passed-before}
 use Rattle.flatten.proofs.JudgementLaws.{judged-append}
 use Rattle.flatten.proofs.Components.{primitive-component}
 use Rattle.flatten.proofs.Ends.{source-there}
@@ -33,7 +33,7 @@ use Rattle.flatten.proofs.WidthsLaws.{differing}
 module _ (n : ℕ) where
   -- Two checks say the same of each record.
   abbrev Agree : Check → Check → Type 0
-  Agree c d = (c .number ≡ d .number) × ((p : ℕ) → p < n → c .fails p ≡ d .fails p)
+  Agree c d = (c .0 ≡ d .0) × ((p : ℕ) → p < n → c .1 p ≡ d .1 p)
 
   abbrev Same : List Check → List Check → List Check → Type 0
   Same done [] [] = Unit
@@ -62,13 +62,13 @@ module _ (n : ℕ) where
   judged-same done (c ∷ cs) [] e s = absurd s
   judged-same done (c ∷ cs) (d ∷ ds) e s =
       let agree = s .0 e in
-      let found = first-members (c .fails) (d .fails) (from 0 n) (λ p u. agree .1 p (from0-sound n p u)) in
+      let found = first-members (c .1) (d .1) (from 0 n) (λ p u. agree .1 p (from0-sound n p u)) in
       (λ j. orLater (agree .0 j) (found j) (judged n cs))
-      ∙ by-found (λ z. judged-same (done ++ (d ∷ [])) cs ds z (s .1)) (first (d .fails) (from 0 n)) (judged-append n done (d ∷ []) e)
+      ∙ by-found (λ z. judged-same (done ++ (d ∷ [])) cs ds z (s .1)) (first (d .1) (from 0 n)) (judged-append n done (d ∷ []) e)
     where
       by-found : (judged n (done ++ (d ∷ [])) ≡ Accepted → judged n cs ≡ judged n ds) → (found : Option ℕ)
-          → judged n (done ++ (d ∷ [])) ≡ orLater (d .number) found Accepted
-          → orLater (d .number) found (judged n cs) ≡ orLater (d .number) found (judged n ds)
+          → judged n (done ++ (d ∷ [])) ≡ orLater (d .0) found Accepted
+          → orLater (d .0) found (judged n cs) ≡ orLater (d .0) found (judged n ds)
       by-found later (some p) z = refl
       by-found later none z = later z
 
@@ -86,8 +86,8 @@ module _ (at : ℕ → Record) (n : ℕ) where
 
   abbrev pub asked : List Check
   asked =
-      check 3 (fails3 at) ∷ check 4 (asked3 at (fails4 at)) ∷ check 5 (asked3 at (fails5 at))
-      ∷ (take 9 (drop 3 (checks at n)) ++ (check 15 asked15 ∷ []))
+      (3, fails3 at) ∷ (4, asked3 at (fails4 at)) ∷ (5, asked3 at (fails5 at))
+      ∷ (take 9 (drop 3 (checks at n)) ++ ((15, asked15) ∷ []))
 
 module _ (file : List ℕ) where
   abbrev at : ℕ → Record
@@ -108,18 +108,18 @@ module _ (file : List ℕ) where
           rw (eq-eqb _ 1 (primitive-component (at (comesFrom at n p .comp)) (source .of-primitive)))
 
   -- Before 4 and 5, check 3 has passed.
-  asked3-passed : (f : ℕ → Bool) (ks : List Check) → judged n (check 3 (fails3 at) ∷ ks) ≡ Accepted → (p : ℕ) → p < n → asked3 at f p ≡ f p
+  asked3-passed : (f : ℕ → Bool) (ks : List Check) → judged n ((3, fails3 at) ∷ ks) ≡ Accepted → (p : ℕ) → p < n → asked3 at f p ≡ f p
   asked3-passed f ks e p l =
-      asked3-same at f p (judged-passes n (check 3 (fails3 at) ∷ ks) e (check 3 (fails3 at)) (inl refl) p l)
+      asked3-same at f p (judged-passes n ((3, fails3 at) ∷ ks) e (3, fails3 at) (inl refl) p l)
 
   same : Same n [] (asked at n) (checks at n)
   same =
-      let first-three = check 3 (fails3 at) ∷ check 4 (fails4 at) ∷ check 5 (fails5 at) ∷ [] in
+      let first-three : List Check = (3, fails3 at) ∷ (4, fails4 at) ∷ (5, fails5 at) ∷ [] in
       let middle = take 9 (drop 3 (checks at n)) in
-      let last : Same n (first-three ++ middle) (check 15 (asked15 at n) ∷ []) (check 15 (fails15 at n) ∷ []) = (λ e. (refl, asked15-same e), tt) in
-      let later = same-append n first-three middle (check 15 (asked15 at n) ∷ []) (check 15 (fails15 at n) ∷ []) last in (
+      let last : Same n (first-three ++ middle) ((15, asked15 at n) ∷ []) ((15, fails15 at n) ∷ []) = (λ e. (refl, asked15-same e), tt) in
+      let later = same-append n first-three middle ((15, asked15 at n) ∷ []) ((15, fails15 at n) ∷ []) last in (
         λ e. (refl, λ p l. refl),
-        (λ e. (refl, asked3-passed (fails4 at) [] e), (λ e. (refl, asked3-passed (fails5 at) (check 4 (fails4 at) ∷ []) e), later)),
+        (λ e. (refl, asked3-passed (fails4 at) [] e), (λ e. (refl, asked3-passed (fails5 at) ((4, fails4 at) ∷ []) e), later)),
       )
 
   -- The verdict is the same.

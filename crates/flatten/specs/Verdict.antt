@@ -15,21 +15,11 @@ use Rattle.component.specs.Record.{recordAt, recordCount}
 use Rattle.component.specs.Drawing.{fails3, fails4, fails5, fails6, fails7, fails8, fails9, fails10, fails11, fails12, fails13, fails14}
 use Rattle.flatten.specs.Descent.{fails15}
 
--- A check: its number, and the positions that fail it.
-pub record Check : Type 0 where
-  pub number : ℕ
-  pub fails : ℕ → Bool
-
--- A check from its number and its test.
-abbrev pub check : ℕ → (ℕ → Bool) → Check
-check k f = record { number = k; fails = f }
-
--- The checks of a drawing, in number order.
-abbrev pub checks : (ℕ → Record) → ℕ → List Check
+-- The checks of a drawing, in number order: each its number, and the positions that fail it.
+abbrev pub checks : (ℕ → Record) → ℕ → List (ℕ × (ℕ → Bool))
 checks at n =
-    check 3 (fails3 at) ∷ check 4 (fails4 at) ∷ check 5 (fails5 at) ∷ check 6 (fails6 at) ∷ check 7 (fails7 at)
-    ∷ check 8 (fails8 at) ∷ check 9 (fails9 at) ∷ check 10 (fails10 at) ∷ check 11 (fails11 at) ∷ check 12 (fails12 at n)
-    ∷ check 13 (fails13 at) ∷ check 14 (fails14 at n) ∷ check 15 (fails15 at n) ∷ []
+    (3, fails3 at) ∷ (4, fails4 at) ∷ (5, fails5 at) ∷ (6, fails6 at) ∷ (7, fails7 at) ∷ (8, fails8 at) ∷ (9, fails9 at) ∷ (10, fails10 at)
+    ∷ (11, fails11 at) ∷ (12, fails12 at n) ∷ (13, fails13 at) ∷ (14, fails14 at n) ∷ (15, fails15 at n) ∷ []
 
 -- Refused with number k at position p.
 abbrev pub refused : ℕ → ℕ → Verdict
@@ -41,9 +31,9 @@ orLater k (some p) later = refused k p
 orLater k none later = later
 
 -- Each check over all n records in file order before the next begins; the first that fails decides.
-abbrev pub judged : ℕ → List Check → Verdict
+abbrev pub judged : ℕ → List (ℕ × (ℕ → Bool)) → Verdict
 judged n [] = Accepted
-judged n (k ∷ ks) = orLater (k .number) (first (k .fails) (from 0 n)) (judged n ks)
+judged n (k ∷ ks) = orLater (k .0) (first (k .1) (from 0 n)) (judged n ks)
 
 -- Not 1: the file is not empty, a multiple of 24, and of at most 1,024 records.
 abbrev pub sized : List ℕ → Bool

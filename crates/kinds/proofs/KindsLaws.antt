@@ -128,10 +128,6 @@ seenAs-known n k e =
 pub kindOf-numberOf : (k : Kind) → kindOf (numberOf k) ≡ k
 kindOf-numberOf k = ap kindIn (seenAs-numberOf k)
 
--- Past the last kind there is none.
-pub kindOf-none : (n : ℕ) → length numbered ≤ n → kindOf n ≡ Composite
-kindOf-none n h = ap kindIn (List·getD-eq-default numbered Unknown h)
-
 -- What is read as no kind has Composite for one.
 unread-composite : (s : Seen) → ((k : Kind) → s ≡ Known k → ⊥) → kindIn s ≡ Composite
 unread-composite (Known k) none = absurd (none k refl)

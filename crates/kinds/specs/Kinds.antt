@@ -77,10 +77,6 @@ primitive f = leb 1 (f .kind) && (not (forCustom (f .kind)) && not (unknown (f .
 abbrev pub mostPorts : ℕ
 mostPorts = 64
 
--- "period 1 to 2^62"
-abbrev pub longest : ℕ
-longest = 2 ^ 62
-
 -- From a to b.
 infix 4 _to_
 abbrev pub _to_ : ℕ → ℕ → Span
@@ -109,7 +105,7 @@ row Input c p = line (only 1) (only 1) (only 0) (1 to widest) p p
 row Output c p = line (only 1) (only 1) (only 0) (1 to widest) p p
 row Splitter c p = line (only 1) (only p) (only 0) (1 to widest) p 1
 row Joiner c p = line (only p) (only 1) (only 0) (1 to widest) 1 p
-row Clock c p = line (only 0) (only 1) (only 0) (1 to longest) 1 1
+row Clock c p = line (only 0) (only 1) (only 0) (1 to 2 ^ 62) 1 1
 row Const c p = line (only 0) (only 1) (1 to widest) (0 to ones (min c widest)) 1 c
 
 -- The row that a component must obey.

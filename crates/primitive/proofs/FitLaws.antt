@@ -16,7 +16,8 @@ use Rattle.kinds.specs.declared.Kind.{Kind}
 use Rattle.kinds.specs.declared.Kind.the-variants.{Composite, And, Or, Not, Nand, Nor, Xor, Switch, Input, Output, Splitter, Joiner, Clock, Const}
 use Rattle.kinds.specs.declared.table.Fields.{Fields}
 use Rattle.kinds.specs.Kinds.{numberOf, kindOf, row, only, _to_, primitive, obeys, inputWidth, outputWidth}
-use Rattle.primitive.specs.Evaluate.{one, allHigh, anyHigh, oddHigh, clockHigh, join, rule, outputsAfter}
+use Rattle.primitive.specs.Evaluate.{one, clockHigh, join, rule, outputsAfter}
+use Rattle.primitive.specs.Own.{allHigh, anyHigh, oddHigh}
 use Rattle.primitive.specs.Own.{Own}
 use Rattle.kinds.proofs.KindsLaws.{numberOf-kindOf}
 use Rattle.primitive.proofs.RulesLaws.{join-lt}

@@ -11,7 +11,8 @@ use lib.ListN.{length}
 use lib.Dec.{eqb, ltb}
 use Rattle.value.specs.Value.{level}
 use Rattle.value.proofs.ValueLaws.{level-le}
-use Rattle.primitive.specs.Evaluate.{high, highs, allHigh, anyHigh, oddHigh}
+use Rattle.primitive.specs.Evaluate.{highs}
+use Rattle.primitive.specs.Own.{high, allHigh, anyHigh, oddHigh}
 
 -- The Rust's `^` on levels.
 abbrev pub xor : Bool → Bool → Bool

@@ -14,7 +14,8 @@ use lib.Seq.{drop-cons, drop-length, take-suc-set, take-length}
 use Rattle.lists.specs.Lists.{from}
 use Rattle.value.specs.Value.{level, bitOf}
 use Rattle.value.proofs.ValueLaws.{level-le}
-use Rattle.primitive.specs.Evaluate.{high, highs, join, split}
+use Rattle.primitive.specs.Evaluate.{highs, join, split}
+use Rattle.primitive.specs.Own.{high}
 
 drop-end : (xs : List ℕ) (i : ℕ) → i ≤ length xs → length xs ≤ i → drop i xs ≡ []
 drop-end xs i h l = let e : i ≡ length xs = omega arith in ap (λ (k : ℕ). drop k xs) e ∙ drop-length xs

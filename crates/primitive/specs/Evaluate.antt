@@ -21,18 +21,14 @@ use Rattle.primitive.specs.declared.Evaluated.the-variants.{Done, Refuse
 use Rattle.kinds.specs.Given.{Given, done, declined, giving}
 use Rattle.kinds.specs.Kinds.{kindOf, forCustom, unknown, is, primitive, obeys, inputWidth, outputWidth}
 
--- A port is high.
-abbrev pub high : ℕ → Bool
-high x = ltb 0 x
-
--- How many ports are high.
+-- How many ports are high: not 0.
 abbrev pub highs : List ℕ → ℕ
-highs xs = total (λ x. level (high x)) xs
+highs xs = total (λ x. level (ltb 0 x)) xs
 
 -- "Joiner bit i is input i"
 abbrev pub join : List ℕ → ℕ
 join [] = 0
-join (x ∷ xs) = level (high x) + 2 * join xs
+join (x ∷ xs) = level (ltb 0 x) + 2 * join xs
 
 -- "Splitter output i is bit i", of n outputs.
 abbrev pub split : ℕ → ℕ → List ℕ
@@ -42,29 +38,20 @@ split x n = map (bitOf x) (from 0 n)
 abbrev pub clockHigh : ℕ → ℕ → Bool
 clockHigh p t = ltb p (t % (2 * p))
 
--- All inputs are high; one is; an odd number of them is.
-abbrev pub allHigh : List ℕ → Bool
-allHigh xs = eqb (highs xs) (length xs)
-
-abbrev pub anyHigh : List ℕ → Bool
-anyHigh xs = ltb 0 (highs xs)
-
-abbrev pub oddHigh : List ℕ → Bool
-oddHigh xs = eqb (highs xs % 2) 1
-
 -- The one output of a gate.
 abbrev pub one : Bool → List ℕ
 one b = level b ∷ []
 
--- The function of a kind, at its parameter p, of its inputs and the time. A Switch has none: its output is free.
+-- The function of a kind, at its parameter p, of its inputs and the time: And is high where as many inputs are high as there are, Or where one is,
+-- Xor where an odd number is. A Switch has none: its output is free.
 abbrev pub rule : Kind → ℕ → List ℕ → ℕ → List ℕ
 rule Composite p xs t = []
-rule And p xs t = one (allHigh xs)
-rule Or p xs t = one (anyHigh xs)
+rule And p xs t = one (eqb (highs xs) (length xs))
+rule Or p xs t = one (ltb 0 (highs xs))
 rule Not p xs t = complement (ofWidth 1 (getD xs 0 0)) .number ∷ []
-rule Nand p xs t = one (not (allHigh xs))
-rule Nor p xs t = one (not (anyHigh xs))
-rule Xor p xs t = one (oddHigh xs)
+rule Nand p xs t = one (not (eqb (highs xs) (length xs)))
+rule Nor p xs t = one (not (ltb 0 (highs xs)))
+rule Xor p xs t = one (eqb (highs xs % 2) 1)
 rule Switch p xs t = []
 rule Input p xs t = getD xs 0 0 ∷ []
 rule Output p xs t = getD xs 0 0 ∷ []

@@ -2,11 +2,12 @@
 // Rules: docs/SPECIFICATION.md, "Rounds". Source: primitive.rs, `update`.
 ghost use mathlib.Core.Path.{_≡_};
 ghost use mathlib.Core.List.{[], _∷_};
-ghost use Prim.Native.Nat.{_≤_, _<_};
+ghost use Prim.Native.Nat.{_^_, _≤_, _<_};
 ghost use lib.ListN.{length};
 ghost use Rattle.value.specs.Value.{level, complement};
-ghost use Rattle.kinds.specs.Kinds.{numberOf, longest};
-ghost use Rattle.primitive.specs.Evaluate.{highs, allHigh, anyHigh, oddHigh, join, split, one, clockHigh, outputsAfter};
+ghost use Rattle.kinds.specs.Kinds.{numberOf};
+ghost use Rattle.primitive.specs.Evaluate.{highs, join, split, one, clockHigh, outputsAfter};
+ghost use Rattle.primitive.specs.Own.{allHigh, anyHigh, oddHigh};
 ghost use Rattle.primitive.specs.Own.{Own};
 use kinds::Fields;
 use kinds::Kind;
@@ -103,7 +104,7 @@ fn split(input: u64, outputs: &mut [u64])
 
 // Clock.
 fn clock_high(period: u64, time: u64) -> bool
-    requires { ⌜ (0 < period) × (period ≤ longest) ⌝ }
+    requires { ⌜ (0 < period) × (period ≤ 2 ^ 62) ⌝ }
     ensures { λ r. ⌜ r ≡ clockHigh period time ⌝ }
 {
     period < time % (2 * period)

@@ -2,7 +2,7 @@
 // It stands for the type `Data` of the Rust, whose text we do not have.
 ghost use mathlib.Core.Path.{_≡_};
 ghost use Prim.Native.Nat.{_≤_, min};
-ghost use Rattle.value.specs.Value.{widest, ones, below, fits, fitsIn, fitted, bit, complement, setTo};
+ghost use Rattle.value.specs.Value.{widest, ones, below, fits, fitsIn, bit, complement, setTo};
 
 // The most bits of a value. The definition `widest` has the same number, and nothing else names it.
 pub const WIDEST: u64 = 32;
@@ -56,7 +56,7 @@ pub fn lies_below(number: u64, width: u64) -> bool
 impl Value {
     // Whether a port may hold this value: its width is one of 1 to WIDEST, and its number lies below 2^width.
     pub fn fits(self) -> Fit
-        ensures { λ r. ⌜ r ≡ fitted self (fits self) ⌝ }
+        ensures { λ r. ⌜ r ≡ record { value = self; fits = fits self } ⌝ }
     {
         let inside = (1 <= self.width) & (self.width <= WIDEST);
         Fit {
@@ -67,7 +67,7 @@ impl Value {
 
     // Whether a port of a width may hold this value: one of another width may not.
     pub fn fits_in(self, width: u64) -> Fit
-        ensures { λ r. ⌜ r ≡ fitted self (fitsIn width self) ⌝ }
+        ensures { λ r. ⌜ r ≡ record { value = self; fits = fitsIn width self } ⌝ }
     {
         Fit {
             value: self,

@@ -4,7 +4,8 @@ use native.Mathlib.Omega.{arith}
 use lib.ListN.{length, getD, drop}
 use lib.Seq.{drop-length}
 use Rattle.value.proofs.ValueLaws.{level-le}
-use Rattle.primitive.specs.Evaluate.{high, join}
+use Rattle.primitive.specs.Evaluate.{join}
+use Rattle.primitive.specs.Own.{high}
 use Rattle.primitive.proofs.RulesLaws.{join-step, join-room}
 use borrow.Author.Needs.{needs}
 use Rattle.primitive.proofs.rules.join.Statement.{statement}
