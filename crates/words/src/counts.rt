@@ -32,7 +32,7 @@ pub fn counts_in(words: &[u64]) -> Counts
 }
 
 // Lays counts into the first seven words.
-pub fn lay(words: &mut [u64], counts: Counts)
+pub(crate) fn lay(words: &mut [u64], counts: Counts)
     requires { ⌜ 7 ≤ length (now words) ⌝ }
     ensures { λ _. ⌜ now (words .exit) ≡ overlay (countWords counts) (now (words .entry)) ⌝ }
 {

@@ -14,4 +14,3 @@ pub use answers::speak;
 pub use counts::counts_in;
 pub use counts::keep;
 pub use counts::keep_loaded;
-pub use counts::lay;
