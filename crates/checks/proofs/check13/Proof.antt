@@ -19,35 +19,17 @@ Inv-loop file p owner to input q₀ q =
 abbrev μ-loop : tie.MeasureT-loop
 μ-loop file p owner to input q₀ q = p - q
 
-entry-at-requires : tie.Need-entry-at-requires Inv-loop μ-loop
-entry-at-requires c κs = search needs
-
-enum-known-owner : tie.Need-enum-known-owner Inv-loop μ-loop
-enum-known-owner c = search needs
-
-enum-told : tie.Need-enum-told Inv-loop μ-loop
-enum-told c = search needs
-
 returns : tie.Need-returns Inv-loop μ-loop
 returns c = search (given-passes, fails13-other)
 
 loop-holds : tie.Need-loop-holds Inv-loop μ-loop
 loop-holds c = search (fails13-start)
 
-same-entry-requires : tie.Need-same-entry-requires Inv-loop μ-loop
-same-entry-requires c κs = search needs
-
 returns-2 : tie.Need-returns-2 Inv-loop μ-loop
 returns-2 c =
     let b = c .before .before .before .before .before in
     let k = b .owner .given .0 in
     search (given-fails, scan-any-here (b .before .before .before .before .args .file .now) (enters (k .0) (k .1 .0 .0) (k .1 .1 .0)))
-
-add-q : tie.Need-add-q Inv-loop μ-loop
-add-q c = search needs
-
-loop-less : tie.Need-loop-less Inv-loop μ-loop
-loop-less c = search needs
 
 loop-again : tie.Need-loop-again Inv-loop μ-loop
 loop-again c =
@@ -67,14 +49,14 @@ check13-spec =
     (tie.spec
     Inv-loop
     μ-loop
-    entry-at-requires
-    enum-known-owner
-    enum-told
+    (λ c κs. search needs)
+    (λ c. search needs)
+    (λ c. search needs)
     returns
     loop-holds
-    same-entry-requires
+    (λ c κs. search needs)
     returns-2
-    add-q
-    loop-less
+    (λ c. search needs)
+    (λ c. search needs)
     loop-again
     returns-3)

@@ -5,15 +5,6 @@ use borrow.Author.Needs.{needs}
 use Rattle.checks.proofs.check3.Statement.{statement}
 use Rattle.checks.proofs.check3.Tie as tie
 
-record-at-requires : tie.Need-record-at-requires
-record-at-requires c κs = search needs
-
-enum-known-number : tie.Need-enum-known-number
-enum-known-number c = search needs
-
-enum-told : tie.Need-enum-told
-enum-told c = search needs
-
 returns : tie.Need-returns
 returns c = search (number-taken)
 
@@ -21,4 +12,4 @@ returns-2 : tie.Need-returns-2
 returns-2 c = search (number-refused)
 
 pub check3-spec : {M : Type 1} → statement M
-check3-spec = tie.close (tie.spec record-at-requires enum-known-number enum-told returns returns-2)
+check3-spec = tie.close (tie.spec (λ c κs. search needs) (λ c. search needs) (λ c. search needs) returns returns-2)

@@ -21,27 +21,9 @@ loop-holds c = refl
 returns : tie.Need-returns Inv-loop μ-loop
 returns c = search (deeper-root (c .before .before .before .before .args .file .now))
 
-component-at-requires : tie.Need-component-at-requires Inv-loop μ-loop
-component-at-requires c κs = search needs
-
-enum-known-owner : tie.Need-enum-known-owner Inv-loop μ-loop
-enum-known-owner c = search needs
-
-enum-told : tie.Need-enum-told Inv-loop μ-loop
-enum-told c = search needs
-
 -- no component
 returns-2 : tie.Need-returns-2 Inv-loop μ-loop
 returns-2 c = search (deeper-unseen)
-
-cast-inner : tie.Need-cast-inner Inv-loop μ-loop
-cast-inner c = search needs
-
-sub-left : tie.Need-sub-left Inv-loop μ-loop
-sub-left c = search needs
-
-loop-less : tie.Need-loop-less Inv-loop μ-loop
-loop-less c = search needs
 
 loop-again : tie.Need-loop-again Inv-loop μ-loop
 loop-again c = search (deeper-outer)
@@ -58,12 +40,12 @@ deeper-spec =
     μ-loop
     loop-holds
     returns
-    component-at-requires
-    enum-known-owner
-    enum-told
+    (λ c κs. search needs)
+    (λ c. search needs)
+    (λ c. search needs)
     returns-2
-    cast-inner
-    sub-left
-    loop-less
+    (λ c. search needs)
+    (λ c. search needs)
+    (λ c. search needs)
     loop-again
     returns-3)

@@ -5,29 +5,8 @@ use borrow.Author.Needs.{needs}
 use Rattle.checks.proofs.entry_at.Statement.{statement}
 use Rattle.checks.proofs.entry_at.Tie as tie
 
-record-at-requires : tie.Need-record-at-requires
-record-at-requires c κs = search needs
-
-enum-known-owner : tie.Need-enum-known-owner
-enum-known-owner c = search needs
-
-enum-told : tie.Need-enum-told
-enum-told c = search needs
-
 returns : tie.Need-returns
 returns c = search (entry-refused)
-
-enum-told-2 : tie.Need-enum-told-2
-enum-told-2 c = search needs
-
-enum-known-says : tie.Need-enum-known-says
-enum-known-says c = search needs
-
-enum-known-says-2 : tie.Need-enum-known-says-2
-enum-known-says-2 c = search needs
-
-enum-told-3 : tie.Need-enum-told-3
-enum-told-3 c = search needs
 
 returns-2 : tie.Need-returns-2
 returns-2 c = search (entry-component)
@@ -45,14 +24,14 @@ pub entry-at-spec : {M : Type 1} → statement M
 entry-at-spec =
     tie.close
     (tie.spec
-    record-at-requires
-    enum-known-owner
-    enum-told
+    (λ c κs. search needs)
+    (λ c. search needs)
+    (λ c. search needs)
     returns
-    enum-told-2
-    enum-known-says
-    enum-known-says-2
-    enum-told-3
+    (λ c. search needs)
+    (λ c. search needs)
+    (λ c. search needs)
+    (λ c. search needs)
     returns-2
     returns-3
     returns-4

@@ -5,15 +5,6 @@ use borrow.Author.Needs.{needs}
 use Rattle.checks.proofs.has_output.Statement.{statement}
 use Rattle.checks.proofs.has_output.Tie as tie
 
-component-at-requires : tie.Need-component-at-requires
-component-at-requires c κs = search needs
-
-enum-known-fields : tie.Need-enum-known-fields
-enum-known-fields c = search needs
-
-enum-told : tie.Need-enum-told
-enum-told c = search needs
-
 returns : tie.Need-returns
 returns c = search (outputs-other)
 
@@ -22,4 +13,4 @@ returns-2 c = search (outputs-component)
 
 pub has-output-spec : {M : Type 1} → statement M
 has-output-spec =
-    tie.close (tie.spec component-at-requires enum-known-fields enum-told returns returns-2)
+    tie.close (tie.spec (λ c κs. search needs) (λ c. search needs) (λ c. search needs) returns returns-2)

@@ -22,31 +22,13 @@ loop-holds c = refl
 returns : tie.Need-returns Inv-loop μ-loop
 returns c = search (holds-root (c .before .before .before .before .args .file .now))
 
-component-at-requires : tie.Need-component-at-requires Inv-loop μ-loop
-component-at-requires c κs = search needs
-
-enum-known-owner : tie.Need-enum-known-owner Inv-loop μ-loop
-enum-known-owner c = search needs
-
-enum-told : tie.Need-enum-told Inv-loop μ-loop
-enum-told c = search needs
-
 -- no component
 returns-2 : tie.Need-returns-2 Inv-loop μ-loop
 returns-2 c = search (holds-unseen)
 
-cast-outer : tie.Need-cast-outer Inv-loop μ-loop
-cast-outer c = search needs
-
 -- its owner is the one asked for
 returns-3 : tie.Need-returns-3 Inv-loop μ-loop
 returns-3 c = search (holds-owner)
-
-sub-left : tie.Need-sub-left Inv-loop μ-loop
-sub-left c = search needs
-
-loop-less : tie.Need-loop-less Inv-loop μ-loop
-loop-less c = search needs
 
 loop-again : tie.Need-loop-again Inv-loop μ-loop
 loop-again c = search (holds-outer)
@@ -63,13 +45,13 @@ holds-spec =
     μ-loop
     loop-holds
     returns
-    component-at-requires
-    enum-known-owner
-    enum-told
+    (λ c κs. search needs)
+    (λ c. search needs)
+    (λ c. search needs)
     returns-2
-    cast-outer
+    (λ c. search needs)
     returns-3
-    sub-left
-    loop-less
+    (λ c. search needs)
+    (λ c. search needs)
     loop-again
     returns-4)

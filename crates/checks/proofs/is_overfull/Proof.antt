@@ -34,9 +34,6 @@ abbrev μ-loop : tie.MeasureT-loop
 loop-holds : tie.Need-loop-holds Inv-loop μ-loop
 loop-holds c = (rw (zero-add, sub-zero), rw (zero-add, sub-zero), search needs, search needs)
 
-ports-at-requires : tie.Need-ports-at-requires Inv-loop μ-loop
-ports-at-requires c κs = search needs
-
 add-inputs : tie.Need-add-inputs Inv-loop μ-loop
 add-inputs c = omega (arith, c .before .ports-at .ensures .1, c .before .before .before .loop .inv .2)
 
@@ -53,12 +50,6 @@ returns c =
     (scan-total-next (a .file .now) isPrimitive (s .loop .q) (a .p) inputsOf _ _ _ (s .loop .inv .0) l (read .0))
     (scan-total-next (a .file .now) isPrimitive (s .loop .q) (a .p) outputsOf _ _ _ (s .loop .inv .1) l (read .2))
     (c .if1 .taken)
-
-add-q : tie.Need-add-q Inv-loop μ-loop
-add-q c = search needs
-
-loop-less : tie.Need-loop-less Inv-loop μ-loop
-loop-less c = search needs
 
 loop-again : tie.Need-loop-again Inv-loop μ-loop
 loop-again c =
@@ -90,11 +81,11 @@ is-overfull-spec =
     Inv-loop
     μ-loop
     loop-holds
-    ports-at-requires
+    (λ c κs. search needs)
     add-inputs
     add-outputs
     returns
-    add-q
-    loop-less
+    (λ c. search needs)
+    (λ c. search needs)
     loop-again
     returns-2)

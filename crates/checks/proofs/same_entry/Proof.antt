@@ -5,15 +5,6 @@ use borrow.Author.Needs.{needs}
 use Rattle.checks.proofs.same_entry.Statement.{statement}
 use Rattle.checks.proofs.same_entry.Tie as tie
 
-entry-at-requires : tie.Need-entry-at-requires
-entry-at-requires c κs = search needs
-
-enum-known-other : tie.Need-enum-known-other
-enum-known-other c = search needs
-
-enum-told : tie.Need-enum-told
-enum-told c = search needs
-
 returns : tie.Need-returns
 returns c = search (enters-none)
 
@@ -22,4 +13,4 @@ returns-2 c = search (enters-is)
 
 pub same-entry-spec : {M : Type 1} → statement M
 same-entry-spec =
-    tie.close (tie.spec entry-at-requires enum-known-other enum-told returns returns-2)
+    tie.close (tie.spec (λ c κs. search needs) (λ c. search needs) (λ c. search needs) returns returns-2)

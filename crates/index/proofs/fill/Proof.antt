@@ -15,12 +15,6 @@ Inv-loop file n form first w table₀ counts₀ q₀ table counts q = Filling fi
 abbrev μ-loop : tie.MeasureT-loop
 μ-loop file n form first w table₀ counts₀ q₀ table counts q = n - q
 
-cast-clear : tie.Need-cast-clear Inv-loop μ-loop
-cast-clear c = search needs
-
-clear-requires : tie.Need-clear-requires Inv-loop μ-loop
-clear-requires c κs = search needs
-
 loop-holds : tie.Need-loop-holds Inv-loop μ-loop
 loop-holds c =
     let b = c .before .before in
@@ -28,9 +22,6 @@ loop-holds c =
     filling-start (a .args .file .now) (a .args .n) (a .args .w) (a .args .form) (a .args .first) (b .clear .last .0)
     (replicate 256 0)
     (b .clear .ensures .size ∙ a .pre .3) (b .clear .ensures .word) refl (λ o h. getD-replicate 256 o 0 0 h)
-
-record-at-requires : tie.Need-record-at-requires Inv-loop μ-loop
-record-at-requires c κs = search needs
 
 cast-put : tie.Need-cast-put Inv-loop μ-loop
 cast-put c =
@@ -81,10 +72,10 @@ fill-spec =
     (tie.spec
     Inv-loop
     μ-loop
-    cast-clear
-    clear-requires
+    (λ c. search needs)
+    (λ c κs. search needs)
     loop-holds
-    record-at-requires
+    (λ c κs. search needs)
     cast-put
     put-requires
     add-q

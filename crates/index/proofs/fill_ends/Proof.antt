@@ -14,42 +14,12 @@ Inv-loop file n ends₀ q₀ ends q = Widening file n q ends
 abbrev μ-loop : tie.MeasureT-loop
 μ-loop file n ends₀ q₀ ends q = n - q
 
-sub-clear : tie.Need-sub-clear Inv-loop μ-loop
-sub-clear c = search needs
-
-part-clear-start : tie.Need-part-clear-start Inv-loop μ-loop
-part-clear-start c = search needs
-
-part-clear-end : tie.Need-part-clear-end Inv-loop μ-loop
-part-clear-end c = search needs
-
-cast-clear : tie.Need-cast-clear Inv-loop μ-loop
-cast-clear c = search needs
-
-clear-requires : tie.Need-clear-requires Inv-loop μ-loop
-clear-requires c κs = search needs
-
-sub-clear-2 : tie.Need-sub-clear-2 Inv-loop μ-loop
-sub-clear-2 c = search needs
-
-part-clear-start-2 : tie.Need-part-clear-start-2 Inv-loop μ-loop
-part-clear-start-2 c = search needs
-
-part-clear-end-2 : tie.Need-part-clear-end-2 Inv-loop μ-loop
-part-clear-end-2 c = search needs
-
-clear-requires-2 : tie.Need-clear-requires-2 Inv-loop μ-loop
-clear-requires-2 c κs = search needs
-
 loop-holds : tie.Need-loop-holds Inv-loop μ-loop
 loop-holds c =
     let l = c .before .before .before .before .before .before in
     let s = l .before .before .before .before in
     widening-cleared (s .args .file .now) (s .args .n) (s .args .ends .now) (l .clear .last .0) (c .before .before .clear2 .last .0) (s .pre .1) (l .clear .ensures .size)
     (c .before .before .clear2 .ensures .size) (c .before .before .clear2 .ensures .word)
-
-record-at-requires : tie.Need-record-at-requires Inv-loop μ-loop
-record-at-requires c κs = search needs
 
 cast-widen : tie.Need-cast-widen Inv-loop μ-loop
 cast-widen c = omega (arith, c .before .before .before .before .before .before .before .before .before .before .before .before .before .before .pre .0)
@@ -59,12 +29,6 @@ widen-requires c κs =
     let l = c .before .before .before in
     let e = l .before .before .before .before .before .before .before .before .before .before .before .pre .0 in
     (l .loop .inv .size, omega arith)
-
-add-q : tie.Need-add-q Inv-loop μ-loop
-add-q c = search needs
-
-loop-less : tie.Need-loop-less Inv-loop μ-loop
-loop-less c = search needs
 
 loop-again : tie.Need-loop-again Inv-loop μ-loop
 loop-again c =
@@ -89,21 +53,21 @@ fill-ends-spec =
     (tie.spec
     Inv-loop
     μ-loop
-    sub-clear
-    part-clear-start
-    part-clear-end
-    cast-clear
-    clear-requires
-    sub-clear-2
-    part-clear-start-2
-    part-clear-end-2
-    clear-requires-2
+    (λ c. search needs)
+    (λ c. search needs)
+    (λ c. search needs)
+    (λ c. search needs)
+    (λ c κs. search needs)
+    (λ c. search needs)
+    (λ c. search needs)
+    (λ c. search needs)
+    (λ c κs. search needs)
     loop-holds
-    record-at-requires
+    (λ c κs. search needs)
     cast-widen
     widen-requires
-    add-q
-    loop-less
+    (λ c. search needs)
+    (λ c. search needs)
     loop-again
     same-length
     returns)

@@ -22,23 +22,11 @@ abbrev μ-loop : tie.MeasureT-loop
 loop-holds : tie.Need-loop-holds Inv-loop μ-loop
 loop-holds c = refl
 
-is-owned-requires : tie.Need-is-owned-requires Inv-loop μ-loop
-is-owned-requires c κs = search needs
-
 -- this one
 returns : tie.Need-returns Inv-loop μ-loop
 returns c =
     let a = c .before .before .before .before .before .before .args in
     search (scan-kth-here (a .file .now) (ownedAs (a .form) (a .o)))
-
-sub-left : tie.Need-sub-left Inv-loop μ-loop
-sub-left c = search needs
-
-add-q : tie.Need-add-q Inv-loop μ-loop
-add-q c = search needs
-
-loop-less : tie.Need-loop-less Inv-loop μ-loop
-loop-less c = search needs
 
 loop-again : tie.Need-loop-again Inv-loop μ-loop
 loop-again c =
@@ -59,10 +47,10 @@ nth-owned-spec =
     Inv-loop
     μ-loop
     loop-holds
-    is-owned-requires
+    (λ c κs. search needs)
     returns
-    sub-left
-    add-q
-    loop-less
+    (λ c. search needs)
+    (λ c. search needs)
+    (λ c. search needs)
     loop-again
     returns-2)

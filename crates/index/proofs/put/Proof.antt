@@ -8,19 +8,10 @@ use borrow.Author.Needs.{needs}
 use Rattle.index.proofs.put.Statement.{statement}
 use Rattle.index.proofs.put.Tie as tie
 
-enum-known-r : tie.Need-enum-known-r
-enum-known-r c = search needs
-
-enum-told : tie.Need-enum-told
-enum-told c = search needs
-
 returns : tie.Need-returns
 returns c =
     let a = c .before .before .before .args in
     put-refused (a .w) (a .form) (a .r) (a .q) (a .counts .now) (a .table .now) (c .before .before .before .pre .2) (c .enum-told .given .1)
-
-is-of-requires : tie.Need-is-of-requires
-is-of-requires c κs = search needs
 
 returns-2 : tie.Need-returns-2
 returns-2 c =
@@ -29,9 +20,6 @@ returns-2 c =
     taken-other (a .w) (a .form) (a .r) (a .q) (a .counts .now) (a .table .now) _ _ (b .before .before .before .r .given .1) _
     (b .before .is-of .ensures) (c .if1 .taken)
 
-cast-o : tie.Need-cast-o
-cast-o c = search needs
-
 returns-3 : tie.Need-returns-3
 returns-3 c =
     let b = c .before in
@@ -39,22 +27,10 @@ returns-3 c =
     taken-far (a .w) (a .form) (a .r) (a .q) (a .counts .now) (a .table .now) _ _ (b .before .before .before .r .given .1) _
     (b .before .is-of .ensures) (b .if1 .left) (c .if2 .taken)
 
-mul-k : tie.Need-mul-k
-mul-k c = search needs
-
-element-copy-out-k : tie.Need-element-copy-out-k
-element-copy-out-k c = search needs
-
 add-counts : tie.Need-add-counts
 add-counts c =
     let b = c .before .before in
     omega (arith, b .before .before .before .before .before .before .pre .3 (b .before .before .before .r .given .0 .0))
-
-mul-counts : tie.Need-mul-counts
-mul-counts c = search needs
-
-element-write-counts : tie.Need-element-write-counts
-element-write-counts c = search needs
 
 cast-at : tie.Need-cast-at
 cast-at c =
@@ -86,9 +62,6 @@ mul-table-2 c = omega (arith, in-table c)
 slice-write-table : tie.Need-slice-write-table
 slice-write-table c = omega (arith, in-table c)
 
-same-length : tie.Need-same-length
-same-length c = search needs
-
 returns-4 : tie.Need-returns-4
 returns-4 c =
     let b = c .before .before .before in
@@ -107,23 +80,23 @@ pub put-spec : {M : Type 1} → statement M
 put-spec =
     tie.close
     (tie.spec
-    enum-known-r
-    enum-told
+    (λ c. search needs)
+    (λ c. search needs)
     returns
-    is-of-requires
+    (λ c κs. search needs)
     returns-2
-    cast-o
+    (λ c. search needs)
     returns-3
-    mul-k
-    element-copy-out-k
+    (λ c. search needs)
+    (λ c. search needs)
     add-counts
-    mul-counts
-    element-write-counts
+    (λ c. search needs)
+    (λ c. search needs)
     cast-at
     mul-table
     add-table
     mul-table-2
     slice-write-table
-    same-length
+    (λ c. search needs)
     returns-4
     returns-5)

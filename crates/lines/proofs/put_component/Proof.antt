@@ -9,27 +9,6 @@ use borrow.Author.Needs.{needs}
 use Rattle.lines.proofs.put_component.Statement.{statement}
 use Rattle.lines.proofs.put_component.Tie as tie
 
-kind-word-requires : tie.Need-kind-word-requires
-kind-word-requires c κs = search needs
-
-id-word-requires : tie.Need-id-word-requires
-id-word-requires c κs = search needs
-
-put-ended-requires : tie.Need-put-ended-requires
-put-ended-requires c κs = search needs
-
-put-kind-requires : tie.Need-put-kind-requires
-put-kind-requires c κs = search needs
-
-put-requires : tie.Need-put-requires
-put-requires c κs = search needs
-
-put-ended-requires-2 : tie.Need-put-ended-requires-2
-put-ended-requires-2 c κs = search needs
-
-same-length : tie.Need-same-length
-same-length c = search needs
-
 returns : tie.Need-returns
 unfolding componentLine
 returns c =
@@ -47,11 +26,11 @@ pub put-component-spec : {M : Type 1} → statement M
 put-component-spec =
     tie.close
     (tie.spec
-    kind-word-requires
-    id-word-requires
-    put-ended-requires
-    put-kind-requires
-    put-requires
-    put-ended-requires-2
-    same-length
+    (λ c κs. search needs)
+    (λ c κs. search needs)
+    (λ c κs. search needs)
+    (λ c κs. search needs)
+    (λ c κs. search needs)
+    (λ c κs. search needs)
+    (λ c. search needs)
     returns)

@@ -22,26 +22,11 @@ Inv-loop out₀ at components count next₀ i₀ out next i =
 abbrev μ-loop : tie.MeasureT-loop
 μ-loop out₀ at components count next₀ i₀ out next i = count - i
 
-slice-aggregate-put-counted : tie.Need-slice-aggregate-put-counted Inv-loop μ-loop
-slice-aggregate-put-counted c = search needs
-
-put-counted-requires : tie.Need-put-counted-requires Inv-loop μ-loop
-put-counted-requires c κs = search needs
-
 loop-holds : tie.Need-loop-holds Inv-loop μ-loop
 loop-holds c =
     let a = c .before .before .before .before .before .before .before .args in
     let h = c .before .before .put-counted in
     (omega arith, begun-lines (line (a .components .now)) (a .count) (h .ensures))
-
-put-component-requires : tie.Need-put-component-requires Inv-loop μ-loop
-put-component-requires c κs = search needs
-
-add-i : tie.Need-add-i Inv-loop μ-loop
-add-i c = search needs
-
-loop-less : tie.Need-loop-less Inv-loop μ-loop
-loop-less c = search needs
 
 loop-again : tie.Need-loop-again Inv-loop μ-loop
 loop-again c =
@@ -49,9 +34,6 @@ loop-again c =
     let s = c .before .before .before .before .before .loop in
     let r = c .before .before .put-component in
     (omega arith, next-line (line (a .components .now)) (s .i) (a .count) (omega arith) (s .inv .1) (r .ensures))
-
-same-length : tie.Need-same-length Inv-loop μ-loop
-same-length c = search needs
 
 returns : tie.Need-returns Inv-loop μ-loop
 returns c =
@@ -66,12 +48,12 @@ put-components-spec =
     (tie.spec
     Inv-loop
     μ-loop
-    slice-aggregate-put-counted
-    put-counted-requires
+    (λ c. search needs)
+    (λ c κs. search needs)
     loop-holds
-    put-component-requires
-    add-i
-    loop-less
+    (λ c κs. search needs)
+    (λ c. search needs)
+    (λ c. search needs)
     loop-again
-    same-length
+    (λ c. search needs)
     returns)

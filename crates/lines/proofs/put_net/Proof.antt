@@ -5,15 +5,6 @@ use borrow.Author.Needs.{needs}
 use Rattle.lines.proofs.put_net.Statement.{statement}
 use Rattle.lines.proofs.put_net.Tie as tie
 
-put-components-requires : tie.Need-put-components-requires
-put-components-requires c κs = search needs
-
-put-wires-requires : tie.Need-put-wires-requires
-put-wires-requires c κs = search needs
-
-same-length : tie.Need-same-length
-same-length c = search needs
-
 returns : tie.Need-returns
 returns c =
     let p = c .before .before .before .before .before .before .put-components in
@@ -21,4 +12,4 @@ returns c =
     both (p .ensures) (w .ensures)
 
 pub put-net-spec : {M : Type 1} → statement M
-put-net-spec = tie.close (tie.spec put-components-requires put-wires-requires same-length returns)
+put-net-spec = tie.close (tie.spec (λ c κs. search needs) (λ c κs. search needs) (λ c. search needs) returns)

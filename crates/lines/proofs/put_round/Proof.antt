@@ -11,32 +11,8 @@ use borrow.Author.Needs.{needs}
 use Rattle.lines.proofs.put_round.Statement.{statement}
 use Rattle.lines.proofs.put_round.Tie as tie
 
-slice-aggregate-put-bytes : tie.Need-slice-aggregate-put-bytes
-slice-aggregate-put-bytes c = search needs
-
-put-bytes-requires : tie.Need-put-bytes-requires
-put-bytes-requires c κs = search needs
-
-put-number-requires : tie.Need-put-number-requires
-put-number-requires c κs = search needs
-
-slice-aggregate-put-bytes-2 : tie.Need-slice-aggregate-put-bytes-2
-slice-aggregate-put-bytes-2 c = search needs
-
-put-bytes-requires-2 : tie.Need-put-bytes-requires-2
-put-bytes-requires-2 c κs = search needs
-
 slice-aggregate-put-shorts : tie.Need-slice-aggregate-put-shorts
 slice-aggregate-put-shorts c = sym (length-take-le _ _ (search needs))
-
-put-shorts-requires : tie.Need-put-shorts-requires
-put-shorts-requires c κs = search needs
-
-put-requires : tie.Need-put-requires
-put-requires c κs = search needs
-
-same-length : tie.Need-same-length
-same-length c = search needs
 
 returns : tie.Need-returns
 returns c =
@@ -54,13 +30,13 @@ pub put-round-spec : {M : Type 1} → statement M
 put-round-spec =
     tie.close
     (tie.spec
-    slice-aggregate-put-bytes
-    put-bytes-requires
-    put-number-requires
-    slice-aggregate-put-bytes-2
-    put-bytes-requires-2
+    (λ c. search needs)
+    (λ c κs. search needs)
+    (λ c κs. search needs)
+    (λ c. search needs)
+    (λ c κs. search needs)
     slice-aggregate-put-shorts
-    put-shorts-requires
-    put-requires
-    same-length
+    (λ c κs. search needs)
+    (λ c κs. search needs)
+    (λ c. search needs)
     returns)

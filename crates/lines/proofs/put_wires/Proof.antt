@@ -22,29 +22,11 @@ Inv-loop out₀ at wires count next₀ k₀ out next k =
 abbrev μ-loop : tie.MeasureT-loop
 μ-loop out₀ at wires count next₀ k₀ out next k = count - k
 
-slice-aggregate-put-counted : tie.Need-slice-aggregate-put-counted Inv-loop μ-loop
-slice-aggregate-put-counted c = search needs
-
-put-counted-requires : tie.Need-put-counted-requires Inv-loop μ-loop
-put-counted-requires c κs = search needs
-
 loop-holds : tie.Need-loop-holds Inv-loop μ-loop
 loop-holds c =
     let a = c .before .before .before .before .before .before .before .args in
     let h = c .before .before .put-counted in
     (omega arith, begun-lines (line (a .wires .now)) (a .count) (h .ensures))
-
-wire-at-requires : tie.Need-wire-at-requires Inv-loop μ-loop
-wire-at-requires c κs = search needs
-
-put-wire-requires : tie.Need-put-wire-requires Inv-loop μ-loop
-put-wire-requires c κs = search needs
-
-add-k : tie.Need-add-k Inv-loop μ-loop
-add-k c = search needs
-
-loop-less : tie.Need-loop-less Inv-loop μ-loop
-loop-less c = search needs
 
 loop-again : tie.Need-loop-again Inv-loop μ-loop
 loop-again c =
@@ -52,9 +34,6 @@ loop-again c =
     let s = c .before .before .before .before .before .before .loop in
     let r = c .before .before .put-wire in
     (omega arith, next-line (line (a .wires .now)) (s .k) (a .count) (omega arith) (s .inv .1) (rw (c .before .before .before .wire-at .ensures) at (r .ensures)))
-
-same-length : tie.Need-same-length Inv-loop μ-loop
-same-length c = search needs
 
 returns : tie.Need-returns Inv-loop μ-loop
 returns c =
@@ -69,13 +48,13 @@ put-wires-spec =
     (tie.spec
     Inv-loop
     μ-loop
-    slice-aggregate-put-counted
-    put-counted-requires
+    (λ c. search needs)
+    (λ c κs. search needs)
     loop-holds
-    wire-at-requires
-    put-wire-requires
-    add-k
-    loop-less
+    (λ c κs. search needs)
+    (λ c κs. search needs)
+    (λ c. search needs)
+    (λ c. search needs)
     loop-again
-    same-length
+    (λ c. search needs)
     returns)

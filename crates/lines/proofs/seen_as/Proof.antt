@@ -5,17 +5,8 @@ use borrow.Author.Needs.{needs}
 use Rattle.lines.proofs.seen_as.Statement.{statement}
 use Rattle.lines.proofs.seen_as.Tie as tie
 
-cast-kind-of : tie.Need-cast-kind-of
-cast-kind-of c = search needs
-
-kind-of-requires : tie.Need-kind-of-requires
-kind-of-requires c κs = search needs
-
-returns : tie.Need-returns
-returns c = search needs
-
 returns-2 : tie.Need-returns-2
 returns-2 c = search (no-kind)
 
 pub seen-as-spec : {M : Type 1} → statement M
-seen-as-spec = tie.close (tie.spec cast-kind-of kind-of-requires returns returns-2)
+seen-as-spec = tie.close (tie.spec (λ c. search needs) (λ c κs. search needs) (λ c. search needs) returns-2)

@@ -6,33 +6,6 @@ use borrow.Author.Needs.{needs}
 use Rattle.listing.proofs.round_left.Statement.{statement}
 use Rattle.listing.proofs.round_left.Tie as tie
 
-round-requires : tie.Need-round-requires
-round-requires c κs = search needs
-
-counts-of-requires : tie.Need-counts-of-requires
-counts-of-requires c κs = search needs
-
-is-calm-requires : tie.Need-is-calm-requires
-is-calm-requires c κs = search needs
-
-calm-of-requires : tie.Need-calm-of-requires
-calm-of-requires c κs = search needs
-
-same-length : tie.Need-same-length
-same-length c = search needs
-
-same-length-2 : tie.Need-same-length-2
-same-length-2 c = search needs
-
-same-length-3 : tie.Need-same-length-3
-same-length-3 c = search needs
-
-same-length-4 : tie.Need-same-length-4
-same-length-4 c = search needs
-
-same-length-5 : tie.Need-same-length-5
-same-length-5 c = search needs
-
 returns : tie.Need-returns
 returns c =
     let s = c .before .before .before .before .before .before .before .before .before .before .before .before .before .before .before .before .before .before .before .before .before .before .before .before .before .before .before .before .before .before .before in
@@ -54,13 +27,13 @@ pub round-left-spec : {M : Type 1} → statement M
 round-left-spec =
     tie.close
     (tie.spec
-    round-requires
-    counts-of-requires
-    is-calm-requires
-    calm-of-requires
-    same-length
-    same-length-2
-    same-length-3
-    same-length-4
-    same-length-5
+    (λ c κs. search needs)
+    (λ c κs. search needs)
+    (λ c κs. search needs)
+    (λ c κs. search needs)
+    (λ c. search needs)
+    (λ c. search needs)
+    (λ c. search needs)
+    (λ c. search needs)
+    (λ c. search needs)
     returns)

@@ -21,19 +21,10 @@ start c = c .before .before .before .before .before .before .before .before .bef
 is-net : (c : tie.Else1) → netNumber (came (start c)) ≡ 0
 is-net c = sym (c .before .net-number .ensures) ∙ c .if1 .left
 
-net-number-requires : tie.Need-net-number-requires
-net-number-requires c κs = search needs
-
-refused-by-requires : tie.Need-refused-by-requires
-refused-by-requires c κs = search needs
-
 returns : tie.Need-returns
 returns c =
     let s = c .before .before .before .before .before .before .before .before .before .before in
     rw (c .refused-by .ensures) (index-refused (came s) (s .args .id .0) _ (c .before .before .net-number .ensures) (c .before .if1 .taken))
-
-search-id-requires : tie.Need-search-id-requires
-search-id-requires c κs = search needs
 
 returns-2 : tie.Need-returns-2
 returns-2 c =
@@ -41,4 +32,4 @@ returns-2 c =
     index-found (came s) (s .args .id .0) (c .search-id .result) (is-net (c .before)) (c .search-id .ensures)
 
 pub index-of-spec : {M : Type 1} → statement M
-index-of-spec = tie.close (tie.spec net-number-requires refused-by-requires returns search-id-requires returns-2)
+index-of-spec = tie.close (tie.spec (λ c κs. search needs) (λ c κs. search needs) returns (λ c κs. search needs) returns-2)

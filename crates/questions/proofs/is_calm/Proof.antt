@@ -22,12 +22,6 @@ start c = c .before .before .before .before .before .before .before .before .bef
 is-net : (c : tie.Else1) → netNumber (came (start c)) ≡ 0
 is-net c = sym (c .before .net-number .ensures) ∙ c .if1 .left
 
-net-number-requires : tie.Need-net-number-requires
-net-number-requires c κs = search needs
-
-refused-by-requires : tie.Need-refused-by-requires
-refused-by-requires c κs = search needs
-
 returns : tie.Need-returns
 returns c =
     let s = c .before .before .before .before .before .before .before .before .before .before in
@@ -44,4 +38,4 @@ returns-2 c =
     calm-is (came s) _ (is-net (c .before)) (c .only-clocks .ensures)
 
 pub is-calm-spec : {M : Type 1} → statement M
-is-calm-spec = tie.close (tie.spec net-number-requires refused-by-requires returns only-clocks-requires returns-2)
+is-calm-spec = tie.close (tie.spec (λ c κs. search needs) (λ c κs. search needs) returns only-clocks-requires returns-2)

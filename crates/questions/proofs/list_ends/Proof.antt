@@ -10,21 +10,6 @@ use borrow.Author.Needs.{needs}
 use Rattle.questions.proofs.list_ends.Statement.{statement}
 use Rattle.questions.proofs.list_ends.Tie as tie
 
-slice-aggregate-mark-ends : tie.Need-slice-aggregate-mark-ends
-slice-aggregate-mark-ends c = search needs
-
-mark-ends-requires : tie.Need-mark-ends-requires
-mark-ends-requires c κs = search needs
-
-slice-aggregate-list-marked : tie.Need-slice-aggregate-list-marked
-slice-aggregate-list-marked c = search needs
-
-list-marked-requires : tie.Need-list-marked-requires
-list-marked-requires c κs = search needs
-
-same-length : tie.Need-same-length
-same-length c = search needs
-
 returns : tie.Need-returns
 returns c =
     let at-mark-ends = c .before .before .before .before .before .before in
@@ -41,9 +26,9 @@ pub list-ends-spec : {M : Type 1} → statement M
 list-ends-spec =
     tie.close
     (tie.spec
-    slice-aggregate-mark-ends
-    mark-ends-requires
-    slice-aggregate-list-marked
-    list-marked-requires
-    same-length
+    (λ c. search needs)
+    (λ c κs. search needs)
+    (λ c. search needs)
+    (λ c κs. search needs)
+    (λ c. search needs)
     returns)

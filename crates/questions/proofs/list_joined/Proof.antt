@@ -33,15 +33,6 @@ start c = c .before .before .before .before .before .before .before .before .bef
 passed : (c : tie.Else1) → number (start c) ≡ 0
 passed c = sym (c .before .list-number .ensures) ∙ c .if1 .left
 
-list-number-requires : tie.Need-list-number-requires
-list-number-requires c κs = search needs
-
-refused-by-requires : tie.Need-refused-by-requires
-refused-by-requires c κs = search needs
-
-same-length : tie.Need-same-length
-same-length c = search needs
-
 returns : tie.Need-returns
 returns c =
     let s = c .before .before .before .before .before .before .before .before .before .before .before .before in
@@ -57,9 +48,6 @@ list-ends-requires c κs =
       net-end T z (s .args .far),
     )
 
-same-length-2 : tie.Need-same-length-2
-same-length-2 c = search needs
-
 returns-2 : tie.Need-returns-2
 returns-2 c =
     let e = c .before .before .before .before in
@@ -69,4 +57,4 @@ returns-2 c =
 pub list-joined-spec : {M : Type 1} → statement M
 list-joined-spec =
     tie.close
-    (tie.spec list-number-requires refused-by-requires same-length returns list-ends-requires same-length-2 returns-2)
+    (tie.spec (λ c κs. search needs) (λ c κs. search needs) (λ c. search needs) returns list-ends-requires (λ c. search needs) returns-2)

@@ -19,9 +19,6 @@ returns c =
     let s = c .before .before .before .before .before .before .before .before .before in
     list-short (came s) (s .args .i) (s .args .list .now) (c .if1 .taken)
 
-net-number-requires : tie.Need-net-number-requires
-net-number-requires c κs = search needs
-
 returns-2 : tie.Need-returns-2
 returns-2 c =
     let s = c .before .before .before .before .before .before .before .before .before .before .before in
@@ -45,4 +42,4 @@ returns-4 c =
     (c .if3 .left)
 
 pub list-number-spec : {M : Type 1} → statement M
-list-number-spec = tie.close (tie.spec returns net-number-requires returns-2 returns-3 returns-4)
+list-number-spec = tie.close (tie.spec returns (λ c κs. search needs) returns-2 returns-3 returns-4)

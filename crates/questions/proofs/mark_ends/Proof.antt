@@ -25,15 +25,6 @@ abbrev μ-loop : tie.MeasureT-loop
 loop-holds : tie.Need-loop-holds Inv-loop μ-loop
 loop-holds c = (omega arith, refl, λ j. refl)
 
-wire-at-requires : tie.Need-wire-at-requires Inv-loop μ-loop
-wire-at-requires c κs = search needs
-
-comp-at-requires : tie.Need-comp-at-requires Inv-loop μ-loop
-comp-at-requires c κs = search needs
-
-comp-at-requires-2 : tie.Need-comp-at-requires-2 Inv-loop μ-loop
-comp-at-requires-2 c κs = search needs
-
 -- The ends of the wire of a turn.
 near-end : (c : tie.After-comp-at Inv-loop μ-loop) →
     let l = c .before .before .before in
@@ -50,9 +41,6 @@ slice-write-marks c =
     let at-loop = c .before .before .before .before .before in
     let s = at-loop .before .before .before in
     omega (arith, far-end c, s .pre (at-loop .loop .k) (c .before .before .before .before .loop-test .taken))
-
-add-k : tie.Need-add-k Inv-loop μ-loop
-add-k c = search needs
 
 loop-less : tie.Need-loop-less Inv-loop μ-loop
 loop-less c = omega arith
@@ -97,11 +85,11 @@ mark-ends-spec =
     Inv-loop
     μ-loop
     loop-holds
-    wire-at-requires
-    comp-at-requires
-    comp-at-requires-2
+    (λ c κs. search needs)
+    (λ c κs. search needs)
+    (λ c κs. search needs)
     slice-write-marks
-    add-k
+    (λ c. search needs)
     loop-less
     loop-again
     same-length

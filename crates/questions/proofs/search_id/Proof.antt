@@ -31,9 +31,6 @@ loop-holds c =
     let a = c .before .args in
     (omega arith, ap (first (hasId (a .components .now) (a .id .0))) (from-start (a .count)))
 
-has-id-requires : tie.Need-has-id-requires Inv-loop μ-loop
-has-id-requires c κs = search needs
-
 returns : tie.Need-returns Inv-loop μ-loop
 returns c =
     let a = c .before .before .before .before .before .args in
@@ -41,12 +38,6 @@ returns c =
     ap indexFound
     (first-here (hasId (a .components .now) (a .id .0)) (l .i) (a .count) _ (l .inv .1) (omega arith)
     (sym (c .before .has-id .ensures) ∙ c .if1 .taken))
-
-add-i : tie.Need-add-i Inv-loop μ-loop
-add-i c = search needs
-
-loop-less : tie.Need-loop-less Inv-loop μ-loop
-loop-less c = search needs
 
 loop-again : tie.Need-loop-again Inv-loop μ-loop
 loop-again c =
@@ -56,9 +47,6 @@ loop-again c =
       first-next (hasId (a .components .now) (a .id .0)) (l .i) (a .count) _ (l .inv .1) (omega arith)
           (sym (c .before .has-id .ensures) ∙ c .if1 .left),
     )
-
-refused-by-requires : tie.Need-refused-by-requires Inv-loop μ-loop
-refused-by-requires c κs = search needs
 
 returns-2 : tie.Need-returns-2 Inv-loop μ-loop
 returns-2 c =
@@ -73,10 +61,10 @@ search-id-spec =
     Inv-loop
     μ-loop
     loop-holds
-    has-id-requires
+    (λ c κs. search needs)
     returns
-    add-i
-    loop-less
+    (λ c. search needs)
+    (λ c. search needs)
     loop-again
-    refused-by-requires
+    (λ c κs. search needs)
     returns-2)

@@ -13,12 +13,6 @@ came s =
     (a .following .now)
     (a .standing .now) (a .counts)
 
-list-joined-requires : tie.Need-list-joined-requires
-list-joined-requires c κs = search needs
-
-same-length : tie.Need-same-length
-same-length c = search needs
-
 returns : tie.Need-returns
 returns c =
     let s = c .before .before .before .before .before .before .before .before .before .before .before .before in
@@ -26,4 +20,4 @@ returns c =
     (c .before .before .list-joined .ensures)
 
 pub targets-of-spec : {M : Type 1} → statement M
-targets-of-spec = tie.close (tie.spec list-joined-requires same-length returns)
+targets-of-spec = tie.close (tie.spec (λ c κs. search needs) (λ c. search needs) returns)

@@ -24,9 +24,6 @@ Right s = RowRight (s .args .components .now) (s .args .inputs .now) (s .args .o
 right : (c : tie.Else1) → Right (start c)
 right c = start c .pre (c .if1 .left)
 
-refused-by-requires : tie.Need-refused-by-requires
-refused-by-requires c κs = search needs
-
 returns : tie.Need-returns
 returns c =
     let s = c .before .before .before .before .before .before in
@@ -35,35 +32,11 @@ returns c =
 fields-at-requires : tie.Need-fields-at-requires
 fields-at-requires c κs = right c .fit
 
-enum-told : tie.Need-enum-told
-enum-told c = search needs
-
-first-input-requires : tie.Need-first-input-requires
-first-input-requires c κs = search needs
-
-input-width-requires : tie.Need-input-width-requires
-input-width-requires c κs = search needs
-
-cast-port-value : tie.Need-cast-port-value
-cast-port-value c = search needs
-
 port-value-requires : tie.Need-port-value-requires
 port-value-requires c κs =
     let f = c .before .before .before .before .before in
     let n = ap (λ (f : Fields). f .inputs) (f .fields-at .ensures) in
     omega (arith, right (f .before) .inputs-in, c .before .before .first-input .ensures, n)
-
-enum-told-2 : tie.Need-enum-told-2
-enum-told-2 c = search needs
-
-first-output-requires : tie.Need-first-output-requires
-first-output-requires c κs = search needs
-
-output-width-requires : tie.Need-output-width-requires
-output-width-requires c κs = search needs
-
-cast-port-value-2 : tie.Need-cast-port-value-2
-cast-port-value-2 c = search needs
 
 port-value-requires-2 : tie.Need-port-value-requires-2
 port-value-requires-2 c κs =
@@ -95,18 +68,18 @@ pub value-in-spec : {M : Type 1} → statement M
 value-in-spec =
     tie.close
     (tie.spec
-    refused-by-requires
+    (λ c κs. search needs)
     returns
     fields-at-requires
-    enum-told
-    first-input-requires
-    input-width-requires
-    cast-port-value
+    (λ c. search needs)
+    (λ c κs. search needs)
+    (λ c κs. search needs)
+    (λ c. search needs)
     port-value-requires
-    enum-told-2
-    first-output-requires
-    output-width-requires
-    cast-port-value-2
+    (λ c. search needs)
+    (λ c κs. search needs)
+    (λ c κs. search needs)
+    (λ c. search needs)
     port-value-requires-2
     returns-2
     returns-3)

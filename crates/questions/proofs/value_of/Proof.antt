@@ -21,12 +21,6 @@ start c = c .before .before .before .before .before .before .before .before .bef
 is-net : (c : tie.Else1) → netNumber (came (start c)) ≡ 0
 is-net c = sym (c .before .net-number .ensures) ∙ c .if1 .left
 
-net-number-requires : tie.Need-net-number-requires
-net-number-requires c κs = search needs
-
-refused-by-requires : tie.Need-refused-by-requires
-refused-by-requires c κs = search needs
-
 returns : tie.Need-returns
 returns c =
     let s = c .before .before .before .before .before .before .before .before .before .before in
@@ -45,4 +39,4 @@ returns-2 c =
     value-there (came s) (a .side) (a .index .0) (a .port) (c .value-in .result) (is-net (c .before)) (c .value-in .ensures)
 
 pub value-of-spec : {M : Type 1} → statement M
-value-of-spec = tie.close (tie.spec net-number-requires refused-by-requires returns value-in-requires returns-2)
+value-of-spec = tie.close (tie.spec (λ c κs. search needs) (λ c κs. search needs) returns value-in-requires returns-2)

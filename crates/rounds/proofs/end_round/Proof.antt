@@ -5,24 +5,6 @@ use borrow.Author.Needs.{needs}
 use Rattle.rounds.proofs.end_round.Statement.{statement}
 use Rattle.rounds.proofs.end_round.Tie as tie
 
-copy-requires : tie.Need-copy-requires
-copy-requires c κs = search needs
-
-copy-requires-2 : tie.Need-copy-requires-2
-copy-requires-2 c κs = search needs
-
-copy-requires-3 : tie.Need-copy-requires-3
-copy-requires-3 c κs = search needs
-
-same-length : tie.Need-same-length
-same-length c = search needs
-
-same-length-2 : tie.Need-same-length-2
-same-length-2 c = search needs
-
-same-length-3 : tie.Need-same-length-3
-same-length-3 c = search needs
-
 returns : tie.Need-returns
 returns c =
     let at-copy2 = c .before .before .before .before .before .before in
@@ -35,10 +17,10 @@ pub end-round-spec : {M : Type 1} → statement M
 end-round-spec =
     tie.close
     (tie.spec
-    copy-requires
-    copy-requires-2
-    copy-requires-3
-    same-length
-    same-length-2
-    same-length-3
+    (λ c κs. search needs)
+    (λ c κs. search needs)
+    (λ c κs. search needs)
+    (λ c. search needs)
+    (λ c. search needs)
+    (λ c. search needs)
     returns)

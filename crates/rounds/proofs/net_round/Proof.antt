@@ -17,9 +17,6 @@ came s =
     (s .args .current .now)
     (s .args .following .now) (s .args .standing .now) (s .args .counts)
 
-slice-aggregate-copy : tie.Need-slice-aggregate-copy
-slice-aggregate-copy c = search needs
-
 copy-requires : tie.Need-copy-requires
 copy-requires c κs =
     let s = c .before .before .before .before .before .before .before .before .before in
@@ -27,21 +24,12 @@ copy-requires c κs =
     let f = netNumber-sizes (came s) (s .pre) in
     (omega (arith, w .following, f .following), omega (arith, w .following))
 
-slice-aggregate-copy-2 : tie.Need-slice-aggregate-copy-2
-slice-aggregate-copy-2 c = search needs
-
 copy-requires-2 : tie.Need-copy-requires-2
 copy-requires-2 c κs =
     let s = c .before .before .before .before .before .before .before .before .before .before .before .before .before in
     let w = net-within (came s) (s .pre) in
     let f = netNumber-sizes (came s) (s .pre) in
     (omega (arith, w .standing, f .standing), omega (arith, w .standing))
-
-slice-aggregate-visit-all : tie.Need-slice-aggregate-visit-all
-slice-aggregate-visit-all c = search needs
-
-slice-aggregate-visit-all-2 : tie.Need-slice-aggregate-visit-all-2
-slice-aggregate-visit-all-2 c = search needs
 
 visit-all-requires : tie.Need-visit-all-requires
 visit-all-requires c κs =
@@ -54,12 +42,6 @@ visit-all-requires c κs =
       net-copied (came s) (s .pre) _ _ (omega (arith, at-copy .copy .kept .1 .1 .0)) (at-copy .copy .ensures),
       omega (arith, w .standing, at-copy2 .copy2 .kept .1 .1 .0),
     )
-
-slice-aggregate-end-round : tie.Need-slice-aggregate-end-round
-slice-aggregate-end-round c = search needs
-
-slice-aggregate-end-round-2 : tie.Need-slice-aggregate-end-round-2
-slice-aggregate-end-round-2 c = search needs
 
 end-round-requires : tie.Need-end-round-requires
 end-round-requires c κs =
@@ -77,21 +59,6 @@ end-round-requires c κs =
       omega (arith, v .ensures .standing, l, f .following),
       omega (arith, v .ensures .standing, l, f .standing),
     )
-
-same-length : tie.Need-same-length
-same-length c = search needs
-
-same-length-2 : tie.Need-same-length-2
-same-length-2 c = search needs
-
-same-length-3 : tie.Need-same-length-3
-same-length-3 c = search needs
-
-same-length-4 : tie.Need-same-length-4
-same-length-4 c = search needs
-
-same-length-5 : tie.Need-same-length-5
-same-length-5 c = search needs
 
 returns : tie.Need-returns
 returns c =
@@ -114,19 +81,19 @@ pub net-round-spec : {M : Type 1} → statement M
 net-round-spec =
     tie.close
     (tie.spec
-    slice-aggregate-copy
+    (λ c. search needs)
     copy-requires
-    slice-aggregate-copy-2
+    (λ c. search needs)
     copy-requires-2
-    slice-aggregate-visit-all
-    slice-aggregate-visit-all-2
+    (λ c. search needs)
+    (λ c. search needs)
     visit-all-requires
-    slice-aggregate-end-round
-    slice-aggregate-end-round-2
+    (λ c. search needs)
+    (λ c. search needs)
     end-round-requires
-    same-length
-    same-length-2
-    same-length-3
-    same-length-4
-    same-length-5
+    (λ c. search needs)
+    (λ c. search needs)
+    (λ c. search needs)
+    (λ c. search needs)
+    (λ c. search needs)
     returns)

@@ -26,32 +26,11 @@ target-place : (c : tie.After-first-input) →
     c .first-input .result + s .args .wire .dst .port ≡ inputPlace (T s) (s .args .wire .dst)
 target-place c = ap (λ (x : ℕ). x + c .before .before .before .before .before .before .before .args .wire .dst .port) (c .first-input .ensures)
 
-first-output-requires : tie.Need-first-output-requires
-first-output-requires c κs = search needs
-
-cast-source : tie.Need-cast-source
-cast-source c = search needs
-
 add-source : tie.Need-add-source
 add-source c = omega (arith, c .before .before .before .before .before .before .pre .source, source-place (c .before))
 
-first-input-requires : tie.Need-first-input-requires
-first-input-requires c κs = search needs
-
-cast-target : tie.Need-cast-target
-cast-target c = search needs
-
 add-target : tie.Need-add-target
 add-target c = omega (arith, c .before .before .before .before .before .before .before .before .pre .target, target-place (c .before))
-
-word-requires : tie.Need-word-requires
-word-requires c κs = search needs
-
-word-requires-2 : tie.Need-word-requires-2
-word-requires-2 c κs = search needs
-
-same-length : tie.Need-same-length
-same-length c = search needs
 
 returns : tie.Need-returns
 returns c =
@@ -73,12 +52,6 @@ cast-append-new c = omega (arith, c .before .before .before .before .before .bef
 append-new-requires : tie.Need-append-new-requires
 append-new-requires c κs = let p = c .before .before .before .before .before .before .before .before .before .before .before .before .before .pre in (p .count, p .room)
 
-same-length-2 : tie.Need-same-length-2
-same-length-2 c = search needs
-
-same-length-3 : tie.Need-same-length-3
-same-length-3 c = search needs
-
 returns-2 : tie.Need-returns-2
 returns-2 c =
     let s = c .before .before .before .before .before .before .before .before .before .before .before .before .before .before .before .before in
@@ -92,20 +65,20 @@ pub send-along-spec : {M : Type 1} → statement M
 send-along-spec =
     tie.close
     (tie.spec
-    first-output-requires
-    cast-source
+    (λ c κs. search needs)
+    (λ c. search needs)
     add-source
-    first-input-requires
-    cast-target
+    (λ c κs. search needs)
+    (λ c. search needs)
     add-target
-    word-requires
-    word-requires-2
-    same-length
+    (λ c κs. search needs)
+    (λ c κs. search needs)
+    (λ c. search needs)
     returns
     mul-inputs
     slice-write-inputs
     cast-append-new
     append-new-requires
-    same-length-2
-    same-length-3
+    (λ c. search needs)
+    (λ c. search needs)
     returns-2)

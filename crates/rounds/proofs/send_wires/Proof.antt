@@ -42,9 +42,6 @@ loop-holds c =
           (stateAt [] [] [] []),
     )
 
-wire-at-requires : tie.Need-wire-at-requires Inv-loop μ-loop
-wire-at-requires c κs = search needs
-
 send-along-requires : tie.Need-send-along-requires Inv-loop μ-loop
 send-along-requires c κs =
     let at-if1 = c .before .before .before .before .before in
@@ -57,12 +54,6 @@ send-along-requires c κs =
     rw (c .before .before .before .before .wire-at .ensures)
     (runs-sends (s .args .components .now) (s .args .wires .now) (s .args .counts) (l .inputs) (s .args .outputs .now)
     (l .following) (l .filled) (l .k) g (l .inv .3) (at-if1 .if1 .taken))
-
-add-k : tie.Need-add-k Inv-loop μ-loop
-add-k c = search needs
-
-loop-less : tie.Need-loop-less Inv-loop μ-loop
-loop-less c = search needs
 
 loop-again : tie.Need-loop-again Inv-loop μ-loop
 loop-again c =
@@ -96,12 +87,6 @@ loop-again c =
     ))
     (c .if2 .came)
 
-same-length : tie.Need-same-length Inv-loop μ-loop
-same-length c = search needs
-
-same-length-2 : tie.Need-same-length-2 Inv-loop μ-loop
-same-length-2 c = search needs
-
 returns : tie.Need-returns Inv-loop μ-loop
 returns c =
     let s = c .before .before .before .before .before .before .before .before in
@@ -120,11 +105,11 @@ send-wires-spec =
     Inv-loop
     μ-loop
     loop-holds
-    wire-at-requires
+    (λ c κs. search needs)
     send-along-requires
-    add-k
-    loop-less
+    (λ c. search needs)
+    (λ c. search needs)
     loop-again
-    same-length
-    same-length-2
+    (λ c. search needs)
+    (λ c. search needs)
     returns)

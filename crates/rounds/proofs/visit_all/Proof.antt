@@ -37,9 +37,6 @@ loop-holds c =
     let s = c .before .before .before .before .before .before .before in
     (omega arith, refl, refl, refl, refl, s .pre .2, s .pre .3, refl)
 
-entry-requires : tie.Need-entry-requires Inv-loop μ-loop
-entry-requires c κs = search needs
-
 visit-requires : tie.Need-visit-requires Inv-loop μ-loop
 visit-requires c κs =
     let at-entry = c .before .before .before .before in
@@ -54,12 +51,6 @@ visit-requires c κs =
       listed-at (s .args .components .now) (s .args .wires .now) (s .args .counts) (s .args .count)
           (s .args .list .now) (l .k) _ (s .pre .1) (at-test .loop-test .taken) (at-entry .entry .ensures),
     )
-
-add-k : tie.Need-add-k Inv-loop μ-loop
-add-k c = search needs
-
-loop-less : tie.Need-loop-less Inv-loop μ-loop
-loop-less c = search needs
 
 loop-again : tie.Need-loop-again Inv-loop μ-loop
 loop-again c =
@@ -88,18 +79,6 @@ loop-again c =
           (s .pre .1 .count) (at-entry .entry .ensures) (v .ensures .state) (l .inv .7),
     )
 
-same-length : tie.Need-same-length Inv-loop μ-loop
-same-length c = search needs
-
-same-length-2 : tie.Need-same-length-2 Inv-loop μ-loop
-same-length-2 c = search needs
-
-same-length-3 : tie.Need-same-length-3 Inv-loop μ-loop
-same-length-3 c = search needs
-
-same-length-4 : tie.Need-same-length-4 Inv-loop μ-loop
-same-length-4 c = search needs
-
 returns : tie.Need-returns Inv-loop μ-loop
 returns c =
     let s = c .before .before .before .before .before .before .before .before .before in
@@ -119,13 +98,13 @@ visit-all-spec =
     Inv-loop
     μ-loop
     loop-holds
-    entry-requires
+    (λ c κs. search needs)
     visit-requires
-    add-k
-    loop-less
+    (λ c. search needs)
+    (λ c. search needs)
     loop-again
-    same-length
-    same-length-2
-    same-length-3
-    same-length-4
+    (λ c. search needs)
+    (λ c. search needs)
+    (λ c. search needs)
+    (λ c. search needs)
     returns)

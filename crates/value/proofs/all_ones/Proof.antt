@@ -8,9 +8,6 @@ use Rattle.value.proofs.ValueLaws.{one-shl, shl-ones}
 use Rattle.value.proofs.all_ones.Statement.{statement}
 use Rattle.value.proofs.all_ones.Tie as tie
 
-shl-result : tie.Need-shl-result
-shl-result c = search needs
-
 sub-result : tie.Need-sub-result
 sub-result c = rw (one-shl _ (c .if1 .taken)) (pow-pos _)
 
@@ -22,4 +19,4 @@ returns-2 : tie.Need-returns-2
 returns-2 c = let e : c .before .args .width ≡ 64 = omega arith in rw e
 
 pub all-ones-spec : {M : Type 1} → statement M
-all-ones-spec = tie.close (tie.spec shl-result sub-result returns returns-2)
+all-ones-spec = tie.close (tie.spec (λ c. search needs) sub-result returns returns-2)

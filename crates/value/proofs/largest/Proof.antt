@@ -8,12 +8,6 @@ use Rattle.value.specs.Value.{widest, ones}
 use Rattle.value.proofs.largest.Statement.{statement}
 use Rattle.value.proofs.largest.Tie as tie
 
-all-ones-requires : tie.Need-all-ones-requires
-all-ones-requires c κs = search needs
-
-all-ones-requires-2 : tie.Need-all-ones-requires-2
-all-ones-requires-2 c κs = search needs
-
 returns : tie.Need-returns
 returns c =
     let w = c .before .before .args .width in
@@ -28,4 +22,4 @@ returns-2 c =
     c .all-ones2 .ensures ∙ ap ones e
 
 pub largest-spec : {M : Type 1} → statement M
-largest-spec = tie.close (tie.spec all-ones-requires all-ones-requires-2 returns returns-2)
+largest-spec = tie.close (tie.spec (λ c κs. search needs) (λ c κs. search needs) returns returns-2)

@@ -7,9 +7,6 @@ use Rattle.value.proofs.ValueLaws.{shr-none, word-below}
 use Rattle.value.proofs.lies_below.Statement.{statement}
 use Rattle.value.proofs.lies_below.Tie as tie
 
-shr-result : tie.Need-shr-result
-shr-result c = search needs
-
 returns : tie.Need-returns
 returns c = shr-none (c .before .args .number) (c .before .args .width)
 
@@ -18,4 +15,4 @@ returns-2 : tie.Need-returns-2
 returns-2 c = sym (lt-ltb _ _ (word-below _ _ (search needs) (c .if1 .left)))
 
 pub lies-below-spec : {M : Type 1} → statement M
-lies-below-spec = tie.close (tie.spec shr-result returns returns-2)
+lies-below-spec = tie.close (tie.spec (λ c. search needs) returns returns-2)

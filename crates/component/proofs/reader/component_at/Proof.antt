@@ -5,20 +5,8 @@ use borrow.Author.Needs.{needs}
 use Rattle.component.proofs.reader.component_at.Statement.{statement}
 use Rattle.component.proofs.reader.component_at.Tie as tie
 
-record-at-requires : tie.Need-record-at-requires
-record-at-requires c κs = search needs
-
-enum-known-owner : tie.Need-enum-known-owner
-enum-known-owner c = search needs
-
-enum-told : tie.Need-enum-told
-enum-told c = search needs
-
 returns : tie.Need-returns
 returns c = search (sees-refused)
-
-enum-known-says : tie.Need-enum-known-says
-enum-known-says c = search needs
 
 returns-2 : tie.Need-returns-2
 returns-2 c = search (sees-line)
@@ -30,10 +18,10 @@ pub component-at-spec : {M : Type 1} → statement M
 component-at-spec =
     tie.close
     (tie.spec
-    record-at-requires
-    enum-known-owner
-    enum-told
+    (λ c κs. search needs)
+    (λ c. search needs)
+    (λ c. search needs)
     returns
-    enum-known-says
+    (λ c. search needs)
     returns-2
     returns-3)

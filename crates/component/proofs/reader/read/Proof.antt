@@ -5,9 +5,6 @@ use borrow.Author.Needs.{needs}
 use Rattle.component.proofs.reader.read.Statement.{statement}
 use Rattle.component.proofs.reader.read.Tie as tie
 
-is-well-formed-requires : tie.Need-is-well-formed-requires
-is-well-formed-requires c κs = search needs
-
 returns : tie.Need-returns
 returns c = read-refused (c .before .before .args .r) _ (c .before .is-well-formed .ensures) (c .if1 .taken)
 
@@ -18,4 +15,4 @@ returns-2 : tie.Need-returns-2
 returns-2 c = read-taken (c .before .before .before .args .r) _ (c .before .before .is-well-formed .ensures) (c .take .result) (c .before .if1 .left) (c .take .ensures)
 
 pub read-spec : {M : Type 1} → statement M
-read-spec = tie.close (tie.spec is-well-formed-requires returns take-requires returns-2)
+read-spec = tie.close (tie.spec (λ c κs. search needs) returns take-requires returns-2)

@@ -5,27 +5,6 @@ use borrow.Author.Needs.{needs}
 use Rattle.component.proofs.reader.record_at.Statement.{statement}
 use Rattle.component.proofs.reader.record_at.Tie as tie
 
-mul-a : tie.Need-mul-a
-mul-a c = search needs
-
-add-e : tie.Need-add-e
-add-e c = search needs
-
-sub-numbers : tie.Need-sub-numbers
-sub-numbers c = search needs
-
-part-numbers-start : tie.Need-part-numbers-start
-part-numbers-start c = search needs
-
-part-numbers-end : tie.Need-part-numbers-end
-part-numbers-end c = search needs
-
-numbers-requires : tie.Need-numbers-requires
-numbers-requires c κs = search needs
-
-read-requires : tie.Need-read-requires
-read-requires c κs = search needs
-
 returns : tie.Need-returns
 returns c =
     let b = c .before .before .before in
@@ -39,12 +18,12 @@ pub record-at-spec : {M : Type 1} → statement M
 record-at-spec =
     tie.close
     (tie.spec
-    mul-a
-    add-e
-    sub-numbers
-    part-numbers-start
-    part-numbers-end
-    numbers-requires
-    read-requires
+    (λ c. search needs)
+    (λ c. search needs)
+    (λ c. search needs)
+    (λ c. search needs)
+    (λ c. search needs)
+    (λ c κs. search needs)
+    (λ c κs. search needs)
     returns
     returns-2)

@@ -27,17 +27,8 @@ check-record-requires c κs =
     let s = c .before .before .before .before in
     ((s .pre .0 .0, s .pre .0 .1, c .loop-test .taken), s .pre .1 .1)
 
-cast-t9 : tie.Need-cast-t9 Inv-loop μ-loop
-cast-t9 c = search needs
-
 returns : tie.Need-returns Inv-loop μ-loop
 returns c = search (search-here)
-
-add-p : tie.Need-add-p Inv-loop μ-loop
-add-p c = search needs
-
-loop-less : tie.Need-loop-less Inv-loop μ-loop
-loop-less c = search needs
 
 loop-again : tie.Need-loop-again Inv-loop μ-loop
 loop-again c = search (search-next)
@@ -53,9 +44,9 @@ check-records-spec =
     μ-loop
     loop-holds
     check-record-requires
-    cast-t9
+    (λ c. search needs)
     returns
-    add-p
-    loop-less
+    (λ c. search needs)
+    (λ c. search needs)
     loop-again
     returns-2)

@@ -25,20 +25,8 @@ check-records-requires c κs =
     let s = c .before .before .before .before in
     ((s .pre .0, s .pre .1), (c .before .loop .inv .0, c .before .loop .inv .2))
 
-enum-known-refusal : tie.Need-enum-known-refusal Inv-loop μ-loop
-enum-known-refusal c = search needs
-
 returns : tie.Need-returns Inv-loop μ-loop
 returns c = search (judged-here)
-
-enum-told : tie.Need-enum-told Inv-loop μ-loop
-enum-told c = search needs
-
-add-k : tie.Need-add-k Inv-loop μ-loop
-add-k c = search needs
-
-loop-less : tie.Need-loop-less Inv-loop μ-loop
-loop-less c = search needs
 
 loop-again : tie.Need-loop-again Inv-loop μ-loop
 loop-again c = (omega arith, omega arith, search (passed-next))
@@ -54,10 +42,10 @@ judge-records-spec =
     μ-loop
     loop-holds
     check-records-requires
-    enum-known-refusal
+    (λ c. search needs)
     returns
-    enum-told
-    add-k
-    loop-less
+    (λ c. search needs)
+    (λ c. search needs)
+    (λ c. search needs)
     loop-again
     returns-2)

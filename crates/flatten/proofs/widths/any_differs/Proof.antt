@@ -26,17 +26,8 @@ loop-holds c = search (differs-start)
 target-at-requires : tie.Need-target-at-requires Inv-loop μ-loop
 target-at-requires c κs = omega arith
 
-differs-requires : tie.Need-differs-requires Inv-loop μ-loop
-differs-requires c κs = search needs
-
 returns : tie.Need-returns Inv-loop μ-loop
 returns c = search (any-here, differs-at)
-
-add-k : tie.Need-add-k Inv-loop μ-loop
-add-k c = search needs
-
-loop-less : tie.Need-loop-less Inv-loop μ-loop
-loop-less c = search needs
 
 loop-again : tie.Need-loop-again Inv-loop μ-loop
 loop-again c = search (any-next, differs-at)
@@ -52,9 +43,9 @@ any-differs-spec =
     μ-loop
     loop-holds
     target-at-requires
-    differs-requires
+    (λ c κs. search needs)
     returns
-    add-k
-    loop-less
+    (λ c. search needs)
+    (λ c. search needs)
     loop-again
     returns-2)

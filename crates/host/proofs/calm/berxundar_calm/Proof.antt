@@ -21,21 +21,12 @@ returns : tie.Need-returns
 returns c =
     ask-short _ _ _ _ _ _ (c .if1 .taken)
 
-counts-in-requires : tie.Need-counts-in-requires
-counts-in-requires c κs = search needs
-
-is-calm-requires : tie.Need-is-calm-requires
-is-calm-requires c κs = search needs
-
 lay-calm-requires : tie.Need-lay-calm-requires
 lay-calm-requires c κs =
     let s = c .before .before .before .before .before .before .before .before .before .before .before .before .before in (
       enough-found (s .args .counts .now) (s .args .found .now) 1 (c .before .before .before .if1 .left),
       plain-fits (calmGives (c .before .is-calm .result)) (calm-plain (came s (c .before .before .counts-in .result)) (c .before .is-calm .result) (c .before .is-calm .ensures)),
     )
-
-same-length : tie.Need-same-length
-same-length c = search needs
 
 returns-2 : tie.Need-returns-2
 returns-2 c =
@@ -50,4 +41,4 @@ returns-2 c =
 pub berxundar-calm-spec : {M : Type 1} → statement M
 berxundar-calm-spec =
     tie.close
-    (tie.spec returns counts-in-requires is-calm-requires lay-calm-requires same-length returns-2)
+    (tie.spec returns (λ c κs. search needs) (λ c κs. search needs) lay-calm-requires (λ c. search needs) returns-2)

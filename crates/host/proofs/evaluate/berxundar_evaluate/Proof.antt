@@ -8,17 +8,11 @@ use borrow.Author.Needs.{needs}
 use Rattle.host.proofs.evaluate.berxundar_evaluate.Statement.{statement}
 use Rattle.host.proofs.evaluate.berxundar_evaluate.Tie as tie
 
-evaluate-requires : tie.Need-evaluate-requires
-evaluate-requires c κs = search needs
-
 say-evaluated-requires : tie.Need-say-evaluated-requires
 say-evaluated-requires c κs =
     let a = c .before .before .before .before .before .before .before .before .args in
     let f = fieldsFrom (a .kind) (a .ins) (a .outs) (a .width) (a .parameter) in
     plain-fits (evaluatedGives (c .before .before .evaluate .result)) (evaluate-plain f (a .inputs .now) (a .entering .now) (a .outputs .now) (a .leaving .now) (evaluatedGives (c .before .before .evaluate .result)) (c .before .before .evaluate .ensures .0))
-
-same-length : tie.Need-same-length
-same-length c = search needs
 
 returns : tie.Need-returns
 returns c =
@@ -34,4 +28,4 @@ returns c =
 
 pub berxundar-evaluate-spec : {M : Type 1} → statement M
 berxundar-evaluate-spec =
-    tie.close (tie.spec evaluate-requires say-evaluated-requires same-length returns)
+    tie.close (tie.spec (λ c κs. search needs) say-evaluated-requires (λ c. search needs) returns)

@@ -21,21 +21,12 @@ returns : tie.Need-returns
 returns c =
     ask-short _ _ _ _ _ _ (c .if1 .taken)
 
-counts-in-requires : tie.Need-counts-in-requires
-counts-in-requires c κs = search needs
-
-index-of-requires : tie.Need-index-of-requires
-index-of-requires c κs = search needs
-
 lay-index-requires : tie.Need-lay-index-requires
 lay-index-requires c κs =
     let s = c .before .before .before .before .before .before .before .before .before .before .before .before .before in (
       enough-found (s .args .counts .now) (s .args .found .now) 1 (c .before .before .before .if1 .left),
       plain-fits (indexGives (c .before .index-of .result)) (index-plain (came s (c .before .before .counts-in .result)) (s .args .id) (c .before .index-of .result) (c .before .index-of .ensures)),
     )
-
-same-length : tie.Need-same-length
-same-length c = search needs
 
 returns-2 : tie.Need-returns-2
 returns-2 c =
@@ -52,8 +43,8 @@ berxundar-index-spec =
     tie.close
     (tie.spec
     returns
-    counts-in-requires
-    index-of-requires
+    (λ c κs. search needs)
+    (λ c κs. search needs)
     lay-index-requires
-    same-length
+    (λ c. search needs)
     returns-2)

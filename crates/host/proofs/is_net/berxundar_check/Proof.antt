@@ -48,12 +48,6 @@ returns c =
     let s = c .before .before .before .before .before .before .before .before .before in
     ask-short _ _ _ _ _ (came s) (lt-ltb (length (s .args .counts .now)) 7 (c .if1 .taken))
 
-counts-in-requires : tie.Need-counts-in-requires
-counts-in-requires c κs = search needs
-
-net-number-requires : tie.Need-net-number-requires
-net-number-requires c κs = search needs
-
 speak-requires : tie.Need-speak-requires
 speak-requires c κs =
     rw (c .net-number .ensures) (omega (arith, net-small (came (c .before .before .before .before .before .before .before .before .before .before .before) (c .before .counts-in .result))))
@@ -71,4 +65,4 @@ returns-2 c =
 
 pub berxundar-check-spec : {M : Type 1} → statement M
 berxundar-check-spec =
-    tie.close (tie.spec returns counts-in-requires net-number-requires speak-requires returns-2)
+    tie.close (tie.spec returns (λ c κs. search needs) (λ c κs. search needs) speak-requires returns-2)

@@ -11,15 +11,6 @@ use borrow.Author.Needs.{needs}
 use Rattle.host.proofs.judge.berxundar_judge.Statement.{statement}
 use Rattle.host.proofs.judge.berxundar_judge.Tie as tie
 
-judge-requires : tie.Need-judge-requires
-judge-requires c κs = search needs
-
-enum-told : tie.Need-enum-told
-enum-told c = search needs
-
-enum-known-refusal : tie.Need-enum-known-refusal
-enum-known-refusal c = search needs
-
 mul-result : tie.Need-mul-result
 mul-result c =
     let r = c .before .before in
@@ -41,4 +32,4 @@ returns-2 c = ap (λ (v : Verdict). spoken (verdictGives v [])) (sym (c .before 
 pub berxundar-judge-spec : {M : Type 1} → statement M
 berxundar-judge-spec =
     tie.close
-    (tie.spec judge-requires enum-told enum-known-refusal mul-result add-result returns returns-2)
+    (tie.spec (λ c κs. search needs) (λ c. search needs) (λ c. search needs) mul-result add-result returns returns-2)

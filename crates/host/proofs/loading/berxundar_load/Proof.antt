@@ -18,9 +18,6 @@ came s =
     (s .args .current .now)
     (s .args .following .now) (s .args .standing .now)
 
-is-sized-requires : tie.Need-is-sized-requires
-is-sized-requires c κs = search needs
-
 returns : tie.Need-returns
 returns c =
     load-unsized _ _ _ (sym (c .before .is-sized .ensures) ∙ not-true _ (c .if1 .taken))
@@ -29,38 +26,11 @@ returns-2 : tie.Need-returns-2
 returns-2 c =
     load-short _ _ _ (sym (c .before .before .is-sized .ensures) ∙ not-false _ (c .before .if1 .left)) (c .if2 .taken)
 
-load-requires : tie.Need-load-requires
-load-requires c κs = search needs
-
 keep-loaded-requires : tie.Need-keep-loaded-requires
 keep-loaded-requires c κs =
     let s = c .before .before .before .before .before .before .before .before .before .before .before .before .before .before .before .before .before .before .before .before .before .before .before .before .before .before .before .before .before .before .before .before .before .before .before in
     let T = came s (countsIn (s .args .counts .now)) in
     (c .before .before .before .before .before .before .before .before .before .before .before .before .before .before .before .before .before .before .before .before .before .before .before .if2 .left, load-small (s .args .file .now) T (answerGives (c .before .before .before .before .before .before .before .before .before .before .before .before .before .before .before .load .result)) _ (c .before .before .before .before .before .before .before .before .before .before .before .before .before .before .before .load .ensures (countsIn (s .args .counts .now)) .0))
-
-same-length : tie.Need-same-length
-same-length c = search needs
-
-same-length-2 : tie.Need-same-length-2
-same-length-2 c = search needs
-
-same-length-3 : tie.Need-same-length-3
-same-length-3 c = search needs
-
-same-length-4 : tie.Need-same-length-4
-same-length-4 c = search needs
-
-same-length-5 : tie.Need-same-length-5
-same-length-5 c = search needs
-
-same-length-6 : tie.Need-same-length-6
-same-length-6 c = search needs
-
-same-length-7 : tie.Need-same-length-7
-same-length-7 c = search needs
-
-same-length-8 : tie.Need-same-length-8
-same-length-8 c = search needs
 
 returns-3 : tie.Need-returns-3
 returns-3 c =
@@ -74,17 +44,17 @@ pub berxundar-load-spec : {M : Type 1} → statement M
 berxundar-load-spec =
     tie.close
     (tie.spec
-    is-sized-requires
+    (λ c κs. search needs)
     returns
     returns-2
-    load-requires
+    (λ c κs. search needs)
     keep-loaded-requires
-    same-length
-    same-length-2
-    same-length-3
-    same-length-4
-    same-length-5
-    same-length-6
-    same-length-7
-    same-length-8
+    (λ c. search needs)
+    (λ c. search needs)
+    (λ c. search needs)
+    (λ c. search needs)
+    (λ c. search needs)
+    (λ c. search needs)
+    (λ c. search needs)
+    (λ c. search needs)
     returns-3)

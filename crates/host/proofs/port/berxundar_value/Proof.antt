@@ -23,24 +23,12 @@ returns : tie.Need-returns
 returns c =
     ask-short _ _ _ _ _ _ (c .if1 .taken)
 
-counts-in-requires : tie.Need-counts-in-requires
-counts-in-requires c κs = search needs
-
-side-of-requires : tie.Need-side-of-requires
-side-of-requires c κs = search needs
-
-value-of-requires : tie.Need-value-of-requires
-value-of-requires c κs = search needs
-
 lay-value-requires : tie.Need-lay-value-requires
 lay-value-requires c κs =
     let s = c .before .before .before .before .before .before .before .before .before .before .before .before .before .before in (
       enough-found (s .args .counts .now) (s .args .found .now) 2 (c .before .before .before .before .if1 .left),
       plain-fits (valueGives (c .before .value-of .result)) (value-plain (came s (c .before .before .before .counts-in .result)) (c .before .before .side-of .result) (s .args .index) (s .args .port) (c .before .value-of .result) (c .before .value-of .ensures)),
     )
-
-same-length : tie.Need-same-length
-same-length c = search needs
 
 returns-2 : tie.Need-returns-2
 returns-2 c =
@@ -57,9 +45,9 @@ berxundar-value-spec =
     tie.close
     (tie.spec
     returns
-    counts-in-requires
-    side-of-requires
-    value-of-requires
+    (λ c κs. search needs)
+    (λ c κs. search needs)
+    (λ c κs. search needs)
     lay-value-requires
-    same-length
+    (λ c. search needs)
     returns-2)

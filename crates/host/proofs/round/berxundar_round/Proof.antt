@@ -21,12 +21,6 @@ returns : tie.Need-returns
 returns c =
     change-short _ _ _ (c .if1 .taken)
 
-counts-in-requires : tie.Need-counts-in-requires
-counts-in-requires c κs = search needs
-
-round-requires : tie.Need-round-requires
-round-requires c κs = search needs
-
 keep-requires : tie.Need-keep-requires
 keep-requires c κs =
     let s = c .before .before .before .before .before .before .before .before .before .before .before .before .before .before .before .before .before .before .before .before .before .before .before .before .before .before .before .before in
@@ -34,24 +28,6 @@ keep-requires c κs =
       c .before .before .before .before .before .before .before .before .before .before .before .before .before .before .before .before .before .before .before .if1 .left,
       plain-fits (answerGives (r .result)) (changed-plain (came s (c .before .before .before .before .before .before .before .before .before .before .before .before .counts-in .result)) (answerGives (r .result)) _ (r .ensures .0)),
     )
-
-same-length : tie.Need-same-length
-same-length c = search needs
-
-same-length-2 : tie.Need-same-length-2
-same-length-2 c = search needs
-
-same-length-3 : tie.Need-same-length-3
-same-length-3 c = search needs
-
-same-length-4 : tie.Need-same-length-4
-same-length-4 c = search needs
-
-same-length-5 : tie.Need-same-length-5
-same-length-5 c = search needs
-
-same-length-6 : tie.Need-same-length-6
-same-length-6 c = search needs
 
 returns-2 : tie.Need-returns-2
 returns-2 c =
@@ -69,13 +45,13 @@ berxundar-round-spec =
     tie.close
     (tie.spec
     returns
-    counts-in-requires
-    round-requires
+    (λ c κs. search needs)
+    (λ c κs. search needs)
     keep-requires
-    same-length
-    same-length-2
-    same-length-3
-    same-length-4
-    same-length-5
-    same-length-6
+    (λ c. search needs)
+    (λ c. search needs)
+    (λ c. search needs)
+    (λ c. search needs)
+    (λ c. search needs)
+    (λ c. search needs)
     returns-2)

@@ -21,12 +21,6 @@ returns : tie.Need-returns
 returns c =
     run-short _ _ _ _ (c .if1 .taken)
 
-counts-in-requires : tie.Need-counts-in-requires
-counts-in-requires c κs = search needs
-
-run-until-calm-requires : tie.Need-run-until-calm-requires
-run-until-calm-requires c κs = search needs
-
 lay-run-requires : tie.Need-lay-run-requires
 lay-run-requires c κs =
     let s = c .before .before .before .before .before .before .before .before .before .before .before .before .before .before .before .before .before .before .before .before .before .before .before .before .before .before .before .before .before .before in
@@ -35,27 +29,6 @@ lay-run-requires c κs =
       enough-found (s .args .counts .now) (s .args .found .now) 2 h,
       plain-fits (ranGives (c .before .before .before .before .before .before .before .before .before .before .before .before .run-until-calm .result)) (changed-plain (came s (c .before .before .before .before .before .before .before .before .before .before .before .before .before .counts-in .result)) (ranGives (c .before .before .before .before .before .before .before .before .before .before .before .before .run-until-calm .result)) _ (c .before .before .before .before .before .before .before .before .before .before .before .before .run-until-calm .ensures .0)),
     )
-
-same-length : tie.Need-same-length
-same-length c = search needs
-
-same-length-2 : tie.Need-same-length-2
-same-length-2 c = search needs
-
-same-length-3 : tie.Need-same-length-3
-same-length-3 c = search needs
-
-same-length-4 : tie.Need-same-length-4
-same-length-4 c = search needs
-
-same-length-5 : tie.Need-same-length-5
-same-length-5 c = search needs
-
-same-length-6 : tie.Need-same-length-6
-same-length-6 c = search needs
-
-same-length-7 : tie.Need-same-length-7
-same-length-7 c = search needs
 
 returns-2 : tie.Need-returns-2
 returns-2 c =
@@ -73,14 +46,14 @@ berxundar-run-until-calm-spec =
     tie.close
     (tie.spec
     returns
-    counts-in-requires
-    run-until-calm-requires
+    (λ c κs. search needs)
+    (λ c κs. search needs)
     lay-run-requires
-    same-length
-    same-length-2
-    same-length-3
-    same-length-4
-    same-length-5
-    same-length-6
-    same-length-7
+    (λ c. search needs)
+    (λ c. search needs)
+    (λ c. search needs)
+    (λ c. search needs)
+    (λ c. search needs)
+    (λ c. search needs)
+    (λ c. search needs)
     returns-2)

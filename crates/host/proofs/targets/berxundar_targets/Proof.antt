@@ -21,24 +21,12 @@ returns : tie.Need-returns
 returns c =
     list-short _ _ _ _ _ (c .if1 .taken)
 
-counts-in-requires : tie.Need-counts-in-requires
-counts-in-requires c κs = search needs
-
-targets-of-requires : tie.Need-targets-of-requires
-targets-of-requires c κs = search needs
-
 lay-listed-requires : tie.Need-lay-listed-requires
 lay-listed-requires c κs =
     let s = c .before .before .before .before .before .before .before .before .before .before .before .before .before .before .before .before .before in (
       enough-found (s .args .counts .now) (s .args .found .now) 1 (c .before .before .before .before .before .before .if1 .left),
       plain-fits (listGives (c .before .before .before .targets-of .result)) (listed-plain (came s (c .before .before .before .before .before .counts-in .result)) (s .args .index) (s .args .list .now) (listGives (c .before .before .before .targets-of .result)) _ (c .before .before .before .targets-of .ensures .0)),
     )
-
-same-length : tie.Need-same-length
-same-length c = search needs
-
-same-length-2 : tie.Need-same-length-2
-same-length-2 c = search needs
 
 returns-2 : tie.Need-returns-2
 returns-2 c =
@@ -56,9 +44,9 @@ berxundar-targets-spec =
     tie.close
     (tie.spec
     returns
-    counts-in-requires
-    targets-of-requires
+    (λ c κs. search needs)
+    (λ c κs. search needs)
     lay-listed-requires
-    same-length
-    same-length-2
+    (λ c. search needs)
+    (λ c. search needs)
     returns-2)

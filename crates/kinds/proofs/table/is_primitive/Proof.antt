@@ -4,14 +4,8 @@ use borrow.Author.Needs.{needs}
 use Rattle.kinds.proofs.table.is_primitive.Statement.{statement}
 use Rattle.kinds.proofs.table.is_primitive.Tie as tie
 
-is-kept-requires : tie.Need-is-kept-requires
-is-kept-requires c κs = search needs
-
-is-unknown-requires : tie.Need-is-unknown-requires
-is-unknown-requires c κs = search needs
-
 returns : tie.Need-returns
 returns c = rw (c .before .is-kept .ensures, c .is-unknown .ensures)
 
 pub is-primitive-spec : {M : Type 1} → statement M
-is-primitive-spec = tie.close (tie.spec is-kept-requires is-unknown-requires returns)
+is-primitive-spec = tie.close (tie.spec (λ c κs. search needs) (λ c κs. search needs) returns)

@@ -2,99 +2,6 @@ use borrow.Author.Needs.{needs}
 use Rattle.kinds.proofs.table.table_row.Statement.{statement}
 use Rattle.kinds.proofs.table.table_row.Tie as tie
 
-enum-told : tie.Need-enum-told
-enum-told c = search needs
-
-line-requires : tie.Need-line-requires
-line-requires c κs = search needs
-
-enum-told-2 : tie.Need-enum-told-2
-enum-told-2 c = search needs
-
-line-requires-2 : tie.Need-line-requires-2
-line-requires-2 c κs = search needs
-
-enum-told-3 : tie.Need-enum-told-3
-enum-told-3 c = search needs
-
-line-requires-3 : tie.Need-line-requires-3
-line-requires-3 c κs = search needs
-
-enum-told-4 : tie.Need-enum-told-4
-enum-told-4 c = search needs
-
-line-requires-4 : tie.Need-line-requires-4
-line-requires-4 c κs = search needs
-
-enum-told-5 : tie.Need-enum-told-5
-enum-told-5 c = search needs
-
-line-requires-5 : tie.Need-line-requires-5
-line-requires-5 c κs = search needs
-
-enum-told-6 : tie.Need-enum-told-6
-enum-told-6 c = search needs
-
-line-requires-6 : tie.Need-line-requires-6
-line-requires-6 c κs = search needs
-
-enum-told-7 : tie.Need-enum-told-7
-enum-told-7 c = search needs
-
-line-requires-7 : tie.Need-line-requires-7
-line-requires-7 c κs = search needs
-
-enum-told-8 : tie.Need-enum-told-8
-enum-told-8 c = search needs
-
-line-requires-8 : tie.Need-line-requires-8
-line-requires-8 c κs = search needs
-
-enum-told-9 : tie.Need-enum-told-9
-enum-told-9 c = search needs
-
-line-requires-9 : tie.Need-line-requires-9
-line-requires-9 c κs = search needs
-
-enum-told-10 : tie.Need-enum-told-10
-enum-told-10 c = search needs
-
-line-requires-10 : tie.Need-line-requires-10
-line-requires-10 c κs = search needs
-
-enum-told-11 : tie.Need-enum-told-11
-enum-told-11 c = search needs
-
-only-requires : tie.Need-only-requires
-only-requires c κs = search needs
-
-line-requires-11 : tie.Need-line-requires-11
-line-requires-11 c κs = search needs
-
-enum-told-12 : tie.Need-enum-told-12
-enum-told-12 c = search needs
-
-only-requires-2 : tie.Need-only-requires-2
-only-requires-2 c κs = search needs
-
-line-requires-12 : tie.Need-line-requires-12
-line-requires-12 c κs = search needs
-
-enum-told-13 : tie.Need-enum-told-13
-enum-told-13 c = search needs
-
-line-requires-13 : tie.Need-line-requires-13
-line-requires-13 c κs = search needs
-
-enum-told-14 : tie.Need-enum-told-14
-enum-told-14 c = search needs
-
-values-requires : tie.Need-values-requires
-values-requires c κs = search needs
-
-line-requires-14 : tie.Need-line-requires-14
-line-requires-14 c κs = search needs
-
 returns : tie.Need-returns
 returns c = rw (c .line .ensures, c .before .enum-told .given .1)
 
@@ -141,37 +48,37 @@ pub table-row-spec : {M : Type 1} → statement M
 table-row-spec =
     tie.close
     (tie.spec
-    enum-told
-    line-requires
-    enum-told-2
-    line-requires-2
-    enum-told-3
-    line-requires-3
-    enum-told-4
-    line-requires-4
-    enum-told-5
-    line-requires-5
-    enum-told-6
-    line-requires-6
-    enum-told-7
-    line-requires-7
-    enum-told-8
-    line-requires-8
-    enum-told-9
-    line-requires-9
-    enum-told-10
-    line-requires-10
-    enum-told-11
-    only-requires
-    line-requires-11
-    enum-told-12
-    only-requires-2
-    line-requires-12
-    enum-told-13
-    line-requires-13
-    enum-told-14
-    values-requires
-    line-requires-14
+    (λ c. search needs)
+    (λ c κs. search needs)
+    (λ c. search needs)
+    (λ c κs. search needs)
+    (λ c. search needs)
+    (λ c κs. search needs)
+    (λ c. search needs)
+    (λ c κs. search needs)
+    (λ c. search needs)
+    (λ c κs. search needs)
+    (λ c. search needs)
+    (λ c κs. search needs)
+    (λ c. search needs)
+    (λ c κs. search needs)
+    (λ c. search needs)
+    (λ c κs. search needs)
+    (λ c. search needs)
+    (λ c κs. search needs)
+    (λ c. search needs)
+    (λ c κs. search needs)
+    (λ c. search needs)
+    (λ c κs. search needs)
+    (λ c κs. search needs)
+    (λ c. search needs)
+    (λ c κs. search needs)
+    (λ c κs. search needs)
+    (λ c. search needs)
+    (λ c κs. search needs)
+    (λ c. search needs)
+    (λ c κs. search needs)
+    (λ c κs. search needs)
     returns
     returns-2
     returns-3

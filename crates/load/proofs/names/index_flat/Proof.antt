@@ -29,9 +29,6 @@ mul-flat c = omega arith
 slice-write-flat : tie.Need-slice-write-flat Inv-loop μ-loop
 slice-write-flat c = omega arith
 
-is-primitive-at-requires : tie.Need-is-primitive-at-requires Inv-loop μ-loop
-is-primitive-at-requires c κs = search needs
-
 add-count : tie.Need-add-count Inv-loop μ-loop
 add-count c =
     let l = c .before .before .before .loop in
@@ -86,7 +83,7 @@ index-flat-spec =
     loop-holds
     mul-flat
     slice-write-flat
-    is-primitive-at-requires
+    (λ c κs. search needs)
     add-count
     add-c
     loop-less

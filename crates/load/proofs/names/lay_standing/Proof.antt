@@ -23,9 +23,6 @@ abbrev μ-loop : tie.MeasureT-loop
 loop-holds : tie.Need-loop-holds Inv-loop μ-loop
 loop-holds c = (omega arith, refl, laid-start _ _)
 
-drawn-at-requires : tie.Need-drawn-at-requires Inv-loop μ-loop
-drawn-at-requires c κs = search needs
-
 stand-requires : tie.Need-stand-requires Inv-loop μ-loop
 stand-requires c κs =
     let l = c .before .before .before .loop in
@@ -71,7 +68,7 @@ lay-standing-spec =
     Inv-loop
     μ-loop
     loop-holds
-    drawn-at-requires
+    (λ c κs. search needs)
     stand-requires
     add-p
     loop-less

@@ -23,9 +23,6 @@ abbrev μ-loop : tie.MeasureT-loop
 loop-holds : tie.Need-loop-holds Inv-loop μ-loop
 loop-holds c = (omega arith, refl, laid-start _ _)
 
-drawn-at-requires : tie.Need-drawn-at-requires Inv-loop μ-loop
-drawn-at-requires c κs = search needs
-
 lay-component-requires : tie.Need-lay-component-requires Inv-loop μ-loop
 lay-component-requires c κs =
     let l = c .before .before .before .loop in
@@ -75,7 +72,7 @@ lay-components-spec =
     Inv-loop
     μ-loop
     loop-holds
-    drawn-at-requires
+    (λ c κs. search needs)
     lay-component-requires
     add-p
     loop-less

@@ -5,22 +5,10 @@ use borrow.Author.Needs.{needs}
 use Rattle.load.proofs.rows.lay_output.Statement.{statement}
 use Rattle.load.proofs.rows.lay_output.Tie as tie
 
-enum-known-drawn : tie.Need-enum-known-drawn
-enum-known-drawn c = search needs
-
-enum-told : tie.Need-enum-told
-enum-told c = search needs
-
 returns : tie.Need-returns
 returns c =
     let a = c .before .before .before .args in
     outputs-none (a .drawn) (c .enum-told .given .1) (a .outputs .now) (a .at)
-
-number-of-requires : tie.Need-number-of-requires
-number-of-requires c κs = search needs
-
-mul-outputs : tie.Need-mul-outputs
-mul-outputs c = search needs
 
 slice-write-outputs : tie.Need-slice-write-outputs
 slice-write-outputs c =
@@ -28,20 +16,11 @@ slice-write-outputs c =
     const-room _ _ (s .args .drawn) (c .before .before .before .before .drawn .given .1) _
     (c .before .before .number-of .ensures) (s .args .outputs .now) (s .args .at) (c .if1 .taken) (s .pre)
 
-add-result : tie.Need-add-result
-add-result c = search needs
-
-same-length : tie.Need-same-length
-same-length c = search needs
-
 returns-2 : tie.Need-returns-2
 returns-2 c =
     let s = c .before .before .before .before .before .before .before in
     const-laid _ _ (s .args .drawn) (c .before .before .before .before .drawn .given .1) _
     (c .before .before .number-of .ensures) (s .args .outputs .now) (s .args .at) (c .if1 .taken)
-
-wide-requires : tie.Need-wide-requires
-wide-requires c κs = search needs
 
 zeros-requires : tie.Need-zeros-requires
 zeros-requires c κs =
@@ -50,12 +29,6 @@ zeros-requires c κs =
     (c .before .before .before .before .number-of .ensures) (s .args .outputs .now) (s .args .at)
     (c .before .before .if1 .left)
     _ (c .before .wide .ensures .0) (s .pre)
-
-add-result-2 : tie.Need-add-result-2
-add-result-2 c = search needs
-
-same-length-2 : tie.Need-same-length-2
-same-length-2 c = search needs
 
 returns-3 : tie.Need-returns-3
 returns-3 c =
@@ -69,17 +42,17 @@ pub lay-output-spec : {M : Type 1} → statement M
 lay-output-spec =
     tie.close
     (tie.spec
-    enum-known-drawn
-    enum-told
+    (λ c. search needs)
+    (λ c. search needs)
     returns
-    number-of-requires
-    mul-outputs
+    (λ c κs. search needs)
+    (λ c. search needs)
     slice-write-outputs
-    add-result
-    same-length
+    (λ c. search needs)
+    (λ c. search needs)
     returns-2
-    wide-requires
+    (λ c κs. search needs)
     zeros-requires
-    add-result-2
-    same-length-2
+    (λ c. search needs)
+    (λ c. search needs)
     returns-3)

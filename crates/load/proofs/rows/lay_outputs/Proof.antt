@@ -20,9 +20,6 @@ abbrev μ-loop : tie.MeasureT-loop
 loop-holds : tie.Need-loop-holds Inv-loop μ-loop
 loop-holds c = (omega arith, laid-start _ _)
 
-drawn-at-requires : tie.Need-drawn-at-requires Inv-loop μ-loop
-drawn-at-requires c κs = search needs
-
 lay-output-requires : tie.Need-lay-output-requires Inv-loop μ-loop
 lay-output-requires c κs =
     let l = c .before .before .before .loop in
@@ -65,7 +62,7 @@ lay-outputs-spec =
     Inv-loop
     μ-loop
     loop-holds
-    drawn-at-requires
+    (λ c κs. search needs)
     lay-output-requires
     add-p
     loop-less

@@ -7,16 +7,10 @@ use borrow.Author.Needs.{needs}
 use Rattle.net.proofs.ids.id_at.Statement.{statement}
 use Rattle.net.proofs.ids.id_at.Tie as tie
 
-id-word-requires : tie.Need-id-word-requires
-id-word-requires c κs = search needs
-
 cast-t4 : tie.Need-cast-t4
 cast-t4 c =
     let s = c .before .before in
     omega (arith, c .id-word .ensures, below-lt (idIn (s .args .components .now) (s .args .i)) 32 (s .pre))
 
-returns : tie.Need-returns
-returns c = search needs
-
 pub id-at-spec : {M : Type 1} → statement M
-id-at-spec = tie.close (tie.spec id-word-requires cast-t4 returns)
+id-at-spec = tie.close (tie.spec (λ c κs. search needs) cast-t4 (λ c. search needs))

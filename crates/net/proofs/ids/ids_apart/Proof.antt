@@ -32,12 +32,6 @@ id-at-requires c κs =
     let s = c .before .before .before in
     every-from (λ i. below (idIn (s .args .components .now) i) 32) (s .args .count) (s .pre) (c .before .loop .i) (omega arith)
 
-add-id-from : tie.Need-add-id-from Inv-loop μ-loop
-add-id-from c = search needs
-
-id-from-requires : tie.Need-id-from-requires Inv-loop μ-loop
-id-from-requires c κs = search needs
-
 returns : tie.Need-returns Inv-loop μ-loop
 returns c =
     let a = c .before .before .before .before .before .before .args in
@@ -46,12 +40,6 @@ returns c =
     (map (idIn (a .components .now)) (from (l .i + 1) (a .count - (l .i + 1)))) ≡ true =
     rw (← c .before .before .id-at .ensures) (sym (c .before .id-from .ensures) ∙ c .if1 .taken) in
     distinctFrom-again (idIn (a .components .now)) (l .i) (a .count) _ (l .inv .1) (omega arith) e
-
-add-i : tie.Need-add-i Inv-loop μ-loop
-add-i c = search needs
-
-loop-less : tie.Need-loop-less Inv-loop μ-loop
-loop-less c = search needs
 
 loop-again : tie.Need-loop-again Inv-loop μ-loop
 loop-again c =
@@ -76,10 +64,10 @@ ids-apart-spec =
     μ-loop
     loop-holds
     id-at-requires
-    add-id-from
-    id-from-requires
+    (λ c. search needs)
+    (λ c κs. search needs)
     returns
-    add-i
-    loop-less
+    (λ c. search needs)
+    (λ c. search needs)
     loop-again
     returns-2)

@@ -7,9 +7,6 @@ use borrow.Author.Needs.{needs}
 use Rattle.net.proofs.ids.ids_distinct.Statement.{statement}
 use Rattle.net.proofs.ids.ids_distinct.Tie as tie
 
-ids-fit-requires : tie.Need-ids-fit-requires
-ids-fit-requires c κs = search needs
-
 returns : tie.Need-returns
 unfolding idsDistinct
 returns c = rw (sym (c .before .ids-fit .ensures) ∙ not-true _ (c .if1 .taken))
@@ -22,4 +19,4 @@ unfolding idsDistinct
 returns-2 c = rw (sym (c .before .before .ids-fit .ensures) ∙ not-false _ (c .before .if1 .left)) (c .ids-apart .ensures)
 
 pub ids-distinct-spec : {M : Type 1} → statement M
-ids-distinct-spec = tie.close (tie.spec ids-fit-requires returns ids-apart-requires returns-2)
+ids-distinct-spec = tie.close (tie.spec (λ c κs. search needs) returns ids-apart-requires returns-2)

@@ -30,12 +30,6 @@ loop-holds : tie.Need-loop-holds Inv-loop μ-loop
 loop-holds c =
     let a = c .before .args in (omega arith, ap (every (idFits (a .components .now))) (from-start (a .count)))
 
-id-word-requires : tie.Need-id-word-requires Inv-loop μ-loop
-id-word-requires c κs = search needs
-
-lies-below-requires : tie.Need-lies-below-requires Inv-loop μ-loop
-lies-below-requires c κs = search needs
-
 returns : tie.Need-returns Inv-loop μ-loop
 returns c =
     let a = c .before .before .before .before .before .before .args in
@@ -44,12 +38,6 @@ returns c =
     ap (λ (x : ℕ). below x 32) (sym (c .before .before .id-word .ensures)) ∙ sym (c .before .lies-below .ensures)
     ∙ not-true _ (c .if1 .taken) in
     every-fails (idFits (a .components .now)) (l .i) (a .count) _ (omega arith) e (l .inv .1)
-
-add-i : tie.Need-add-i Inv-loop μ-loop
-add-i c = search needs
-
-loop-less : tie.Need-loop-less Inv-loop μ-loop
-loop-less c = search needs
 
 loop-again : tie.Need-loop-again Inv-loop μ-loop
 loop-again c =
@@ -72,10 +60,10 @@ ids-fit-spec =
     Inv-loop
     μ-loop
     loop-holds
-    id-word-requires
-    lies-below-requires
+    (λ c κs. search needs)
+    (λ c κs. search needs)
     returns
-    add-i
-    loop-less
+    (λ c. search needs)
+    (λ c. search needs)
     loop-again
     returns-2)

@@ -28,9 +28,6 @@ loop-holds c =
     let a = c .before .args in
     (omega arith, refl, naming-start (a .counts .components) 256 (take (a .count) (a .list .now)))
 
-entry-requires : tie.Need-entry-requires Inv-loop μ-loop
-entry-requires c κs = search needs
-
 returns : tie.Need-returns Inv-loop μ-loop
 unfolding names
 returns c =
@@ -39,9 +36,6 @@ returns c =
     let e = c .before .entry .ensures in
     namingSlice-past (a .counts .components) (l .seen) (a .list .now) (l .i) (a .count) _ (omega arith) (l .inv .2)
     (omega arith) (omega (arith, e))
-
-array-read-if2 : tie.Need-array-read-if2 Inv-loop μ-loop
-array-read-if2 c = search needs
 
 returns-2 : tie.Need-returns-2 Inv-loop μ-loop
 unfolding names
@@ -52,15 +46,6 @@ returns-2 c =
     namingSlice-again (a .counts .components) (l .seen) (a .list .now) (l .i) (a .count) _ (omega arith) (l .inv .2)
     (omega arith)
     (λ z. c .if2 .taken (rw e z))
-
-array-write-seen : tie.Need-array-write-seen Inv-loop μ-loop
-array-write-seen c = search needs
-
-add-i : tie.Need-add-i Inv-loop μ-loop
-add-i c = search needs
-
-loop-less : tie.Need-loop-less Inv-loop μ-loop
-loop-less c = search needs
 
 loop-again : tie.Need-loop-again Inv-loop μ-loop
 loop-again c =
@@ -92,12 +77,12 @@ names-spec =
     Inv-loop
     μ-loop
     loop-holds
-    entry-requires
+    (λ c κs. search needs)
     returns
-    array-read-if2
+    (λ c. search needs)
     returns-2
-    array-write-seen
-    add-i
-    loop-less
+    (λ c. search needs)
+    (λ c. search needs)
+    (λ c. search needs)
     loop-again
     returns-3)

@@ -49,12 +49,6 @@ loop-holds c =
           (from-start (a .counts .components)),
     )
 
-first-input-requires : tie.Need-first-input-requires Inv-loop μ-loop
-first-input-requires c κs = search needs
-
-first-output-requires : tie.Need-first-output-requires Inv-loop μ-loop
-first-output-requires c κs = search needs
-
 returns : tie.Need-returns Inv-loop μ-loop
 returns c =
     let a = c .before .before .before .before .before .before .args in
@@ -62,9 +56,6 @@ returns c =
     portsFollow-fails (a .components .now) (a .counts)
     (every-fails (followAt (a .components .now)) (l .i) (a .counts .components) _ (omega arith)
     (sym (tested (c .before)) ∙ not-true _ (c .if1 .taken)) (l .inv .5))
-
-input-count-requires : tie.Need-input-count-requires Inv-loop μ-loop
-input-count-requires c κs = search needs
 
 add-inputs : tie.Need-add-inputs Inv-loop μ-loop
 add-inputs c =
@@ -79,9 +70,6 @@ add-inputs c =
       kindsObeyed-inputs (lent (s .args .components .now) [] [] [] (s .args .counts)) (s .pre .1) (l .i) (omega arith),
     )
 
-output-count-requires : tie.Need-output-count-requires Inv-loop μ-loop
-output-count-requires c κs = search needs
-
 add-outputs : tie.Need-add-outputs Inv-loop μ-loop
 add-outputs c =
     let s = c .before .before .before .before .before .before .before .before in
@@ -94,12 +82,6 @@ add-outputs c =
       s .pre .0,
       kindsObeyed-outputs (lent (s .args .components .now) [] [] [] (s .args .counts)) (s .pre .1) (l .i) (omega arith),
     )
-
-add-i : tie.Need-add-i Inv-loop μ-loop
-add-i c = search needs
-
-loop-less : tie.Need-loop-less Inv-loop μ-loop
-loop-less c = search needs
 
 loop-again : tie.Need-loop-again Inv-loop μ-loop
 loop-again c =
@@ -143,14 +125,14 @@ ports-follow-spec =
     Inv-loop
     μ-loop
     loop-holds
-    first-input-requires
-    first-output-requires
+    (λ c κs. search needs)
+    (λ c κs. search needs)
     returns
-    input-count-requires
+    (λ c κs. search needs)
     add-inputs
-    output-count-requires
+    (λ c κs. search needs)
     add-outputs
-    add-i
-    loop-less
+    (λ c. search needs)
+    (λ c. search needs)
     loop-again
     returns-2)

@@ -25,9 +25,6 @@ loop-holds c =
     let a = c .before .before .args in
     (omega arith, ap (every (heldAt (a .components .now) (a .outputs .now))) (from-start (a .counts .components)))
 
-row-held-requires : tie.Need-row-held-requires Inv-loop μ-loop
-row-held-requires c κs = search needs
-
 returns : tie.Need-returns Inv-loop μ-loop
 unfolding constsHeld
 returns c =
@@ -35,12 +32,6 @@ returns c =
     let l = c .before .before .before .loop in
     every-fails (heldAt (a .components .now) (a .outputs .now)) (l .i) (a .counts .components) _ (omega arith)
     (sym (c .before .row-held .ensures) ∙ not-true _ (c .if1 .taken)) (l .inv .1)
-
-add-i : tie.Need-add-i Inv-loop μ-loop
-add-i c = search needs
-
-loop-less : tie.Need-loop-less Inv-loop μ-loop
-loop-less c = search needs
 
 loop-again : tie.Need-loop-again Inv-loop μ-loop
 loop-again c =
@@ -65,9 +56,9 @@ consts-held-spec =
     Inv-loop
     μ-loop
     loop-holds
-    row-held-requires
+    (λ c κs. search needs)
     returns
-    add-i
-    loop-less
+    (λ c. search needs)
+    (λ c. search needs)
     loop-again
     returns-2)

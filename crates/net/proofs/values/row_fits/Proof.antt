@@ -7,24 +7,6 @@ use borrow.Author.Needs.{needs}
 use Rattle.net.proofs.values.row_fits.Statement.{statement}
 use Rattle.net.proofs.values.row_fits.Tie as tie
 
-fields-at-requires : tie.Need-fields-at-requires
-fields-at-requires c κs = search needs
-
-first-input-requires : tie.Need-first-input-requires
-first-input-requires c κs = search needs
-
-first-output-requires : tie.Need-first-output-requires
-first-output-requires c κs = search needs
-
-input-width-requires : tie.Need-input-width-requires
-input-width-requires c κs = search needs
-
-output-width-requires : tie.Need-output-width-requires
-output-width-requires c κs = search needs
-
-cast-all-fit : tie.Need-cast-all-fit
-cast-all-fit c = search needs
-
 all-fit-requires : tie.Need-all-fit-requires
 all-fit-requires c κs =
     let s = c .before .before .before .before .before .before .before .before .before in
@@ -36,9 +18,6 @@ all-fit-requires c κs =
       ap (λ (f : Fields). f .inputs)
           (f .ensures),
     )
-
-cast-all-fit-2 : tie.Need-cast-all-fit-2
-cast-all-fit-2 c = search needs
 
 all-fit-requires-2 : tie.Need-all-fit-requires-2
 all-fit-requires-2 c κs =
@@ -69,13 +48,13 @@ pub row-fits-spec : {M : Type 1} → statement M
 row-fits-spec =
     tie.close
     (tie.spec
-    fields-at-requires
-    first-input-requires
-    first-output-requires
-    input-width-requires
-    output-width-requires
-    cast-all-fit
+    (λ c κs. search needs)
+    (λ c κs. search needs)
+    (λ c κs. search needs)
+    (λ c κs. search needs)
+    (λ c κs. search needs)
+    (λ c. search needs)
     all-fit-requires
-    cast-all-fit-2
+    (λ c. search needs)
     all-fit-requires-2
     returns)

@@ -48,12 +48,6 @@ returns c =
     every-fails (fitAt (a .components .now) (a .inputs .now) (a .outputs .now)) (l .i) (a .counts .components) _
     (omega arith) (sym (c .before .row-fits .ensures) ∙ not-true _ (c .if1 .taken)) (l .inv .1)
 
-add-i : tie.Need-add-i Inv-loop μ-loop
-add-i c = search needs
-
-loop-less : tie.Need-loop-less Inv-loop μ-loop
-loop-less c = search needs
-
 loop-again : tie.Need-loop-again Inv-loop μ-loop
 loop-again c =
     let a = c .before .before .before .before .before .before .before .args in
@@ -79,7 +73,7 @@ values-fit-spec =
     loop-holds
     row-fits-requires
     returns
-    add-i
-    loop-less
+    (λ c. search needs)
+    (λ c. search needs)
     loop-again
     returns-2)

@@ -74,17 +74,11 @@ fit c =
     and-right (valuesFit (ports (entry4 c)) && constsHeld (outs (entry4 c))) (wiresFit (wired (entry4 c)))
     (ports-pass c)
 
-counts-within-requires : tie.Need-counts-within-requires
-counts-within-requires c κs = search needs
-
 returns : tie.Need-returns
 returns c =
     let a = c .before .before .before .before .before .before .args in
     circuit-counts (a .components .now) (a .inputs .now) (a .outputs .now) (a .wires .now) (a .counts)
     (sym (c .before .counts-within .ensures) ∙ not-true _ (c .if1 .taken))
-
-kinds-obeyed-requires : tie.Need-kinds-obeyed-requires
-kinds-obeyed-requires c κs = search needs
 
 returns-2 : tie.Need-returns-2
 returns-2 c =
@@ -92,9 +86,6 @@ returns-2 c =
     let a = entry1 e .args in
     circuit-kinds (a .components .now) (a .inputs .now) (a .outputs .now) (a .wires .now) (a .counts) (few e)
     (sym (c .before .kinds-obeyed .ensures) ∙ not-true _ (c .if2 .taken))
-
-ids-distinct-requires : tie.Need-ids-distinct-requires
-ids-distinct-requires c κs = search needs
 
 ports-follow-requires : tie.Need-ports-follow-requires
 ports-follow-requires c κs =
@@ -120,9 +111,6 @@ values-fit-requires c κs =
           (s .args .outputs .now)
           (s .pre .0) (s .pre .1),
     )
-
-consts-held-requires : tie.Need-consts-held-requires
-consts-held-requires c κs = search needs
 
 wires-fit-requires : tie.Need-wires-fit-requires
 wires-fit-requires c κs = kinds (c .before .before .before .before .before)
@@ -155,15 +143,15 @@ pub is-circuit-spec : {M : Type 1} → statement M
 is-circuit-spec =
     tie.close
     (tie.spec
-    counts-within-requires
+    (λ c κs. search needs)
     returns
-    kinds-obeyed-requires
+    (λ c κs. search needs)
     returns-2
-    ids-distinct-requires
+    (λ c κs. search needs)
     ports-follow-requires
     returns-3
     values-fit-requires
-    consts-held-requires
+    (λ c κs. search needs)
     wires-fit-requires
     returns-4
     inputs-once-requires

@@ -21,9 +21,6 @@ entry c = c .before .before .before .before .before .before .before .before .bef
 full : (c : tie.Else1) → fullSize (came (entry c)) ≡ true
 full c = sym (c .before .full-size .ensures (entry c .args .counts)) ∙ not-false _ (c .if1 .left)
 
-full-size-requires : tie.Need-full-size-requires
-full-size-requires c κs = search needs
-
 returns : tie.Need-returns
 returns c =
     let s = c .before .before .before .before .before .before .before .before .before in
@@ -45,4 +42,4 @@ returns-3 c =
 
 pub net-number-spec : {M : Type 1} → statement M
 net-number-spec =
-    tie.close (tie.spec full-size-requires returns is-net-requires returns-2 returns-3)
+    tie.close (tie.spec (λ c κs. search needs) returns is-net-requires returns-2 returns-3)

@@ -48,9 +48,6 @@ loop-holds c =
           (from-start (a .counts .wires)),
     )
 
-wire-at-requires : tie.Need-wire-at-requires Inv-loop μ-loop
-wire-at-requires c κs = search needs
-
 place-of-requires : tie.Need-place-of-requires Inv-loop μ-loop
 place-of-requires c κs =
     let s = c .before .before .before .before .before in
@@ -71,12 +68,6 @@ returns c =
 
 array-write-seen : tie.Need-array-write-seen Inv-loop μ-loop
 array-write-seen c = place-small (c .before)
-
-add-k : tie.Need-add-k Inv-loop μ-loop
-add-k c = search needs
-
-loop-less : tie.Need-loop-less Inv-loop μ-loop
-loop-less c = search needs
 
 loop-again : tie.Need-loop-again Inv-loop μ-loop
 loop-again c =
@@ -106,12 +97,12 @@ inputs-once-spec =
     Inv-loop
     μ-loop
     loop-holds
-    wire-at-requires
+    (λ c κs. search needs)
     place-of-requires
     array-read-if1
     returns
     array-write-seen
-    add-k
-    loop-less
+    (λ c. search needs)
+    (λ c. search needs)
     loop-again
     returns-2)

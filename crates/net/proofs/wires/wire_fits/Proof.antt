@@ -35,12 +35,6 @@ fields-at-requires-2 c κs =
     let s = c .before .before .before in
     kindsObeyed-fit (T s) (s .pre) _ (ltb-true _ _ (and-right (from-here s) (to-there s) (not-false _ (c .before .if1 .left))))
 
-output-width-requires : tie.Need-output-width-requires
-output-width-requires c κs = search needs
-
-input-width-requires : tie.Need-input-width-requires
-input-width-requires c κs = search needs
-
 returns-2 : tie.Need-returns-2
 returns-2 c =
     let w = c .before .before .before .before in
@@ -56,6 +50,6 @@ wire-fits-spec =
     returns
     fields-at-requires
     fields-at-requires-2
-    output-width-requires
-    input-width-requires
+    (λ c κs. search needs)
+    (λ c κs. search needs)
     returns-2)

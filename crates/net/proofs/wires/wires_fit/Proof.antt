@@ -37,12 +37,6 @@ loop-holds c =
           (from-start (a .counts .wires)),
     )
 
-wire-at-requires : tie.Need-wire-at-requires Inv-loop μ-loop
-wire-at-requires c κs = search needs
-
-wire-fits-requires : tie.Need-wire-fits-requires Inv-loop μ-loop
-wire-fits-requires c κs = search needs
-
 -- What a turn finds of its wire.
 at-wire : (c : tie.After-wire-fits Inv-loop μ-loop) →
     let a = c .before .before .before .before .before .before .args in
@@ -58,12 +52,6 @@ returns c =
     every-fails (fits (a .components .now) (a .wires .now) (a .counts)) (l .k) (a .counts .wires) _
     (omega arith) (sym (at-wire (c .before)) ∙ not-true _ (c .if1 .taken)) (l .inv .1)
     ∙ wiresFit-every (a .components .now) (a .wires .now) (a .counts)
-
-add-k : tie.Need-add-k Inv-loop μ-loop
-add-k c = search needs
-
-loop-less : tie.Need-loop-less Inv-loop μ-loop
-loop-less c = search needs
 
 loop-again : tie.Need-loop-again Inv-loop μ-loop
 loop-again c =
@@ -88,10 +76,10 @@ wires-fit-spec =
     Inv-loop
     μ-loop
     loop-holds
-    wire-at-requires
-    wire-fits-requires
+    (λ c κs. search needs)
+    (λ c κs. search needs)
     returns
-    add-k
-    loop-less
+    (λ c. search needs)
+    (λ c. search needs)
     loop-again
     returns-2)

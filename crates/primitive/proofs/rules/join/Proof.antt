@@ -20,18 +20,6 @@ abbrev μ-loop : tie.MeasureT-loop
 loop-holds : tie.Need-loop-holds Inv-loop μ-loop
 loop-holds c = (omega arith, sym (ap join (drop-length (c .before .args .ports .now))))
 
-sub-i : tie.Need-sub-i Inv-loop μ-loop
-sub-i c = search needs
-
-mul-level-of : tie.Need-mul-level-of Inv-loop μ-loop
-mul-level-of c = search needs
-
-shared-slice-read-level-of : tie.Need-shared-slice-read-level-of Inv-loop μ-loop
-shared-slice-read-level-of c = search needs
-
-level-of-requires : tie.Need-level-of-requires Inv-loop μ-loop
-level-of-requires c κs = search needs
-
 mul-number : tie.Need-mul-number Inv-loop μ-loop
 mul-number c =
     let s = c .before .before .before .loop in
@@ -43,9 +31,6 @@ add-number c =
     let s = c .before .before .before .loop in
     let xs = c .before .before .before .before .before .args .ports .now in
     omega (arith, s .inv .1, join-room xs (s .i) (omega arith) (omega arith), c .level-of .ensures, level-le (high (getD xs (s .i - 1) 0)))
-
-loop-less : tie.Need-loop-less Inv-loop μ-loop
-loop-less c = search needs
 
 loop-again : tie.Need-loop-again Inv-loop μ-loop
 loop-again c =
@@ -67,12 +52,12 @@ join-spec =
     Inv-loop
     μ-loop
     loop-holds
-    sub-i
-    mul-level-of
-    shared-slice-read-level-of
-    level-of-requires
+    (λ c. search needs)
+    (λ c. search needs)
+    (λ c. search needs)
+    (λ c κs. search needs)
     mul-number
     add-number
-    loop-less
+    (λ c. search needs)
     loop-again
     returns)

@@ -4,11 +4,8 @@ use Rattle.value.specs.declared.Value.{Value}
 use Rattle.primitive.proofs.rules.not_gate.Statement.{statement}
 use Rattle.primitive.proofs.rules.not_gate.Tie as tie
 
-complement-requires : tie.Need-complement-requires
-complement-requires c κs = search needs
-
 returns : tie.Need-returns
 returns c = ap (λ (v : Value). v .number) (c .complement .ensures)
 
 pub not-gate-spec : {M : Type 1} → statement M
-not-gate-spec = tie.close (tie.spec complement-requires returns)
+not-gate-spec = tie.close (tie.spec (λ c κs. search needs) returns)

@@ -2,11 +2,8 @@ use borrow.Author.Needs.{needs}
 use Rattle.primitive.proofs.rules.odd_high.Statement.{statement}
 use Rattle.primitive.proofs.rules.odd_high.Tie as tie
 
-count-high-requires : tie.Need-count-high-requires
-count-high-requires c κs = search needs
-
 returns : tie.Need-returns
 returns c = rw (c .count-high .ensures)
 
 pub odd-high-spec : {M : Type 1} → statement M
-odd-high-spec = tie.close (tie.spec count-high-requires returns)
+odd-high-spec = tie.close (tie.spec (λ c κs. search needs) returns)

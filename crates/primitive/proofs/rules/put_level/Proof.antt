@@ -5,17 +5,8 @@ use Prim.Native.Nat.{ℕ}
 use Rattle.primitive.proofs.rules.put_level.Statement.{statement}
 use Rattle.primitive.proofs.rules.put_level.Tie as tie
 
-level-of-requires : tie.Need-level-of-requires
-level-of-requires c κs = search needs
-
-put-requires : tie.Need-put-requires
-put-requires c κs = search needs
-
-same-length : tie.Need-same-length
-same-length c = search needs
-
 returns : tie.Need-returns
 returns c = c .before .before .put .ensures ∙ ap (λ (x : ℕ). x ∷ []) (c .before .before .before .level-of .ensures)
 
 pub put-level-spec : {M : Type 1} → statement M
-put-level-spec = tie.close (tie.spec level-of-requires put-requires same-length returns)
+put-level-spec = tie.close (tie.spec (λ c κs. search needs) (λ c κs. search needs) (λ c. search needs) returns)

@@ -15,24 +15,6 @@ Inv-loop input outputs₀ value i₀ outputs i = (i ≤ length outputs) × (leng
 abbrev μ-loop : tie.MeasureT-loop
 μ-loop input outputs₀ value i₀ outputs i = length outputs₀ - i
 
-loop-holds : tie.Need-loop-holds Inv-loop μ-loop
-loop-holds c = search needs
-
-bit-requires : tie.Need-bit-requires Inv-loop μ-loop
-bit-requires c κs = search needs
-
-mul-outputs : tie.Need-mul-outputs Inv-loop μ-loop
-mul-outputs c = search needs
-
-slice-write-outputs : tie.Need-slice-write-outputs Inv-loop μ-loop
-slice-write-outputs c = search needs
-
-add-i : tie.Need-add-i Inv-loop μ-loop
-add-i c = search needs
-
-loop-less : tie.Need-loop-less Inv-loop μ-loop
-loop-less c = search needs
-
 loop-again : tie.Need-loop-again Inv-loop μ-loop
 loop-again c =
     let s = c .before .before .loop in
@@ -41,9 +23,6 @@ loop-again c =
       simp length-set (s .inv .1),
       split-step x (s .i) (c .bit .result .number) (s .outputs) (omega arith) (ap (λ (v : Value). v .number) (c .bit .ensures)) (s .inv .2),
     )
-
-same-length : tie.Need-same-length Inv-loop μ-loop
-same-length c = search needs
 
 returns : tie.Need-returns Inv-loop μ-loop
 returns c =
@@ -56,12 +35,12 @@ split-spec =
     (tie.spec
     Inv-loop
     μ-loop
-    loop-holds
-    bit-requires
-    mul-outputs
-    slice-write-outputs
-    add-i
-    loop-less
+    (λ c. search needs)
+    (λ c κs. search needs)
+    (λ c. search needs)
+    (λ c. search needs)
+    (λ c. search needs)
+    (λ c. search needs)
     loop-again
-    same-length
+    (λ c. search needs)
     returns)

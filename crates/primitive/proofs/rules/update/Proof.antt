@@ -9,12 +9,6 @@ use Rattle.kinds.proofs.ObeysLaws.{obeyed-unkept, obeyed-known}
 use Rattle.primitive.proofs.rules.update.Statement.{statement}
 use Rattle.primitive.proofs.rules.update.Tie as tie
 
-kind-of-requires : tie.Need-kind-of-requires
-kind-of-requires c κs = search needs
-
-enum-known-kind : tie.Need-enum-known-kind
-enum-known-kind c = search needs
-
 update-as-requires : tie.Need-update-as-requires
 update-as-requires c κs =
     let s = c .before .before .before .before .before .before .before in
@@ -22,15 +16,6 @@ update-as-requires c κs =
     let e : seenAs (s .args .f .kind) ≡ Known k =
     sym (c .before .before .before .before .kind-of .ensures) ∙ c .before .before .kind .given .1 in
     (seenAs-known (s .args .f .kind) k e, s .pre)
-
-enum-told : tie.Need-enum-told
-enum-told c = search needs
-
-enum-told-2 : tie.Need-enum-told-2
-enum-told-2 c = search needs
-
-same-length : tie.Need-same-length
-same-length c = search needs
 
 returns : tie.Need-returns
 returns c = c .before .before .update-as .ensures
@@ -51,12 +36,12 @@ pub update-spec : {M : Type 1} → statement M
 update-spec =
     tie.close
     (tie.spec
-    kind-of-requires
-    enum-known-kind
+    (λ c κs. search needs)
+    (λ c. search needs)
     update-as-requires
-    enum-told
-    enum-told-2
-    same-length
+    (λ c. search needs)
+    (λ c. search needs)
+    (λ c. search needs)
     returns
     returns-2
     returns-3)

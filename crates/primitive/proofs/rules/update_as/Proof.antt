@@ -46,71 +46,26 @@ module _ (s : tie.Start) (K : Kind) where
       → leaves K ≡ true → s .args .outputs .now ≡ outputsAfter (s .args .f) (s .args .inputs .now) (s .args .outputs .now) (s .args .time)
   left q l = outputsAfter-left (s .args .f) K (s .args .inputs .now) (s .args .outputs .now) (s .args .outputs .now) (s .args .time) (of-kind q) l
 
-enum-told : tie.Need-enum-told
-enum-told c = search needs
-
-enum-told-2 : tie.Need-enum-told-2
-enum-told-2 c = search needs
-
-all-high-requires : tie.Need-all-high-requires
-all-high-requires c κs = search needs
-
 put-level-requires : tie.Need-put-level-requires
 put-level-requires c κs = one-output (c .before .before .before .before .before .before) And refl (c .before .before .enum-told2 .given .1)
-
-enum-told-3 : tie.Need-enum-told-3
-enum-told-3 c = search needs
-
-any-high-requires : tie.Need-any-high-requires
-any-high-requires c κs = search needs
 
 put-level-requires-2 : tie.Need-put-level-requires-2
 put-level-requires-2 c κs = one-output (c .before .before .before .before .before .before) Or refl (c .before .before .enum-told3 .given .1)
 
-enum-told-4 : tie.Need-enum-told-4
-enum-told-4 c = search needs
-
 shared-slice-read-not-gate : tie.Need-shared-slice-read-not-gate
 shared-slice-read-not-gate c = first-input (c .before .before .before .before .before .before) Not refl (c .before .before .enum-told4 .given .1)
-
-not-gate-requires : tie.Need-not-gate-requires
-not-gate-requires c κs = search needs
 
 put-requires : tie.Need-put-requires
 put-requires c κs = one-output (c .before .before .before .before .before .before .before) Not refl (c .before .before .before .enum-told4 .given .1)
 
-enum-told-5 : tie.Need-enum-told-5
-enum-told-5 c = search needs
-
-all-high-requires-2 : tie.Need-all-high-requires-2
-all-high-requires-2 c κs = search needs
-
 put-level-requires-3 : tie.Need-put-level-requires-3
 put-level-requires-3 c κs = one-output (c .before .before .before .before .before .before) Nand refl (c .before .before .enum-told5 .given .1)
-
-enum-told-6 : tie.Need-enum-told-6
-enum-told-6 c = search needs
-
-any-high-requires-2 : tie.Need-any-high-requires-2
-any-high-requires-2 c κs = search needs
 
 put-level-requires-4 : tie.Need-put-level-requires-4
 put-level-requires-4 c κs = one-output (c .before .before .before .before .before .before) Nor refl (c .before .before .enum-told6 .given .1)
 
-enum-told-7 : tie.Need-enum-told-7
-enum-told-7 c = search needs
-
-odd-high-requires : tie.Need-odd-high-requires
-odd-high-requires c κs = search needs
-
 put-level-requires-5 : tie.Need-put-level-requires-5
 put-level-requires-5 c κs = one-output (c .before .before .before .before .before .before) Xor refl (c .before .before .enum-told7 .given .1)
-
-enum-told-8 : tie.Need-enum-told-8
-enum-told-8 c = search needs
-
-enum-told-9 : tie.Need-enum-told-9
-enum-told-9 c = search needs
 
 shared-slice-read-put : tie.Need-shared-slice-read-put
 shared-slice-read-put c = first-input (c .before .before .before .before .before .before) Input refl (c .before .before .enum-told9 .given .1)
@@ -118,26 +73,14 @@ shared-slice-read-put c = first-input (c .before .before .before .before .before
 put-requires-2 : tie.Need-put-requires-2
 put-requires-2 c κs = one-output (c .before .before .before .before .before .before) Input refl (c .before .before .enum-told9 .given .1)
 
-enum-told-10 : tie.Need-enum-told-10
-enum-told-10 c = search needs
-
 shared-slice-read-put-2 : tie.Need-shared-slice-read-put-2
 shared-slice-read-put-2 c = first-input (c .before .before .before .before .before .before) Output refl (c .before .before .enum-told10 .given .1)
 
 put-requires-3 : tie.Need-put-requires-3
 put-requires-3 c κs = one-output (c .before .before .before .before .before .before) Output refl (c .before .before .enum-told10 .given .1)
 
-enum-told-11 : tie.Need-enum-told-11
-enum-told-11 c = search needs
-
 shared-slice-read-split : tie.Need-shared-slice-read-split
 shared-slice-read-split c = first-input (c .before .before .before .before .before) Splitter refl (c .before .enum-told11 .given .1)
-
-split-requires : tie.Need-split-requires
-split-requires c κs = search needs
-
-enum-told-12 : tie.Need-enum-told-12
-enum-told-12 c = search needs
 
 join-requires : tie.Need-join-requires
 join-requires c κs =
@@ -148,9 +91,6 @@ join-requires c κs =
 put-requires-4 : tie.Need-put-requires-4
 put-requires-4 c κs = one-output (c .before .before .before .before .before .before) Joiner refl (c .before .before .enum-told12 .given .1)
 
-enum-told-13 : tie.Need-enum-told-13
-enum-told-13 c = search needs
-
 clock-high-requires : tie.Need-clock-high-requires
 clock-high-requires c κs =
     let r = in-row (c .before .before .before .before .before) Clock (c .before .enum-told13 .given .1) in
@@ -159,17 +99,11 @@ clock-high-requires c κs =
 put-level-requires-6 : tie.Need-put-level-requires-6
 put-level-requires-6 c κs = one-output (c .before .before .before .before .before .before) Clock refl (c .before .before .enum-told13 .given .1)
 
-enum-told-14 : tie.Need-enum-told-14
-enum-told-14 c = search needs
-
 -- Composite: no primitive
 returns : tie.Need-returns
 returns c =
     let s = c .before .before .before .before in
     absurd (omega (arith, obeyed-primitive (s .args .f) (s .pre .1 .obeyed), of-kind s Composite (c .enum-told .given .1)))
-
-same-length : tie.Need-same-length
-same-length c = search needs
 
 -- And
 returns-2 : tie.Need-returns-2
@@ -177,17 +111,11 @@ returns-2 c =
     after (c .before .before .before .before .before .before .before .before .before) And _ (c .before .before .before .before .before .enum-told2 .given .1) refl
     (c .before .before .put-level .ensures ∙ ap (one) (c .before .before .before .all-high .ensures))
 
-same-length-2 : tie.Need-same-length-2
-same-length-2 c = search needs
-
 -- Or
 returns-3 : tie.Need-returns-3
 returns-3 c =
     after (c .before .before .before .before .before .before .before .before .before) Or _ (c .before .before .before .before .before .enum-told3 .given .1) refl
     (c .before .before .put-level2 .ensures ∙ ap (one) (c .before .before .before .any-high .ensures))
-
-same-length-3 : tie.Need-same-length-3
-same-length-3 c = search needs
 
 -- Not
 returns-4 : tie.Need-returns-4
@@ -195,26 +123,17 @@ returns-4 c =
     after (c .before .before .before .before .before .before .before .before .before .before) Not _ (c .before .before .before .before .before .before .enum-told4 .given .1) refl
     (c .before .before .put .ensures ∙ ap (λ (x : ℕ). x ∷ []) (c .before .before .before .not-gate .ensures))
 
-same-length-4 : tie.Need-same-length-4
-same-length-4 c = search needs
-
 -- Nand
 returns-5 : tie.Need-returns-5
 returns-5 c =
     after (c .before .before .before .before .before .before .before .before .before) Nand _ (c .before .before .before .before .before .enum-told5 .given .1) refl
     (c .before .before .put-level3 .ensures ∙ ap (λ (b : Bool). one (not b)) (c .before .before .before .all-high2 .ensures))
 
-same-length-5 : tie.Need-same-length-5
-same-length-5 c = search needs
-
 -- Nor
 returns-6 : tie.Need-returns-6
 returns-6 c =
     after (c .before .before .before .before .before .before .before .before .before) Nor _ (c .before .before .before .before .before .enum-told6 .given .1) refl
     (c .before .before .put-level4 .ensures ∙ ap (λ (b : Bool). one (not b)) (c .before .before .before .any-high2 .ensures))
-
-same-length-6 : tie.Need-same-length-6
-same-length-6 c = search needs
 
 -- Xor
 returns-7 : tie.Need-returns-7
@@ -226,26 +145,17 @@ returns-7 c =
 returns-8 : tie.Need-returns-8
 returns-8 c = left (c .before .before .before .before) Switch (c .enum-told8 .given .1) refl
 
-same-length-7 : tie.Need-same-length-7
-same-length-7 c = search needs
-
 -- Input
 returns-9 : tie.Need-returns-9
 returns-9 c =
     after (c .before .before .before .before .before .before .before .before .before) Input _ (c .before .before .before .before .before .enum-told9 .given .1) refl
     (c .before .before .put2 .ensures)
 
-same-length-8 : tie.Need-same-length-8
-same-length-8 c = search needs
-
 -- Output
 returns-10 : tie.Need-returns-10
 returns-10 c =
     after (c .before .before .before .before .before .before .before .before .before) Output _ (c .before .before .before .before .before .enum-told10 .given .1) refl
     (c .before .before .put3 .ensures)
-
-same-length-9 : tie.Need-same-length-9
-same-length-9 c = search needs
 
 -- Splitter
 returns-11 : tie.Need-returns-11
@@ -257,17 +167,11 @@ returns-11 c =
     omega (arith, r .outputs .least, r .outputs .most, s .pre .1 .all-outputs) in
     after s Splitter _ q refl (c .before .before .split .ensures ∙ ap (split (getD (s .args .inputs .now) 0 0)) m)
 
-same-length-10 : tie.Need-same-length-10
-same-length-10 c = search needs
-
 -- Joiner
 returns-12 : tie.Need-returns-12
 returns-12 c =
     after (c .before .before .before .before .before .before .before .before .before) Joiner _ (c .before .before .before .before .before .enum-told12 .given .1) refl
     (c .before .before .put4 .ensures ∙ ap (λ (x : ℕ). x ∷ []) (c .before .before .before .join .ensures))
-
-same-length-11 : tie.Need-same-length-11
-same-length-11 c = search needs
 
 -- Clock
 returns-13 : tie.Need-returns-13
@@ -283,65 +187,65 @@ pub update-as-spec : {M : Type 1} → statement M
 update-as-spec =
     tie.close
     (tie.spec
-    enum-told
-    enum-told-2
-    all-high-requires
+    (λ c. search needs)
+    (λ c. search needs)
+    (λ c κs. search needs)
     put-level-requires
-    enum-told-3
-    any-high-requires
+    (λ c. search needs)
+    (λ c κs. search needs)
     put-level-requires-2
-    enum-told-4
+    (λ c. search needs)
     shared-slice-read-not-gate
-    not-gate-requires
+    (λ c κs. search needs)
     put-requires
-    enum-told-5
-    all-high-requires-2
+    (λ c. search needs)
+    (λ c κs. search needs)
     put-level-requires-3
-    enum-told-6
-    any-high-requires-2
+    (λ c. search needs)
+    (λ c κs. search needs)
     put-level-requires-4
-    enum-told-7
-    odd-high-requires
+    (λ c. search needs)
+    (λ c κs. search needs)
     put-level-requires-5
-    enum-told-8
-    enum-told-9
+    (λ c. search needs)
+    (λ c. search needs)
     shared-slice-read-put
     put-requires-2
-    enum-told-10
+    (λ c. search needs)
     shared-slice-read-put-2
     put-requires-3
-    enum-told-11
+    (λ c. search needs)
     shared-slice-read-split
-    split-requires
-    enum-told-12
+    (λ c κs. search needs)
+    (λ c. search needs)
     join-requires
     put-requires-4
-    enum-told-13
+    (λ c. search needs)
     clock-high-requires
     put-level-requires-6
-    enum-told-14
+    (λ c. search needs)
     returns
-    same-length
+    (λ c. search needs)
     returns-2
-    same-length-2
+    (λ c. search needs)
     returns-3
-    same-length-3
+    (λ c. search needs)
     returns-4
-    same-length-4
+    (λ c. search needs)
     returns-5
-    same-length-5
+    (λ c. search needs)
     returns-6
-    same-length-6
+    (λ c. search needs)
     returns-7
     returns-8
-    same-length-7
+    (λ c. search needs)
     returns-9
-    same-length-8
+    (λ c. search needs)
     returns-10
-    same-length-9
+    (λ c. search needs)
     returns-11
-    same-length-10
+    (λ c. search needs)
     returns-12
-    same-length-11
+    (λ c. search needs)
     returns-13
     returns-14)

@@ -11,27 +11,12 @@ use Rattle.primitive.proofs.single.evaluate.Tie as tie
 zero : (c : tie.Else1) → evaluateNumber (c .before .before .before .before .before .before .before .args .f) (c .before .before .before .before .before .before .before .args .inputs .now) (c .before .before .before .before .before .before .before .args .entering .now) (c .before .before .before .before .before .before .before .args .outputs .now) (c .before .before .before .before .before .before .before .args .leaving .now) ≡ 0
 zero c = sym (c .before .evaluate-number .ensures) ∙ c .if1 .left
 
-evaluate-number-requires : tie.Need-evaluate-number-requires
-evaluate-number-requires c κs = search needs
-
-refused-by-requires : tie.Need-refused-by-requires
-refused-by-requires c κs = search needs
-
-same-length : tie.Need-same-length
-same-length c = search needs
-
 -- refused
 returns : tie.Need-returns
 returns c =
     let a = c .before .before .before .before .before .before .before .before .args in
     let e = c .before .before .evaluate-number .ensures in
     rw (c .refused-by .ensures) (refused-answer (a .f) (a .inputs .now) (a .entering .now) (a .outputs .now) (a .leaving .now) _ e (c .before .if1 .taken), refused-outputs (a .f) (a .inputs .now) (a .entering .now) (a .outputs .now) (a .leaving .now) _ e (c .before .if1 .taken) (a .time))
-
-cast-n : tie.Need-cast-n
-cast-n c = search needs
-
-cast-m : tie.Need-cast-m
-cast-m c = search needs
 
 slice-aggregate-update : tie.Need-slice-aggregate-update
 slice-aggregate-update c =
@@ -53,9 +38,6 @@ update-requires c κs =
     let a = c .before .before .before .before .before .before .before .before .before .before .before .args in
     passed-own (a .f) (a .inputs .now) (a .entering .now) (a .outputs .now) (a .leaving .now) (zero (c .before .before .before .before))
 
-same-length-2 : tie.Need-same-length-2
-same-length-2 c = search needs
-
 -- done
 returns-2 : tie.Need-returns-2
 returns-2 c =
@@ -70,15 +52,15 @@ pub evaluate-spec : {M : Type 1} → statement M
 evaluate-spec =
     tie.close
     (tie.spec
-    evaluate-number-requires
-    refused-by-requires
-    same-length
+    (λ c κs. search needs)
+    (λ c κs. search needs)
+    (λ c. search needs)
     returns
-    cast-n
-    cast-m
+    (λ c. search needs)
+    (λ c. search needs)
     slice-aggregate-update
     slice-relend-prefix-update
     slice-aggregate-update-2
     update-requires
-    same-length-2
+    (λ c. search needs)
     returns-2)

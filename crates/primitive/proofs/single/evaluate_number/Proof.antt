@@ -26,18 +26,6 @@ fitted : (c : tie.After-all-fit2) → (c .before .before .all-fit .result && c .
     ≡ bothFit (c .before .before .before .before .before .before .before .before .before .before .before .before .before .before .before .before .before .before .args .f) (c .before .before .before .before .before .before .before .before .before .before .before .before .before .before .before .before .before .before .args .inputs .now) (c .before .before .before .before .before .before .before .before .before .before .before .before .before .before .before .before .before .before .args .entering .now) (c .before .before .before .before .before .before .before .before .before .before .before .before .before .before .before .before .before .before .args .outputs .now) (c .before .before .before .before .before .before .before .before .before .before .before .before .before .before .before .before .before .before .args .leaving .now)
 fitted c = rw (c .before .before .all-fit .ensures, c .before .before .before .input-width .ensures, c .all-fit2 .ensures, c .before .output-width .ensures)
 
-cast-n : tie.Need-cast-n
-cast-n c = search needs
-
-cast-m : tie.Need-cast-m
-cast-m c = search needs
-
-is-kept-requires : tie.Need-is-kept-requires
-is-kept-requires c κs = search needs
-
-is-unknown-requires : tie.Need-is-unknown-requires
-is-unknown-requires c κs = search needs
-
 -- 7
 returns : tie.Need-returns
 returns c =
@@ -49,12 +37,6 @@ returns-2 : tie.Need-returns-2
 returns-2 c =
     let a = c .before .before .before .before .before .before .before .before .before .before .args in
     number-8 (a .f) (a .inputs .now) (a .entering .now) (a .outputs .now) (a .leaving .now) (unkept (c .before .before)) (sym (c .before .is-unknown .ensures) ∙ c .if2 .taken)
-
-is-primitive-requires : tie.Need-is-primitive-requires
-is-primitive-requires c κs = search needs
-
-obeys-requires : tie.Need-obeys-requires
-obeys-requires c κs = search needs
 
 -- 9
 returns-3 : tie.Need-returns-3
@@ -70,9 +52,6 @@ returns-4 c =
     number-2 (a .f) (a .inputs .now) (a .entering .now) (a .outputs .now) (a .leaving .now)
     (unkept (c .before .before .before .before .before .before)) (not-unknown (c .before .before .before .before)) (obeyed (c .before)) (c .if4 .taken)
 
-input-width-requires : tie.Need-input-width-requires
-input-width-requires c κs = search needs
-
 all-fit-requires : tie.Need-all-fit-requires
 all-fit-requires c κs =
     let a = c .before .before .before .before .before .before .before .before .before .before .before .before .before .before .before .args in
@@ -80,9 +59,6 @@ all-fit-requires c κs =
       there-inputs (a .f) (a .inputs .now) (a .entering .now) (a .outputs .now) (a .leaving .now) e,
       there-entering (a .f) (a .inputs .now) (a .entering .now) (a .outputs .now) (a .leaving .now) e,
     )
-
-output-width-requires : tie.Need-output-width-requires
-output-width-requires c κs = search needs
 
 all-fit-requires-2 : tie.Need-all-fit-requires-2
 all-fit-requires-2 c κs =
@@ -110,19 +86,19 @@ pub evaluate-number-spec : {M : Type 1} → statement M
 evaluate-number-spec =
     tie.close
     (tie.spec
-    cast-n
-    cast-m
-    is-kept-requires
+    (λ c. search needs)
+    (λ c. search needs)
+    (λ c κs. search needs)
     returns
-    is-unknown-requires
+    (λ c κs. search needs)
     returns-2
-    is-primitive-requires
-    obeys-requires
+    (λ c κs. search needs)
+    (λ c κs. search needs)
     returns-3
     returns-4
-    input-width-requires
+    (λ c κs. search needs)
     all-fit-requires
-    output-width-requires
+    (λ c κs. search needs)
     all-fit-requires-2
     returns-5
     returns-6)

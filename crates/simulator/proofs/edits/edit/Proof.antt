@@ -23,21 +23,6 @@ start c = c .before .before .before .before .before .before .before .before .bef
 passed : (c : tie.Else1) → editNumber (came (start c)) (start c .args .index .0) (start c .args .number) ≡ 0
 passed c = sym (c .before .edit-checks .ensures) ∙ c .if1 .left
 
-edit-checks-requires : tie.Need-edit-checks-requires
-edit-checks-requires c κs = search needs
-
-refused-by-requires : tie.Need-refused-by-requires
-refused-by-requires c κs = search needs
-
-same-length : tie.Need-same-length
-same-length c = search needs
-
-same-length-2 : tie.Need-same-length-2
-same-length-2 c = search needs
-
-same-length-3 : tie.Need-same-length-3
-same-length-3 c = search needs
-
 returns : tie.Need-returns
 returns c =
     let s = c .before .before .before .before .before .before .before .before .before .before .before .before .before in
@@ -73,15 +58,6 @@ append-new-requires c κs =
     let z = passed at-place in
     (standing-in T (edit-is-net T (a .index .0) (a .number) z), edit-room T (a .index .0) (a .number) z)
 
-same-length-4 : tie.Need-same-length-4
-same-length-4 c = search needs
-
-same-length-5 : tie.Need-same-length-5
-same-length-5 c = search needs
-
-same-length-6 : tie.Need-same-length-6
-same-length-6 c = search needs
-
 returns-2 : tie.Need-returns-2
 returns-2 c =
     let at-set-port = c .before .before .before .before .before .before .before .before in
@@ -98,16 +74,16 @@ pub edit-spec : {M : Type 1} → statement M
 edit-spec =
     tie.close
     (tie.spec
-    edit-checks-requires
-    refused-by-requires
-    same-length
-    same-length-2
-    same-length-3
+    (λ c κs. search needs)
+    (λ c κs. search needs)
+    (λ c. search needs)
+    (λ c. search needs)
+    (λ c. search needs)
     returns
     set-port-requires
     cast-append-new
     append-new-requires
-    same-length-4
-    same-length-5
-    same-length-6
+    (λ c. search needs)
+    (λ c. search needs)
+    (λ c. search needs)
     returns-2)

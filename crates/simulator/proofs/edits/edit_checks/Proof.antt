@@ -23,9 +23,6 @@ start c = c .before .before .before .before .before .before .before .before .bef
 is-net : (c : tie.Else1) → netNumber (came (start c)) ≡ 0
 is-net c = sym (c .before .net-number .ensures) ∙ c .if1 .left
 
-net-number-requires : tie.Need-net-number-requires
-net-number-requires c κs = search needs
-
 returns : tie.Need-returns
 returns c =
     let s = c .before .before .before .before .before .before .before .before .before in
@@ -42,4 +39,4 @@ returns-2 c =
     c .edit-number .ensures ∙ edit-net (came s) (s .args .i) (s .args .number) (is-net (c .before))
 
 pub edit-checks-spec : {M : Type 1} → statement M
-edit-checks-spec = tie.close (tie.spec net-number-requires returns edit-number-requires returns-2)
+edit-checks-spec = tie.close (tie.spec (λ c κs. search needs) returns edit-number-requires returns-2)

@@ -22,15 +22,6 @@ returns c =
     let s = c .before .before .before .before in
     let a = s .args in edit-17 (a .components .now) (a .wires .now) (a .counts) (a .i) (a .number) (c .if1 .taken)
 
-is-kind-requires : tie.Need-is-kind-requires
-is-kind-requires c κs = search needs
-
-is-kind-requires-2 : tie.Need-is-kind-requires-2
-is-kind-requires-2 c κs = search needs
-
-is-driven-requires : tie.Need-is-driven-requires
-is-driven-requires c κs = search needs
-
 returns-2 : tie.Need-returns-2
 returns-2 c =
     let at-if1 = c .before .before .before .before in
@@ -47,15 +38,6 @@ fields-at-requires c κs =
     s .pre (at-if1 .if1 .left)
 
 -- The width of the port that is set.
-
-output-width-requires : tie.Need-output-width-requires
-output-width-requires c κs = search needs
-
-input-width-requires : tie.Need-input-width-requires
-input-width-requires c κs = search needs
-
-fits-requires : tie.Need-fits-requires
-fits-requires c κs = search needs
 
 returns-3 : tie.Need-returns-3
 returns-3 c =
@@ -92,13 +74,13 @@ edit-number-spec =
     tie.close
     (tie.spec
     returns
-    is-kind-requires
-    is-kind-requires-2
-    is-driven-requires
+    (λ c κs. search needs)
+    (λ c κs. search needs)
+    (λ c κs. search needs)
     returns-2
     fields-at-requires
-    output-width-requires
-    input-width-requires
-    fits-requires
+    (λ c κs. search needs)
+    (λ c κs. search needs)
+    (λ c κs. search needs)
     returns-3
     returns-4)

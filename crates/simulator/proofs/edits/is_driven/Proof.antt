@@ -30,9 +30,6 @@ loop-holds : tie.Need-loop-holds Inv-loop μ-loop
 loop-holds c =
     let a = c .before .args in (omega arith, ap (any (enters (a .wires .now) (a .i))) (from-start (a .count)))
 
-wire-at-requires : tie.Need-wire-at-requires Inv-loop μ-loop
-wire-at-requires c κs = search needs
-
 -- Where the wire of a turn goes.
 to-there : (c : tie.After-wire-at Inv-loop μ-loop) → c .wire-at .result .dst .comp .0
     ≡ wireIn (c .before .before .before .before .args .wires .now) (c .before .before .loop .k) .dst .comp .0
@@ -44,12 +41,6 @@ returns c =
     let l = c .before .before .before .before .loop in
     any-here (enters (a .wires .now) (a .i)) (l .k) (a .count) _ (l .inv .1) (omega arith)
     (eq-eqb (wireIn (a .wires .now) (l .k) .dst .comp .0) (a .i) (sym (to-there (c .before .before)) ∙ c .if1 .taken))
-
-add-k : tie.Need-add-k Inv-loop μ-loop
-add-k c = search needs
-
-loop-less : tie.Need-loop-less Inv-loop μ-loop
-loop-less c = search needs
 
 loop-again : tie.Need-loop-again Inv-loop μ-loop
 loop-again c =
@@ -73,9 +64,9 @@ is-driven-spec =
     Inv-loop
     μ-loop
     loop-holds
-    wire-at-requires
+    (λ c κs. search needs)
     returns
-    add-k
-    loop-less
+    (λ c. search needs)
+    (λ c. search needs)
     loop-again
     returns-2)

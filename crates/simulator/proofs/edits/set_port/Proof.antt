@@ -10,12 +10,6 @@ use borrow.Author.Needs.{needs}
 use Rattle.simulator.proofs.edits.set_port.Statement.{statement}
 use Rattle.simulator.proofs.edits.set_port.Tie as tie
 
-is-kind-requires : tie.Need-is-kind-requires
-is-kind-requires c κs = search needs
-
-first-output-requires : tie.Need-first-output-requires
-first-output-requires c κs = search needs
-
 slice-write-outputs : tie.Need-slice-write-outputs
 slice-write-outputs c =
     let s = c .before .before .before .before .before .before in
@@ -23,9 +17,6 @@ slice-write-outputs c =
 
 mul-outputs : tie.Need-mul-outputs
 mul-outputs c = omega (arith, slice-write-outputs c)
-
-first-input-requires : tie.Need-first-input-requires
-first-input-requires c κs = search needs
 
 slice-write-inputs : tie.Need-slice-write-inputs
 slice-write-inputs c =
@@ -40,9 +31,6 @@ slice-write-inputs c =
 mul-inputs : tie.Need-mul-inputs
 mul-inputs c = omega (arith, slice-write-inputs c)
 
-same-length : tie.Need-same-length
-same-length c = search needs
-
 returns : tie.Need-returns
 returns c =
     let s = c .before .before .before .before .before .before in
@@ -50,9 +38,6 @@ returns c =
     let k : is Switch (fieldsIn (a .components .now) (a .i)) ≡ true =
     sym (c .before .before .is-kind .ensures) ∙ c .before .if1 .taken in
     rw (k, c .first-output .ensures) (refl, refl)
-
-same-length-2 : tie.Need-same-length-2
-same-length-2 c = search needs
 
 returns-2 : tie.Need-returns-2
 returns-2 c =
@@ -66,14 +51,14 @@ pub set-port-spec : {M : Type 1} → statement M
 set-port-spec =
     tie.close
     (tie.spec
-    is-kind-requires
-    first-output-requires
+    (λ c κs. search needs)
+    (λ c κs. search needs)
     mul-outputs
     slice-write-outputs
-    first-input-requires
+    (λ c κs. search needs)
     mul-inputs
     slice-write-inputs
-    same-length
+    (λ c. search needs)
     returns
-    same-length-2
+    (λ c. search needs)
     returns-2)

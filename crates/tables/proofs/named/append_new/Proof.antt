@@ -7,18 +7,9 @@ use borrow.Author.Needs.{needs}
 use Rattle.tables.proofs.named.append_new.Statement.{statement}
 use Rattle.tables.proofs.named.append_new.Tie as tie
 
-contains-requires : tie.Need-contains-requires
-contains-requires c κs = search needs
-
-same-length : tie.Need-same-length
-same-length c = search needs
-
 returns : tie.Need-returns
 returns c =
     append-there _ _ _ (c .before .before .before .before .pre .0) (sym (c .before .contains .ensures) ∙ c .if1 .taken)
-
-mul-list : tie.Need-mul-list
-mul-list c = search needs
 
 slice-write-list : tie.Need-slice-write-list
 slice-write-list c =
@@ -27,12 +18,6 @@ slice-write-list c =
       append-length _ _ _ (c .before .before .before .before .pre .0)
           (sym (c .before .contains .ensures) ∙ c .if1 .left),
     )
-
-add-result : tie.Need-add-result
-add-result c = search needs
-
-same-length-2 : tie.Need-same-length-2
-same-length-2 c = search needs
 
 returns-2 : tie.Need-returns-2
 returns-2 c =
@@ -43,11 +28,11 @@ pub append-new-spec : {M : Type 1} → statement M
 append-new-spec =
     tie.close
     (tie.spec
-    contains-requires
-    same-length
+    (λ c κs. search needs)
+    (λ c. search needs)
     returns
-    mul-list
+    (λ c. search needs)
     slice-write-list
-    add-result
-    same-length-2
+    (λ c. search needs)
+    (λ c. search needs)
     returns-2)

@@ -19,24 +19,6 @@ abbrev μ-loop : tie.MeasureT-loop
 loop-holds : tie.Need-loop-holds Inv-loop μ-loop
 loop-holds c = (omega arith, refl, overlay-start _)
 
-mul-into : tie.Need-mul-into Inv-loop μ-loop
-mul-into c = search needs
-
-shared-slice-read-into : tie.Need-shared-slice-read-into Inv-loop μ-loop
-shared-slice-read-into c = search needs
-
-mul-into-2 : tie.Need-mul-into-2 Inv-loop μ-loop
-mul-into-2 c = search needs
-
-slice-write-into : tie.Need-slice-write-into Inv-loop μ-loop
-slice-write-into c = search needs
-
-add-i : tie.Need-add-i Inv-loop μ-loop
-add-i c = search needs
-
-loop-less : tie.Need-loop-less Inv-loop μ-loop
-loop-less c = search needs
-
 loop-again : tie.Need-loop-again Inv-loop μ-loop
 loop-again c =
     let a = c .before .before .before .args in
@@ -46,9 +28,6 @@ loop-again c =
       rw (l .inv .2)
           (overlay-step (a .list .now) (a .into .now) (l .i) (omega arith) (omega arith)),
     )
-
-same-length : tie.Need-same-length Inv-loop μ-loop
-same-length c = search needs
 
 returns : tie.Need-returns Inv-loop μ-loop
 returns c =
@@ -62,12 +41,12 @@ copy-spec =
     Inv-loop
     μ-loop
     loop-holds
-    mul-into
-    shared-slice-read-into
-    mul-into-2
-    slice-write-into
-    add-i
-    loop-less
+    (λ c. search needs)
+    (λ c. search needs)
+    (λ c. search needs)
+    (λ c. search needs)
+    (λ c. search needs)
+    (λ c. search needs)
     loop-again
-    same-length
+    (λ c. search needs)
     returns)

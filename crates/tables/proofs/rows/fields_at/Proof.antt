@@ -7,24 +7,15 @@ use borrow.Author.Needs.{needs}
 use Rattle.tables.proofs.rows.fields_at.Statement.{statement}
 use Rattle.tables.proofs.rows.fields_at.Tie as tie
 
-word-of-requires : tie.Need-word-of-requires
-word-of-requires c κs = search needs
-
 cast-t4 : tie.Need-cast-t4
 cast-t4 c =
     let s = c .before .before in
     omega (arith, c .word-of .ensures, fieldsFit-kind (fieldsIn (s .args .components .now) (s .args .i)) (s .pre))
 
-word-of-requires-2 : tie.Need-word-of-requires-2
-word-of-requires-2 c κs = search needs
-
 cast-t6 : tie.Need-cast-t6
 cast-t6 c =
     let s = c .before .before .before in
     omega (arith, c .word-of2 .ensures, fieldsFit-inputs (fieldsIn (s .args .components .now) (s .args .i)) (s .pre))
-
-word-of-requires-3 : tie.Need-word-of-requires-3
-word-of-requires-3 c κs = search needs
 
 cast-t8 : tie.Need-cast-t8
 cast-t8 c =
@@ -36,16 +27,10 @@ cast-t8 c =
           (s .pre),
     )
 
-word-of-requires-4 : tie.Need-word-of-requires-4
-word-of-requires-4 c κs = search needs
-
 cast-t10 : tie.Need-cast-t10
 cast-t10 c =
     let s = c .before .before .before .before .before in
     omega (arith, c .word-of4 .ensures, fieldsFit-width (fieldsIn (s .args .components .now) (s .args .i)) (s .pre))
-
-word-of-requires-5 : tie.Need-word-of-requires-5
-word-of-requires-5 c κs = search needs
 
 returns : tie.Need-returns
 returns c =
@@ -61,13 +46,13 @@ pub fields-at-spec : {M : Type 1} → statement M
 fields-at-spec =
     tie.close
     (tie.spec
-    word-of-requires
+    (λ c κs. search needs)
     cast-t4
-    word-of-requires-2
+    (λ c κs. search needs)
     cast-t6
-    word-of-requires-3
+    (λ c κs. search needs)
     cast-t8
-    word-of-requires-4
+    (λ c κs. search needs)
     cast-t10
-    word-of-requires-5
+    (λ c κs. search needs)
     returns)

@@ -5,18 +5,6 @@ use borrow.Author.Needs.{needs}
 use Rattle.tables.proofs.rows.fields_fit.Statement.{statement}
 use Rattle.tables.proofs.rows.fields_fit.Tie as tie
 
-word-of-requires : tie.Need-word-of-requires
-word-of-requires c κs = search needs
-
-word-of-requires-2 : tie.Need-word-of-requires-2
-word-of-requires-2 c κs = search needs
-
-word-of-requires-3 : tie.Need-word-of-requires-3
-word-of-requires-3 c κs = search needs
-
-word-of-requires-4 : tie.Need-word-of-requires-4
-word-of-requires-4 c κs = search needs
-
 returns : tie.Need-returns
 unfolding fieldsFit
 returns c =
@@ -30,4 +18,4 @@ returns c =
 pub fields-fit-spec : {M : Type 1} → statement M
 fields-fit-spec =
     tie.close
-    (tie.spec word-of-requires word-of-requires-2 word-of-requires-3 word-of-requires-4 returns)
+    (tie.spec (λ c κs. search needs) (λ c κs. search needs) (λ c κs. search needs) (λ c κs. search needs) returns)

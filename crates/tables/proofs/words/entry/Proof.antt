@@ -7,20 +7,11 @@ use borrow.Author.Needs.{needs}
 use Rattle.tables.proofs.words.entry.Statement.{statement}
 use Rattle.tables.proofs.words.entry.Tie as tie
 
-mul-result : tie.Need-mul-result
-mul-result c = search needs
-
-shared-slice-read-result : tie.Need-shared-slice-read-result
-shared-slice-read-result c = search needs
-
 cast-result : tie.Need-cast-result
 cast-result c = omega (arith, c .shared-slice-known .given (c .before .before .args .at))
-
-returns : tie.Need-returns
-returns c = search needs
 
 returns-2 : tie.Need-returns-2
 returns-2 c = sym (List·getD-eq-default (c .before .args .table .now) 0 (c .if1 .left))
 
 pub entry-spec : {M : Type 1} → statement M
-entry-spec = tie.close (tie.spec mul-result shared-slice-read-result cast-result returns returns-2)
+entry-spec = tie.close (tie.spec (λ c. search needs) (λ c. search needs) cast-result (λ c. search needs) returns-2)

@@ -5,15 +5,9 @@ use Rattle.value.proofs.ValueLaws.{no-bit}
 use Rattle.value.proofs.Value.bit.Statement.{statement}
 use Rattle.value.proofs.Value.bit.Tie as tie
 
-shr-number : tie.Need-shr-number
-shr-number c = search needs
-
-returns : tie.Need-returns
-returns c = search needs
-
 -- past bit 63
 returns-2 : tie.Need-returns-2
 returns-2 c = rw (no-bit (c .before .args .self .number) (c .before .args .i) (search needs) (c .if1 .left))
 
 pub bit-spec : {M : Type 1} → statement M
-bit-spec = tie.close (tie.spec shr-number returns returns-2)
+bit-spec = tie.close (tie.spec (λ c. search needs) (λ c. search needs) returns-2)

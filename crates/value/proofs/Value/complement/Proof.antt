@@ -15,9 +15,6 @@ use Rattle.value.proofs.Value.complement.Tie as tie
 fitting : (c : tie.Else1) → fits (c .before .before .before .args .self) ≡ true
 fitting c = sym (ap (λ (f : Fit). f .fits) (c .before .before .fits2 .ensures)) ∙ not-false _ (c .if1 .left)
 
-fits-requires : tie.Need-fits-requires
-fits-requires c κs = search needs
-
 -- does not fit: handed back as it came
 returns : tie.Need-returns
 returns c = rw (sym (ap (λ (f : Fit). f .fits) (c .before .before .fits2 .ensures)) ∙ not-true _ (c .if1 .taken))
@@ -35,4 +32,4 @@ returns-2 : tie.Need-returns-2
 returns-2 c = rw (fitting (c .before .before), c .before .all-ones .ensures)
 
 pub complement-spec : {M : Type 1} → statement M
-complement-spec = tie.close (tie.spec fits-requires returns all-ones-requires sub-t5 returns-2)
+complement-spec = tie.close (tie.spec (λ c κs. search needs) returns all-ones-requires sub-t5 returns-2)

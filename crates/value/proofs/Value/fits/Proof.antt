@@ -4,11 +4,8 @@ use borrow.Author.Needs.{needs}
 use Rattle.value.proofs.Value.fits.Statement.{statement}
 use Rattle.value.proofs.Value.fits.Tie as tie
 
-lies-below-requires : tie.Need-lies-below-requires
-lies-below-requires c κs = search needs
-
 returns : tie.Need-returns
 returns c = rw (c .lies-below .ensures)
 
 pub fits-spec : {M : Type 1} → statement M
-fits-spec = tie.close (tie.spec lies-below-requires returns)
+fits-spec = tie.close (tie.spec (λ c κs. search needs) returns)

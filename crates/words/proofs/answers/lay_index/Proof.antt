@@ -9,22 +9,10 @@ use borrow.Author.Needs.{needs}
 use Rattle.words.proofs.answers.lay_index.Statement.{statement}
 use Rattle.words.proofs.answers.lay_index.Tie as tie
 
-enum-known-answer : tie.Need-enum-known-answer
-enum-known-answer c = search needs
-
-slice-write-found : tie.Need-slice-write-found
-slice-write-found c = search needs
-
-enum-known-answer-2 : tie.Need-enum-known-answer-2
-enum-known-answer-2 c = search needs
-
 mul-result : tie.Need-mul-result
 mul-result c =
     let h : indexGives (Refused (c .before .before .answer2 .given .0 .0)) .number < 65536 = rw (c .before .before .answer2 .given .1) at (c .before .before .before .before .pre .1) in
     omega arith
-
-same-length : tie.Need-same-length
-same-length c = search needs
 
 returns : tie.Need-returns
 returns c =
@@ -40,10 +28,10 @@ pub lay-index-spec : {M : Type 1} → statement M
 lay-index-spec =
     tie.close
     (tie.spec
-    enum-known-answer
-    slice-write-found
-    enum-known-answer-2
+    (λ c. search needs)
+    (λ c. search needs)
+    (λ c. search needs)
     mul-result
-    same-length
+    (λ c. search needs)
     returns
     returns-2)

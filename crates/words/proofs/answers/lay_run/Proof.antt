@@ -9,37 +9,10 @@ use borrow.Author.Needs.{needs}
 use Rattle.words.proofs.answers.lay_run.Statement.{statement}
 use Rattle.words.proofs.answers.lay_run.Tie as tie
 
-enum-known-answer : tie.Need-enum-known-answer
-enum-known-answer c = search needs
-
-lay-requires : tie.Need-lay-requires
-lay-requires c κs = search needs
-
-cast-found : tie.Need-cast-found
-cast-found c = search needs
-
-slice-write-found : tie.Need-slice-write-found
-slice-write-found c = search needs
-
-cast-found-2 : tie.Need-cast-found-2
-cast-found-2 c = search needs
-
-slice-write-found-2 : tie.Need-slice-write-found-2
-slice-write-found-2 c = search needs
-
-enum-known-answer-2 : tie.Need-enum-known-answer-2
-enum-known-answer-2 c = search needs
-
 mul-result : tie.Need-mul-result
 mul-result c =
     let h : ranGives (Refused (c .before .before .answer2 .given .0 .0)) .number < 65536 = rw (c .before .before .answer2 .given .1) at (c .before .before .before .before .before .before .pre .2) in
     omega arith
-
-same-length : tie.Need-same-length
-same-length c = search needs
-
-same-length-2 : tie.Need-same-length-2
-same-length-2 c = search needs
 
 returns : tie.Need-returns
 returns c =
@@ -55,15 +28,15 @@ pub lay-run-spec : {M : Type 1} → statement M
 lay-run-spec =
     tie.close
     (tie.spec
-    enum-known-answer
-    lay-requires
-    cast-found
-    slice-write-found
-    cast-found-2
-    slice-write-found-2
-    enum-known-answer-2
+    (λ c. search needs)
+    (λ c κs. search needs)
+    (λ c. search needs)
+    (λ c. search needs)
+    (λ c. search needs)
+    (λ c. search needs)
+    (λ c. search needs)
     mul-result
-    same-length
-    same-length-2
+    (λ c. search needs)
+    (λ c. search needs)
     returns
     returns-2)

@@ -8,12 +8,6 @@ use borrow.Author.Needs.{needs}
 use Rattle.words.proofs.answers.say_evaluated.Statement.{statement}
 use Rattle.words.proofs.answers.say_evaluated.Tie as tie
 
-enum-told : tie.Need-enum-told
-enum-told c = search needs
-
-enum-known-answer : tie.Need-enum-known-answer
-enum-known-answer c = search needs
-
 mul-result : tie.Need-mul-result
 mul-result c =
     let h : evaluatedGives (Refused (c .before .before .answer .given .0 .0)) .number < 65536 = rw (c .before .before .answer .given .1) at (c .before .before .before .before .pre) in
@@ -28,4 +22,4 @@ returns-2 c =
     rw (c .before .before .answer .given .1)
 
 pub say-evaluated-spec : {M : Type 1} → statement M
-say-evaluated-spec = tie.close (tie.spec enum-told enum-known-answer mul-result returns returns-2)
+say-evaluated-spec = tie.close (tie.spec (λ c. search needs) (λ c. search needs) mul-result returns returns-2)

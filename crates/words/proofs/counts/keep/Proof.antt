@@ -9,23 +9,11 @@ use borrow.Author.Needs.{needs}
 use Rattle.words.proofs.counts.keep.Statement.{statement}
 use Rattle.words.proofs.counts.keep.Tie as tie
 
-enum-known-answer : tie.Need-enum-known-answer
-enum-known-answer c = search needs
-
-lay-requires : tie.Need-lay-requires
-lay-requires c κs = search needs
-
-enum-known-answer-2 : tie.Need-enum-known-answer-2
-enum-known-answer-2 c = search needs
-
 mul-result : tie.Need-mul-result
 mul-result c =
     let s = c .before .before .before .before .before in
     let h : answerGives (Refused (c .before .before .answer2 .given .0 .0)) .number < 65536 = rw (c .before .before .answer2 .given .1) at (s .pre .1) in
     omega arith
-
-same-length : tie.Need-same-length
-same-length c = search needs
 
 returns : tie.Need-returns
 returns c =
@@ -41,10 +29,10 @@ pub keep-spec : {M : Type 1} → statement M
 keep-spec =
     tie.close
     (tie.spec
-    enum-known-answer
-    lay-requires
-    enum-known-answer-2
+    (λ c. search needs)
+    (λ c κs. search needs)
+    (λ c. search needs)
     mul-result
-    same-length
+    (λ c. search needs)
     returns
     returns-2)

@@ -10,15 +10,6 @@ use borrow.Author.Needs.{needs}
 use Rattle.words.proofs.counts.keep_loaded.Statement.{statement}
 use Rattle.words.proofs.counts.keep_loaded.Tie as tie
 
-enum-known-answer : tie.Need-enum-known-answer
-enum-known-answer c = search needs
-
-lay-requires : tie.Need-lay-requires
-lay-requires c κs = search needs
-
-enum-known-answer-2 : tie.Need-enum-known-answer-2
-enum-known-answer-2 c = search needs
-
 mul-result : tie.Need-mul-result
 mul-result c =
     let h : spoken (answerGives (Refused (c .before .before .answer2 .given .0 .0))) < 4294967296 = rw (c .before .before .answer2 .given .1) at (c .before .before .before .before .before .pre .1) in
@@ -28,9 +19,6 @@ add-result : tie.Need-add-result
 add-result c =
     let h : spoken (answerGives (Refused (c .before .before .before .answer2 .given .0 .0))) < 4294967296 = rw (c .before .before .before .answer2 .given .1) at (c .before .before .before .before .before .before .pre .1) in
     omega arith
-
-same-length : tie.Need-same-length
-same-length c = search needs
 
 returns : tie.Need-returns
 returns c =
@@ -46,11 +34,11 @@ pub keep-loaded-spec : {M : Type 1} → statement M
 keep-loaded-spec =
     tie.close
     (tie.spec
-    enum-known-answer
-    lay-requires
-    enum-known-answer-2
+    (λ c. search needs)
+    (λ c κs. search needs)
+    (λ c. search needs)
     mul-result
     add-result
-    same-length
+    (λ c. search needs)
     returns
     returns-2)

@@ -7,9 +7,6 @@ use borrow.Author.Needs.{needs}
 use Rattle.words.proofs.counts.lay.Statement.{statement}
 use Rattle.words.proofs.counts.lay.Tie as tie
 
-slice-write-words : tie.Need-slice-write-words
-slice-write-words c = search needs
-
 slice-write-words-2 : tie.Need-slice-write-words-2
 slice-write-words-2 c = simp length-set (omega arith)
 
@@ -28,9 +25,6 @@ slice-write-words-6 c = simp length-set (omega arith)
 slice-write-words-7 : tie.Need-slice-write-words-7
 slice-write-words-7 c = simp length-set (omega arith)
 
-same-length : tie.Need-same-length
-same-length c = search needs
-
 returns : tie.Need-returns
 returns c = counts-laid (c .args .words .now) (c .args .counts) (c .pre)
 
@@ -38,12 +32,12 @@ pub lay-spec : {M : Type 1} → statement M
 lay-spec =
     tie.close
     (tie.spec
-    slice-write-words
+    (λ c. search needs)
     slice-write-words-2
     slice-write-words-3
     slice-write-words-4
     slice-write-words-5
     slice-write-words-6
     slice-write-words-7
-    same-length
+    (λ c. search needs)
     returns)
