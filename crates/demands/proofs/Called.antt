@@ -19,8 +19,12 @@ use Rattle.simulator.proofs.Kept.{roundTables-wiring, roundTables-net}
 use Rattle.quiet.proofs.EditKept.{editTables-wiring, editTables-net}
 use Rattle.quiet.proofs.Since.{Fresh, Unbroken, fresh-unbroken, roundTables-unbroken, editTables-unbroken}
 use Rattle.quiet.proofs.Runs.{runTables-net, runTables-wiring, runTables-unbroken}
-use Rattle.demands.specs.Reached.{Call, callTables, callTime, runs, Reached, loaded, called}
+use Rattle.demands.specs.Reached.{Call, callNumber, callTables, isRound, callTime, Reached, loaded, called}
 use Rattle.demands.specs.Reached as calls
+
+-- A call on these tables has run a round.
+abbrev pub runs : Call → Tables → Bool
+runs c T = isRound c && eqb (callNumber c T) 0
 
 pub record Kept (ran : Bool) (t : ℕ) (T U : Tables) : Type 0 where
   pub net : netNumber U ≡ 0

@@ -12,7 +12,7 @@ use lib.ListN.{length, List·getD-eq-default}
 use Rattle.lists.specs.Lists.{from, every}
 use Rattle.lists.proofs.ListsLaws.{every-from}
 use Rattle.lists.proofs.TestsLaws.{and-left, and-right}
-use Rattle.kinds.specs.Kinds.{numbered, numberOf, kindIn, kindOf, forCustom, unknown, seenAs, row, rowOf}
+use Rattle.kinds.specs.Kinds.{numbered, numberOf, kindIn, kindOf, keptIn, forCustom, unknown, seenAs, row, rowOf}
 use Rattle.kinds.specs.declared.table.Fields.{Fields}
 use Rattle.kinds.specs.declared.table.Row.{Row}
 use Rattle.kinds.specs.declared.Kind.{Kind}
@@ -58,6 +58,11 @@ known-is (Known k) e = refl
 known-is Kept e = absurd (false≢true e)
 known-is Unknown e = absurd (false≢true e)
 
+kept-is : (s : Seen) → keptIn s ≡ true → s ≡ Kept
+kept-is (Known k) e = absurd (false≢true e)
+kept-is Kept e = refl
+kept-is Unknown e = absurd (false≢true e)
+
 -- A number that is a kind's is none that is kept, and stands in the list.
 module _ (n : ℕ) (k : isKind n ≡ true) where
   pub kind-below : n < length numbered
@@ -89,8 +94,14 @@ seenAs-cases n = by-kept (forCustom n) refl
     by-unknown true q u = of-none q u (List·getD-eq-default numbered Unknown (leb-true (length numbered) n u))
     by-unknown false q u = of-kind q u (seenAs-kind n (rw (q, u)))
 
+    in-list : (b : Bool) → unknown n ≡ b → seenAs n ≡ Kept → unknown n ≡ false
+    in-list false u k = u
+    in-list true u k =
+        let none : seenAs n ≡ Unknown = List·getD-eq-default numbered Unknown (leb-true (length numbered) n u) in
+        absurd (let z : _≡_ {A = ℕ} 0 1 = cc in omega arith)
+
     by-kept : (b : Bool) → forCustom n ≡ b → Read n
-    by-kept true q = let e = eqb-true n 14 q in of-custom q (ap unknown e) (ap seenAs e)
+    by-kept true q = of-custom q (in-list (unknown n) refl (kept-is (seenAs n) q)) (kept-is (seenAs n) q)
     by-kept false q = by-unknown (unknown n) q refl
 
 -- Whether a number is kept, and whether it is no kind, by what it is read as.

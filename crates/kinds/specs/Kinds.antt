@@ -6,7 +6,7 @@
 --   inputWidth f, outputWidth f      the bits of each port
 -- Assumes nothing.
 use Prim.Native.Nat.{ℕ, _^_, min}
-use mathlib.Core.Bool.{Bool, not, _&&_}
+use mathlib.Core.Bool.{Bool, true, false, not, _&&_}
 use mathlib.Core.List.{List, [], _∷_}
 use lib.ListN.{length, getD}
 use lib.Dec.{eqb, leb}
@@ -57,9 +57,15 @@ kindIn Unknown = Composite
 abbrev pub kindOf : ℕ → Kind
 kindOf n = kindIn (seenAs n)
 
+-- It was read as kept.
+abbrev pub keptIn : Seen → Bool
+keptIn (Known k) = false
+keptIn Kept = true
+keptIn Unknown = false
+
 -- "component kind 14, kept for `Custom`"
 abbrev pub forCustom : ℕ → Bool
-forCustom n = eqb n 14
+forCustom n = keptIn (seenAs n)
 
 -- "component kind 15-255": a number past the last is no kind.
 abbrev pub unknown : ℕ → Bool

@@ -3,7 +3,7 @@
 --   Net T      the tables T pass every clause
 -- Not here: laws of countsWithin, kindsObeyed and portsFollow (ClausesLaws).
 -- Assumes nothing.
-use mathlib.Core.Path.{_≡_, refl, _∙_}
+use mathlib.Core.Path.{_≡_, refl, _∙_, sym}
 use mathlib.Core.Bool.{Bool, true, false, not, _&&_, _||_, cond}
 use mathlib.Core.List.{List, [], _∷_, map}
 use Prim.Native.Nat.{ℕ, _≤_, _<_}
@@ -270,6 +270,10 @@ module _ (T : Tables) where
 
     pub netNumber-sizes : Full T
     netNumber-sizes = fullSize-sound T netNumber-full
+
+-- A call that found no number has a net.
+pub passed-net : (T : Tables) (k : ℕ) → k ≡ netNumber T → k ≡ 0 → netNumber T ≡ 0
+passed-net T k e z = sym e ∙ z
 
 -- A call that checks 2 and 16 first: their number, or m, the number of the rest.
 module _ (T : Tables) (m : ℕ) where

@@ -1,9 +1,8 @@
 -- `index_of`: refused by the number, or what the search finds.
 -- Assumes nothing.
-use mathlib.Core.Path.{_≡_, sym, _∙_}
 use Rattle.tables.specs.Tables.{Tables, tablesOf}
-use Rattle.net.specs.Net.{netNumber}
 use Rattle.questions.proofs.QuestionsLaws.{index-refused, index-found}
+use Rattle.net.proofs.NetLaws.{passed-net}
 use borrow.Author.Needs.{needs}
 use Rattle.questions.proofs.index_of.Statement.{statement}
 use Rattle.questions.proofs.index_of.Tie as tie
@@ -18,9 +17,6 @@ came s =
 abbrev start : tie.Else1 → tie.Start
 start c = c .before .before .before .before .before .before .before .before .before
 
-is-net : (c : tie.Else1) → netNumber (came (start c)) ≡ 0
-is-net c = sym (c .before .net-number .ensures) ∙ c .if1 .left
-
 returns : tie.Need-returns
 returns c =
     let s = c .before .before .before .before .before .before .before .before .before .before in
@@ -29,7 +25,7 @@ returns c =
 returns-2 : tie.Need-returns-2
 returns-2 c =
     let s = c .before .before .before .before .before .before .before .before .before .before in
-    index-found (came s) (s .args .id .0) (c .search-id .result) (is-net (c .before)) (c .search-id .ensures)
+    index-found (came s) (s .args .id .0) (c .search-id .result) (passed-net (came s) _ (c .before .before .net-number .ensures) (c .before .if1 .left)) (c .search-id .ensures)
 
 pub index-of-spec : {M : Type 1} → statement M
 index-of-spec = tie.close (tie.spec (λ c κs. search needs) (λ c κs. search needs) returns (λ c κs. search needs) returns-2)

@@ -1,10 +1,9 @@
 -- `is_calm`: refused by the number, or what the current list names.
 -- Assumes nothing.
-use mathlib.Core.Path.{_≡_, sym, _∙_}
 use Rattle.tables.specs.Tables.{Tables, tablesOf}
-use Rattle.net.specs.Net.{netNumber}
 use Rattle.rounds.proofs.Sound.{current-in}
 use Rattle.questions.proofs.QuestionsLaws.{calm-refused, calm-is}
+use Rattle.net.proofs.NetLaws.{passed-net}
 use borrow.Author.Needs.{needs}
 use Rattle.questions.proofs.is_calm.Statement.{statement}
 use Rattle.questions.proofs.is_calm.Tie as tie
@@ -19,9 +18,6 @@ came s =
 abbrev start : tie.Else1 → tie.Start
 start c = c .before .before .before .before .before .before .before .before .before
 
-is-net : (c : tie.Else1) → netNumber (came (start c)) ≡ 0
-is-net c = sym (c .before .net-number .ensures) ∙ c .if1 .left
-
 returns : tie.Need-returns
 returns c =
     let s = c .before .before .before .before .before .before .before .before .before .before in
@@ -30,12 +26,12 @@ returns c =
 only-clocks-requires : tie.Need-only-clocks-requires
 only-clocks-requires c κs =
     let s = c .before .before .before .before .before .before .before .before .before in
-    current-in (came s) (is-net c)
+    current-in (came s) (passed-net (came s) _ (c .before .net-number .ensures) (c .if1 .left))
 
 returns-2 : tie.Need-returns-2
 returns-2 c =
     let s = c .before .before .before .before .before .before .before .before .before .before in
-    calm-is (came s) _ (is-net (c .before)) (c .only-clocks .ensures)
+    calm-is (came s) _ (passed-net (came s) _ (c .before .before .net-number .ensures) (c .before .if1 .left)) (c .only-clocks .ensures)
 
 pub is-calm-spec : {M : Type 1} → statement M
 is-calm-spec = tie.close (tie.spec (λ c κs. search needs) (λ c κs. search needs) returns only-clocks-requires returns-2)

@@ -1,10 +1,9 @@
 -- `edit_checks`: 2 and 16, or the number on the net.
 -- Assumes nothing.
-use mathlib.Core.Path.{_≡_, sym, _∙_}
+use mathlib.Core.Path.{_∙_}
 use Rattle.tables.specs.Tables.{Tables, tablesOf}
-use Rattle.net.specs.Net.{netNumber}
 use Rattle.net.proofs.ClausesLaws.{kindsObeyed-fit}
-use Rattle.net.proofs.NetLaws.{netNumber-net}
+use Rattle.net.proofs.NetLaws.{passed-net, netNumber-net}
 use Rattle.simulator.proofs.EditsLaws.{edit-refused, edit-net}
 use borrow.Author.Needs.{needs}
 use Rattle.simulator.proofs.edits.edit_checks.Statement.{statement}
@@ -20,9 +19,6 @@ came s =
 abbrev start : tie.Else1 → tie.Start
 start c = c .before .before .before .before .before .before .before .before .before
 
-is-net : (c : tie.Else1) → netNumber (came (start c)) ≡ 0
-is-net c = sym (c .before .net-number .ensures) ∙ c .if1 .left
-
 returns : tie.Need-returns
 returns c =
     let s = c .before .before .before .before .before .before .before .before .before in
@@ -31,12 +27,12 @@ returns c =
 edit-number-requires : tie.Need-edit-number-requires
 edit-number-requires c κs =
     let s = c .before .before .before .before .before .before .before .before .before in
-    λ h. kindsObeyed-fit (came s) (netNumber-net (came s) (is-net c) .kinds) (s .args .i) h
+    λ h. kindsObeyed-fit (came s) (netNumber-net (came s) (passed-net (came s) _ (c .before .net-number .ensures) (c .if1 .left)) .kinds) (s .args .i) h
 
 returns-2 : tie.Need-returns-2
 returns-2 c =
     let s = c .before .before .before .before .before .before .before .before .before .before in
-    c .edit-number .ensures ∙ edit-net (came s) (s .args .i) (s .args .number) (is-net (c .before))
+    c .edit-number .ensures ∙ edit-net (came s) (s .args .i) (s .args .number) (passed-net (came s) _ (c .before .before .net-number .ensures) (c .before .if1 .left))
 
 pub edit-checks-spec : {M : Type 1} → statement M
 edit-checks-spec = tie.close (tie.spec (λ c κs. search needs) returns edit-number-requires returns-2)
