@@ -35,7 +35,7 @@ fn is_of(says: Says, form: u8) -> bool
     }
 }
 
-// Whether the record at q is of a kind and of an owner.
+// Whether the record at q is of a kind and of an owner. Crate checks calls it for output maps, record kind 4.
 pub fn is_owned(file: &[u8], q: usize, form: u8, o: usize) -> bool
     requires { ⌜ 1 ≤ form ⌝ }
     ensures { λ x. ⌜ x ≡ ownedAs form o (recordAt (now (file .entry)) q) ⌝ }
@@ -176,7 +176,7 @@ pub fn fill_index(file: &[u8], index: &mut [u16])
     fill_ends(file, n, &mut index[81920..82432]);
 }
 
-// Child k of owner o; the number of records where there is none. Crates flatten and load call it with the index filled.
+// Child k of owner o; the number of records where there is none. Crates checks, flatten and load call it with the index filled.
 pub fn child_of(file: &[u8], index: &[u16], o: usize, k: ChildNo) -> usize
     requires { ⌜ IsIndex (now file) (now index) ⌝ }
     ensures { λ r. ⌜ r ≡ child (recordAt (now (file .entry))) (recordCount (now (file .entry))) o (k .0) ⌝ }

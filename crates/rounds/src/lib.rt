@@ -277,8 +277,7 @@ pub fn net_round(
     end_round(&next, &left, current, following, standing, counts, reached)
 }
 
-// Whether the first `count` entries of a list name only Clocks.
-// Crates simulator and questions call it.
+// Whether the first `count` entries of a list name only Clocks. Crates simulator and questions call it for the current list of a net.
 pub fn only_clocks(components: &[u64], list: &[u16], count: usize) -> bool
     requires { ⌜ count ≤ length (now list) ⌝ }
     ensures { λ r. ⌜ r ≡ every (λ i. is Clock (fieldsIn (now (components .entry)) i)) (take count (now (list .entry))) ⌝ }
