@@ -14,14 +14,15 @@ use Rattle.lists.proofs.MembersLaws.{joined-length, map-append, map-complete, m
 use Rattle.component.specs.declared.Record.{Record}
 use Rattle.component.specs.Record.{inputsOf}
 use Rattle.component.specs.Reading.{formOf}
-use Rattle.component.specs.Drawing.{primitivesBefore, inputsBefore}
+use Rattle.component.specs.Drawing.{deepest, primitivesBefore, inputsBefore}
 use Rattle.flatten.specs.declared.Pin.{Pin}
 use Rattle.flatten.specs.declared.Lead.{Lead}
-use Rattle.flatten.specs.Descent.{pin, goesTo, wiresAt, wires}
+use Rattle.flatten.specs.Descent.{pin, inputsBelow, goesTo, wiresAt, wires}
 use Rattle.flatten.proofs.Accepted.{Passed}
-use Rattle.flatten.proofs.Wires.{lead}
-use Rattle.flatten.proofs.EnteredOnce.{targetsAt, goesTo-distinct, targetsAt-distinct}
-use Rattle.flatten.proofs.Ends.{IsInput, target-there, wires-enter}
+use Rattle.flatten.proofs.DescentLeads.{targets-sound}
+use Rattle.flatten.proofs.Wires.{lead, connection-ends}
+use Rattle.flatten.proofs.EnteredOnce.{targetsAt, targets-distinct, targetsAt-distinct}
+use Rattle.flatten.proofs.Ends.{IsInput, into-there, wires-enter}
 use Rattle.flatten.proofs.Primitives.{primitive-below, primitivesBefore-complete, inputs-bound}
 
 -- The inputs that wires enter.
@@ -74,12 +75,17 @@ module _ (at : ℕ → Record) (n : ℕ) (d : Passed at n) where
       (map-complete (pin (t .comp)) (t .port) (from 0 (inputsOf (at (t .comp))))
       (from0-complete (inputsOf (at (t .comp))) (t .port) (i .there)))
 
-  -- A connection has at most 1,024 targets.
-  pub targets-bound : (p : ℕ) → p < n → formOf (at p) ≡ 2 → length (goesTo at n p) ≤ 1024
-  targets-bound p l e =
-      let r = distinct-bound (goesTo at n p) (inputPins at n) (goesTo-distinct at n d p)
-      (λ t h. inputPins-complete t (target-there at n d p l e t h)) in
+  -- An input that is there leads to at most 1,024,
+  pub below-bound : (f c i : ℕ) → i < inputsOf (at c) → length (inputsBelow at n f c i) ≤ 1024
+  below-bound f c i h =
+      let r = distinct-bound (inputsBelow at n f c i) (inputPins at n) (targets-distinct at n d f c i)
+      (λ t u. inputPins-complete t (into-there at n d c i t h (targets-sound at n f c i t u))) in
       omega (arith, inputPins-length at n, inputs-bound at n d)
+
+  -- and so does a connection.
+  pub targets-bound : (p : ℕ) → p < n → formOf (at p) ≡ 2 → length (goesTo at n p) ≤ 1024
+  unfolding goesTo
+  targets-bound p l e = below-bound deepest _ _ (connection-ends at n d p l e .1)
 
   -- There are at most 1,024 wires.
   pub wires-bound : length (wires at n) ≤ 1024

@@ -158,7 +158,7 @@ module _ (at : ℕ → Record) (n : ℕ) (d : Passed at n) where
       absurd (omega (arith, ap (λ (x : ℕ). formOf (at x)) z))
 
   -- No target of an input is found twice.
-  targets-distinct : (f c i : ℕ) → Distinct (inputsBelow at n f c i)
+  pub targets-distinct : (f c i : ℕ) → Distinct (inputsBelow at n f c i)
   unfolding inputsBelow
   targets-distinct zero c i = tt
   targets-distinct (suc f) c i = by-kind (λ x j. targets-distinct f x j) (isPrimitive (at c))

@@ -3,20 +3,23 @@
 -- Not here: laws of the ends of wires (EndsLaws).
 -- Assumes nothing.
 use mathlib.Core.Path.{_≡_, refl, sym, ap, _∙_}
-use mathlib.Core.Bool.{Bool, true, false, cond}
+use mathlib.Core.Bool.{Bool, true, false, cond, _||_}
 use mathlib.Core.List.{List, [], _∷_}
 use Prim.Native.Nat.{ℕ, _+_, _≤_, _<_}
 use native.Mathlib.Omega.{arith}
-use borrow.Author.Tests.{ne-eqb, le-leb, lt-leb, lt-ltb, le-ltb, ltb-false}
+use borrow.Author.Tests.{ne-eqb, le-leb, lt-leb, leb-false, lt-ltb, le-ltb, ltb-false}
 use lib.ListN.{length, getD}
 use lib.Dec.{eqb, leb, ltb}
 use Rattle.lists.specs.Lists.{every, first, overlay}
-use Rattle.value.specs.Value.{level}
+use Rattle.lists.proofs.TestsLaws.{or-left, or-right}
+use Rattle.value.specs.declared.Value.{Value}
+use Rattle.value.specs.Value.{level, ofWidth}
 use Rattle.kinds.specs.declared.Kind.the-variants.{Clock}
 use Rattle.kinds.specs.declared.table.Fields.{Fields}
 use Rattle.kinds.specs.Kinds.{is, inputWidth, outputWidth}
 use Rattle.kinds.specs.Given.{Given, done, declined, refusedBy}
 use Rattle.tables.specs.Tables.{Tables, fieldsAt, idAt, firstInput, firstOutput, indexes, currentList, wireAt, indexOf}
+use Rattle.tables.specs.Words.{noCounts, uncounted}
 use Rattle.net.specs.Net.{netNumber, onNet}
 use Rattle.net.specs.Parts.{lent}
 use Rattle.net.proofs.ClausesLaws.{kindsObeyed-fit}
@@ -27,11 +30,11 @@ use Rattle.questions.specs.declared.Calm.the-variants.{Is as CalmIs, Ref
 use Rattle.questions.specs.declared.Index.{Index}
 use Rattle.questions.specs.declared.Index.the-variants.{Refused as NoIndex}
 use Rattle.questions.specs.declared.Port.{Port}
-use Rattle.questions.specs.declared.Port.the-variants.{Refused as NoPort}
+use Rattle.questions.specs.declared.Port.the-variants.{Is as PortIs, Refused as NoPort}
 use Rattle.questions.specs.declared.Listed.{Listed}
 use Rattle.questions.specs.declared.Listed.the-variants.{Count, Refused as NotListed}
 use Rattle.rounds.specs.Round.{calm}
-use Rattle.questions.specs.Questions.{ofNet, AsksCalm, indexGives, indexFound, AsksIndex, valueGives, valueOnNet, AsksValue, listNumber, Listing, AsksSources, AsksTargets}
+use Rattle.questions.specs.Questions.{ofNet, AsksCalm, indexGives, indexFound, AsksIndex, portCount, valueAt, valueGives, valueOnNet, AsksValue, listNumber, Listing, AsksSources, AsksTargets}
 use Rattle.questions.specs.declared.Tip.{Tip}
 use Rattle.questions.specs.declared.Tip.the-variants.{Source, Target}
 use Rattle.questions.specs.Asked.{endOf, met, RowRight}
@@ -95,24 +98,57 @@ module _ (T : Tables) (side : Side) (i p : ℕ) where
       → AsksValue T side i p r
   value-there r z e = e ∙ lent-value side ∙ of-net T (valueOnNet T side i p) z
 
--- The same inside the tables that are looked at: no such component; a port of it, or none.
-module _ (T : Tables) (side : Side) (i p : ℕ) where
-  pub value-none : T .counts .components ≤ i → valueGives (NoPort (refusedBy 17)) ≡ valueOnNet T side i p
+-- The same inside the tables that are looked at. What the side says: how many ports there are, where they stand, and a port's value.
+module _ (T : Tables) (side : Side) (i : ℕ) where
+  -- The words of the components say how many ports there are.
+  pub count-words : portCount (uncounted (T .components) []) side i ≡ portCount T side i
+  count-words = by-side side
+    where
+      by-side : (x : Side) → portCount (uncounted (T .components) []) x i ≡ portCount T x i
+      by-side Inputs = refl
+      by-side Outputs = refl
+
+  pub count-input : side ≡ Inputs → fieldsAt T i .inputs ≡ portCount T side i
+  count-input e = ap (λ (x : Side). portCount T x i) (sym e)
+
+  pub count-output : side ≡ Outputs → fieldsAt T i .outputs ≡ portCount T side i
+  count-output e = ap (λ (x : Side). portCount T x i) (sym e)
+
+  module _ (p : ℕ) (f : Fields) (x w : ℕ) (e : f ≡ fieldsAt T i) where
+    pub value-input : side ≡ Inputs → x ≡ getD (T .inputs) (firstInput T i + p) 0 → w ≡ inputWidth f → ofWidth w x ≡ valueAt T side i p
+    value-input k n u =
+        (λ j. ofWidth (u j) (n j)) ∙ ap (λ (g : Fields). ofWidth (inputWidth g) (getD (T .inputs) (firstInput T i + p) 0)) e
+        ∙ ap (λ (y : Side). valueAt T y i p) (sym k)
+
+    pub value-output : side ≡ Outputs → x ≡ getD (T .outputs) (firstOutput T i + p) 0 → w ≡ outputWidth f → ofWidth w x ≡ valueAt T side i p
+    value-output k n u =
+        (λ j. ofWidth (u j) (n j)) ∙ ap (λ (g : Fields). ofWidth (outputWidth g) (getD (T .outputs) (firstOutput T i + p) 0)) e
+        ∙ ap (λ (y : Side). valueAt T y i p) (sym k)
+
+-- No such port, and one that is there.
+module _ (T : Tables) (side : Side) (i p m : ℕ) (w : m ≡ portCount (uncounted (T .components) []) side i) where
+  e : m ≡ portCount T side i
+  e = w ∙ count-words T side i
+
+  pub value-none : (leb (T .counts .components) i || leb m p) ≡ true → valueGives (NoPort (refusedBy 17)) ≡ valueOnNet T side i p
   unfolding valueOnNet
-  value-none h = rw (le-leb (T .counts .components) i h)
+  value-none h = rw (← e, h)
 
-  module _ (r : Port) (f : Fields) (start w : ℕ) (h : i < T .counts .components) (e : f ≡ fieldsAt T i) where
-    pub value-input : side ≡ Inputs → start ≡ firstInput T i → w ≡ inputWidth f
-        → valueGives r ≡ cond (leb (f .inputs) p) (declined (refusedBy 17)) (done (getD (T .inputs) (start + p) 0 ∷ w ∷ []))
-        → valueGives r ≡ valueOnNet T side i p
-    unfolding valueOnNet
-    value-input k q u given = given ∙ rw (k, u, q, e, lt-leb (T .counts .components) i h)
+  module _ (h : (leb (T .counts .components) i || leb m p) ≡ false) where
+    pub value-component : i < T .counts .components
+    value-component = leb-false (T .counts .components) i (or-left _ _ h)
 
-    pub value-output : side ≡ Outputs → start ≡ firstOutput T i → w ≡ outputWidth f
-        → valueGives r ≡ cond (leb (f .outputs) p) (declined (refusedBy 17)) (done (getD (T .outputs) (start + p) 0 ∷ w ∷ []))
-        → valueGives r ≡ valueOnNet T side i p
+    pub value-port : p < portCount (uncounted (T .components) []) side i
+    value-port = omega (arith, w, leb-false m p (or-right (leb (T .counts .components) i) _ h))
+
+    pub value-here : (v : Value) → v ≡ valueAt (lent (T .components) (T .inputs) (T .outputs) [] noCounts) side i p
+        → valueGives (PortIs v) ≡ valueOnNet T side i p
     unfolding valueOnNet
-    value-output k q u given = given ∙ rw (k, u, q, e, lt-leb (T .counts .components) i h)
+    value-here v u = ap (λ (x : Value). valueGives (PortIs x)) (u ∙ by-side side) ∙ rw (← e, h)
+      where
+        by-side : (x : Side) → valueAt (lent (T .components) (T .inputs) (T .outputs) [] noCounts) x i p ≡ valueAt T x i p
+        by-side Inputs = refl
+        by-side Outputs = refl
 
 -- Sources and targets: what is checked, in the order of the numbers.
 module _ (T : Tables) (i : ℕ) (list : List ℕ) where

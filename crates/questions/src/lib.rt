@@ -5,13 +5,12 @@ ghost use mathlib.Core.Bool.{cond};
 ghost use mathlib.Core.List.{[], _∷_};
 ghost use Prim.Native.Nat.{ℕ, _+_, _<_, _≤_};
 ghost use lib.ListN.{length, getD};
-ghost use lib.Dec.{eqb, leb};
+ghost use lib.Dec.{eqb};
 ghost use Rattle.lists.specs.Lists.{from, first, overlay};
-ghost use Rattle.kinds.specs.Given.{done, declined, refusedBy};
 ghost use Rattle.tables.specs.Tables.{tablesOf};
-ghost use Rattle.tables.specs.Words.{idIn};
+ghost use Rattle.tables.specs.Words.{noCounts, uncounted, idIn};
 ghost use Rattle.net.specs.Parts.{lent};
-ghost use Rattle.questions.specs.Questions.{AsksCalm, indexGives, indexFound, AsksIndex, valueGives, valueOnNet, AsksValue};
+ghost use Rattle.questions.specs.Questions.{AsksCalm, indexGives, indexFound, AsksIndex, portCount, valueAt, valueGives, valueOnNet, AsksValue};
 ghost use Rattle.questions.specs.Questions.{listNumber, Listing, AsksSources, AsksTargets};
 ghost use Rattle.questions.specs.Asked.{compAt, endOf, meets, met, markedBelow, RowRight};
 use kinds::Id;
@@ -86,18 +85,6 @@ fn search_id(components: &[u64], count: usize, id: Id) -> Index
     Index::Refused(refused_by(17))
 }
 
-// The value of a port out of a component's `count`, which start at `first` of their table and have `width` bits.
-fn port_value(ports: &[u64], first: usize, count: usize, width: u64, port: usize) -> Port
-    requires { ⌜ first + count ≤ length (now ports) ⌝ }
-    ensures { λ r. ⌜ valueGives r ≡ cond (leb count port) (declined (refusedBy 17)) (done (getD (now (ports .entry)) (first + port) 0 ∷ width ∷ [])) ⌝ }
-{
-    if count <= port {
-        return Port::Refused(refused_by(17));
-    }
-    let number = ports[first + port];
-    Port::Is(Value { number, width })
-}
-
 // Marks the component at the far end of each wire that has component i at its near end.
 fn mark_ends(wires: &[u16], count: usize, near: Tip, far: Tip, i: usize, marks: &mut [u8])
     requires { ⌜ ((k : ℕ) → k < count → endOf (now wires) k far < length (now marks)) ⌝ }
@@ -152,6 +139,49 @@ fn list_ends(
     list_marked(&marks, counts.components, list)
 }
 
+// How many ports component i has on a side.
+fn port_count(components: &[u64], side: Side, i: usize) -> usize
+    ensures { λ r. ⌜ r ≡ portCount (uncounted (now (components .entry)) []) side i ⌝ }
+{
+    match side {
+        Side::Inputs => tables::input_count(components, i),
+        Side::Outputs => tables::output_count(components, i),
+    }
+}
+
+// The number of a port of a component whose ports start at `first` of their table.
+fn port_number(ports: &[u64], first: usize, port: usize) -> u64
+    requires { ⌜ first + port < length (now ports) ⌝ }
+    ensures { λ r. ⌜ r ≡ getD (now (ports .entry)) (first + port) 0 ⌝ }
+{
+    ports[first + port]
+}
+
+// The value of a port of component i on a side. Crates questions and look call it for a component of a net and a port that it has.
+pub fn value_at(
+    components: &[u64],
+    inputs: &[u64],
+    outputs: &[u64],
+    side: Side,
+    i: usize,
+    port: usize,
+) -> Value
+    requires { ⌜ RowRight (now components) (now inputs) (now outputs) i × (port < portCount (uncounted (now components) []) side i) ⌝ }
+    ensures { λ r. ⌜ r ≡ valueAt (lent (now (components .entry)) (now (inputs .entry)) (now (outputs .entry)) [] noCounts) side i port ⌝ }
+{
+    let fields = tables::fields_at(components, i);
+    match side {
+        Side::Inputs => Value {
+            number: port_number(inputs, tables::first_input(components, i), port),
+            width: kinds::input_width(fields),
+        },
+        Side::Outputs => Value {
+            number: port_number(outputs, tables::first_output(components, i), port),
+            width: kinds::output_width(fields),
+        },
+    }
+}
+
 // The value of a port of component i on a side: 17 where there is none.
 fn value_in(
     components: &[u64],
@@ -165,22 +195,10 @@ fn value_in(
     requires { ⌜ (i < counts .components → RowRight (now components) (now inputs) (now outputs) i) ⌝ }
     ensures { λ r. ⌜ valueGives r ≡ valueOnNet (lent (now (components .entry)) (now (inputs .entry)) (now (outputs .entry)) [] counts) side i port ⌝ }
 {
-    if counts.components <= i {
+    if (counts.components <= i) | (port_count(components, side, i) <= port) {
         return Port::Refused(refused_by(17));
     }
-    let f = tables::fields_at(components, i);
-    match side {
-        Side::Inputs => {
-            let first = tables::first_input(components, i);
-            let width = kinds::input_width(f);
-            port_value(inputs, first, f.inputs as usize, width, port)
-        }
-        Side::Outputs => {
-            let first = tables::first_output(components, i);
-            let width = kinds::output_width(f);
-            port_value(outputs, first, f.outputs as usize, width, port)
-        }
-    }
+    Port::Is(value_at(components, inputs, outputs, side, i, port))
 }
 
 // What the questions for sources and targets check: 2, with the list that is lent for the answer; 16; 17.

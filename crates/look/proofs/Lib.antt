@@ -1,0 +1,6 @@
+pub mod PathLaws
+pub mod MatchLaws
+pub mod RowsLaws
+pub mod FewPorts
+pub mod ShowLaws
+pub mod LookLaws

@@ -1,0 +1,208 @@
+// What a look at a component shows. Rule: docs/SPECIFICATION.md, "Looking at a box". All functions are handed an accepted drawing with its
+// index filled; those that read values also its flat indexes, and tables that hold its primitives.
+ghost use mathlib.Core.Path.{_≡_};
+ghost use mathlib.Core.Bool.{false};
+ghost use mathlib.Core.List.{[], _∷_, map};
+ghost use Prim.Native.Nat.{_+_, _<_, _≤_};
+ghost use lib.ListN.{length};
+ghost use lib.Seq.{sets};
+ghost use lib.Dec.{eqb};
+ghost use Rattle.lists.specs.Lists.{overlay};
+ghost use Rattle.component.specs.Record.{recordAt, recordCount, inputsOf, outputsOf};
+ghost use Rattle.component.specs.declared.Verdict.the-variants.{Accepted};
+ghost use Rattle.index.specs.Index.{IsIndex};
+ghost use Rattle.flatten.specs.Descent.{pin};
+ghost use Rattle.flatten.specs.Verdict.{verdict};
+ghost use Rattle.load.specs.Laying.{Ready};
+ghost use Rattle.look.specs.declared.Looked.the-variants.{Shown};
+ghost use Rattle.look.specs.Look.{lastOf, behind, dangling, portsOn, portShown, shown};
+ghost use Rattle.look.specs.Looking.{RowsHeld, ported, valueShown, numbersOn, widthsOn};
+use crate::Looked;
+use component::deepest;
+use component::fields_at;
+use flatten::Pin;
+use flatten::list_targets;
+use flatten::source_of;
+use flatten::target_at;
+use load::flat_pin;
+use load::index_flat;
+use questions::Side;
+use questions::value_at;
+use value::Value;
+
+// Whether nothing is behind input i of component c.
+fn is_open(file: &[u8], index: &[u16], c: usize, i: u16) -> bool
+    requires { ⌜ (verdict (now file) ≡ Accepted) × IsIndex (now file) (now index) × (i < inputsOf (recordAt (now file) c)) ⌝ }
+    ensures { λ r. ⌜ r ≡ eqb (length (behind (recordAt (now (file .entry))) (recordCount (now (file .entry))) c i)) 0 ⌝ }
+{
+    let mut targets = [0u16; 2048];
+    list_targets(file, index, deepest(), c, i, &mut targets, 0) == 0
+}
+
+// Whether nothing is behind some input of component c.
+pub(crate) fn is_dangling(file: &[u8], index: &[u16], c: usize) -> bool
+    requires { ⌜ (verdict (now file) ≡ Accepted) × IsIndex (now file) (now index) ⌝ }
+    ensures { λ r. ⌜ r ≡ dangling (recordAt (now (file .entry))) (recordCount (now (file .entry))) c ⌝ }
+{
+    let count = fields_at(file, c).inputs;
+    let mut i: u16 = 0;
+    while i < count {
+        if is_open(file, index, c, i) {
+            return true;
+        }
+        i += 1;
+    }
+    false
+}
+
+// The primitive input that the maps of input i of component c reach last; input 0 of component n, the number of records, where they reach none.
+fn last_behind(file: &[u8], index: &[u16], c: usize, i: u16) -> Pin
+    requires { ⌜ (verdict (now file) ≡ Accepted) × IsIndex (now file) (now index) × (i < inputsOf (recordAt (now file) c)) ⌝ }
+    ensures { λ r. ⌜ r ≡ lastOf (pin (recordCount (now (file .entry))) 0) (behind (recordAt (now (file .entry))) (recordCount (now (file .entry))) c i) ⌝ }
+{
+    let mut targets = [0u16; 2048];
+    let count = list_targets(file, index, deepest(), c, i, &mut targets, 0);
+    if count == 0 {
+        return Pin {
+            comp: file.len() / 24,
+            port: 0,
+        };
+    }
+    target_at(&targets, count - 1)
+}
+
+// The primitive's port that port i of component c shows on a side.
+fn port_shown(file: &[u8], index: &[u16], side: Side, c: usize, i: u16) -> Pin
+    requires { ⌜ (verdict (now file) ≡ Accepted) × IsIndex (now file) (now index) × (i < portsOn side (recordAt (now file) c)) ⌝ }
+    ensures { λ r. ⌜ r ≡ portShown (recordAt (now (file .entry))) (recordCount (now (file .entry))) side c i ⌝ }
+{
+    match side {
+        Side::Inputs => last_behind(file, index, c, i),
+        Side::Outputs => source_of(file, index, deepest(), c, i),
+    }
+}
+
+// The value that port i of component c shows on a side.
+fn value_shown(
+    file: &[u8],
+    index: &[u16],
+    indexes: &[u16],
+    components: &[u64],
+    inputs: &[u64],
+    outputs: &[u64],
+    side: Side,
+    c: usize,
+    i: u16,
+) -> Value
+    requires { ⌜ Ready (now file) (now index) (now indexes) ⌝ }
+    requires { ⌜ RowsHeld (recordAt (now file)) (recordCount (now file)) (now components) (now inputs) (now outputs) ⌝ }
+    requires { ⌜ (i < portsOn side (recordAt (now file) c)) × (dangling (recordAt (now file)) (recordCount (now file)) c ≡ false) ⌝ }
+    ensures { λ r. ⌜ r ≡ valueShown (recordAt (now (file .entry))) (recordCount (now (file .entry)))
+        (ported (now (components .entry)) (now (inputs .entry)) (now (outputs .entry))) side c i ⌝ }
+{
+    let end = flat_pin(indexes, port_shown(file, index, side, c, i));
+    let comp = end.comp;
+    value_at(components, inputs, outputs, side, comp.0, end.port as usize)
+}
+
+// Shows the ports of component c on a side, `count` of them: numbers and widths, from a place of both lists on.
+fn show_side(
+    file: &[u8],
+    index: &[u16],
+    indexes: &[u16],
+    components: &[u64],
+    inputs: &[u64],
+    outputs: &[u64],
+    side: Side,
+    c: usize,
+    count: u16,
+    numbers: &mut [u64],
+    widths: &mut [u64],
+    at: usize,
+)
+    requires { ⌜ Ready (now file) (now index) (now indexes) ⌝ }
+    requires { ⌜ RowsHeld (recordAt (now file)) (recordCount (now file)) (now components) (now inputs) (now outputs) ⌝ }
+    requires { ⌜ (count ≡ portsOn side (recordAt (now file) c)) × (dangling (recordAt (now file)) (recordCount (now file)) c ≡ false) ⌝ }
+    requires { ⌜ (at + count ≤ length (now numbers)) × (at + count ≤ length (now widths)) ⌝ }
+    ensures { λ _. ⌜ now (numbers .exit) ≡ sets (now (numbers .entry)) at (numbersOn (recordAt (now (file .entry))) (recordCount (now (file .entry)))
+        (ported (now (components .entry)) (now (inputs .entry)) (now (outputs .entry))) side c) ⌝ }
+    ensures { λ _. ⌜ now (widths .exit) ≡ sets (now (widths .entry)) at (widthsOn (recordAt (now (file .entry))) (recordCount (now (file .entry)))
+        (ported (now (components .entry)) (now (inputs .entry)) (now (outputs .entry))) side c) ⌝ }
+{
+    let mut i: u16 = 0;
+    while i < count {
+        let value = value_shown(
+            file,
+            index,
+            indexes,
+            components,
+            inputs,
+            outputs,
+            side,
+            c,
+            i,
+        );
+        let k = at + i as usize;
+        numbers[k] = value.number;
+        widths[k] = value.width;
+        i += 1;
+    }
+}
+
+// Shows all ports of component c, inputs first, then outputs.
+pub(crate) fn show(
+    file: &[u8],
+    index: &[u16],
+    components: &[u64],
+    inputs: &[u64],
+    outputs: &[u64],
+    c: usize,
+    numbers: &mut [u64],
+    widths: &mut [u64],
+) -> Looked
+    requires { ⌜ (verdict (now file) ≡ Accepted) × IsIndex (now file) (now index) × (256 ≤ length (now numbers)) × (256 ≤ length (now widths)) ⌝ }
+    requires { ⌜ RowsHeld (recordAt (now file)) (recordCount (now file)) (now components) (now inputs) (now outputs) ⌝ }
+    requires { ⌜ dangling (recordAt (now file)) (recordCount (now file)) c ≡ false ⌝ }
+    ensures { λ r. ⌜ r ≡ Shown (inputsOf (recordAt (now (file .entry)) c)) (outputsOf (recordAt (now (file .entry)) c)) ⌝ }
+    ensures { λ _. ⌜ now (numbers .exit) ≡ overlay (map (λ (v : Value). v .number) (shown (recordAt (now (file .entry))) (recordCount (now (file .entry)))
+        (ported (now (components .entry)) (now (inputs .entry)) (now (outputs .entry))) c)) (now (numbers .entry)) ⌝ }
+    ensures { λ _. ⌜ now (widths .exit) ≡ overlay (map (λ (v : Value). v .width) (shown (recordAt (now (file .entry))) (recordCount (now (file .entry)))
+        (ported (now (components .entry)) (now (inputs .entry)) (now (outputs .entry))) c)) (now (widths .entry)) ⌝ }
+{
+    let mut indexes = [0u16; 256];
+    index_flat(file, &mut indexes);
+    let fields = fields_at(file, c);
+    let first = fields.inputs as usize;
+    show_side(
+        file,
+        index,
+        &indexes,
+        components,
+        inputs,
+        outputs,
+        Side::Inputs,
+        c,
+        fields.inputs,
+        numbers,
+        widths,
+        0,
+    );
+    show_side(
+        file,
+        index,
+        &indexes,
+        components,
+        inputs,
+        outputs,
+        Side::Outputs,
+        c,
+        fields.outputs,
+        numbers,
+        widths,
+        first,
+    );
+    Looked::Shown {
+        inputs: first,
+        outputs: fields.outputs as usize,
+    }
+}
