@@ -21,8 +21,9 @@ use Rattle.flatten.specs.Descent.{flat}
 use Rattle.flatten.specs.Leads.{From, starts, through, Into, ends, maps, Leads}
 use Rattle.flatten.proofs.Primitives.{primitivesBefore-complete}
 use Rattle.tables.specs.Tables.{Tables, fieldsAt, wiresIn, numbers, firstInput, firstOutput, standingList, named}
-use Rattle.load.specs.Load.{flatPin, loadVerdict, loadTables, standingAtLoad}
-use Rattle.load.proofs.FlatWires.{wire}
+use Rattle.laying.specs.Laid.{flatPin, standingAtLoad}
+use Rattle.load.specs.Load.{loadVerdict, loadTables}
+use Rattle.laying.proofs.FlatWires.{wire}
 use Rattle.loaded.proofs.Drawn.{IsDrawn}
 use Rattle.loaded.proofs.LoadTheorems.{accepted-net, accepted-fullSize, accepted-current, accepted-standing, accepted-following, accepted-drawn, accepted-primitive, accepted-below, accepted-leads-wired}
 use Rattle.net.proofs.NetLaws.{netNumber-0}

@@ -11,7 +11,7 @@ use Rattle.flatten.specs.Descent.{outputBelow, inputsBelow, comesFrom, goesTo}
 use Rattle.flatten.specs.Verdict.{verdict}
 use Rattle.tables.specs.Tables.{fullSize, endAt, wiresIn, currentList, followingList, standingList}
 use Rattle.load.specs.Load.{drawingTables, loadVerdict, loadTables}
-use Rattle.load.proofs.FlatWires.{wire}
+use Rattle.laying.proofs.FlatWires.{wire}
 use Rattle.net.specs.Net.{countsWithin, kindsObeyed, idsDistinct, portsFollow, valuesFit, constsHeld, wiresFit, inputsOnce, names, isNet, netNumber}
 use Rattle.rounds.specs.Round.{leave, evaluated, send, visit, round, portSet, editedState, calm, roundOf}
 use Rattle.simulator.specs.Calls.{roundTables, editNumber, editTables, run}

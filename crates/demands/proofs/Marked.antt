@@ -13,7 +13,7 @@ use Rattle.primitive.specs.Evaluate.{evaluateNumber, evaluateOutputs}
 use Rattle.component.specs.Record.{recordAt, recordCount}
 use Rattle.kinds.specs.Given.{spoken}
 use Rattle.flatten.specs.Verdict.{verdict, verdictGives}
-use Rattle.load.specs.Load.{flatWires}
+use Rattle.laying.specs.Laid.{flatWires}
 use Rattle.component.proofs.Drawings.{lamp, lampTwice}
 use Rattle.tables.specs.Tables.{wireWords}
 

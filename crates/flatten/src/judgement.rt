@@ -75,7 +75,7 @@ pub fn is_sized(file: &[u8]) -> bool
 }
 
 // What a file's bytes are judged to be; the lent index, of 82,432 words, is filled where the file is of a size that check 1 passes.
-// `judge` calls it, and crate load, which lays the wires with the same index.
+// `judge` calls it, and crate load, which has the wires laid with the same index.
 pub fn judge_indexed(file: &[u8], index: &mut [u16]) -> Verdict
     requires { ⌜ length (now index) ≡ 82432 ⌝ }
     ensures { λ r. ⌜ Judges (now (file .entry)) r ⌝ }

@@ -176,7 +176,7 @@ pub fn fill_index(file: &[u8], index: &mut [u16])
     fill_ends(file, n, &mut index[81920..82432]);
 }
 
-// Child k of owner o; the number of records where there is none. Crates checks, flatten and load call it with the index filled.
+// Child k of owner o; the number of records where there is none. Crates checks, flatten and laying call it with the index filled.
 pub fn child_of(file: &[u8], index: &[u16], o: usize, k: ChildNo) -> usize
     requires { ⌜ IsIndex (now file) (now index) ⌝ }
     ensures { λ r. ⌜ r ≡ child (recordAt (now (file .entry))) (recordCount (now (file .entry))) o (k .0) ⌝ }

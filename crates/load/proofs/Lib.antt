@@ -1,7 +1,1 @@
-pub mod FlatWires
-pub mod LayingLaws
-pub mod PassesLaws
-pub mod PortsLaws
-pub mod StandingLaws
-pub mod WiresLaws
 pub mod LoadLaws

@@ -24,11 +24,11 @@ use Rattle.tables.specs.declared.Counts.{Counts}
 use Rattle.tables.specs.Tables.{Tables, tablesOf, fullSize, wireWords}
 use Rattle.tables.proofs.SizesLaws.{fullSize-sound}
 use Rattle.tables.proofs.NamedLaws.{overlay-list, overlay-count}
-use Rattle.load.specs.declared.rows.Before.{Before}
-use Rattle.load.specs.Load.{primitives, primitiveWords, standingAtLoad, drawingTables, loadVerdict}
-use Rattle.load.specs.Load.{flatWires, loadTables, Loads}
-use Rattle.load.specs.Laying.{beforeAt, startingOf}
-use Rattle.load.proofs.StandingLaws.{standing-bound}
+use Rattle.laying.specs.declared.rows.Before.{Before}
+use Rattle.laying.specs.Laid.{primitives, primitiveWords, flatWires, standingAtLoad}
+use Rattle.laying.specs.Laying.{beforeAt, startingOf}
+use Rattle.laying.proofs.StandingLaws.{standing-bound}
+use Rattle.load.specs.Load.{drawingTables, loadVerdict, loadTables, Loads}
 
 -- There is room for what the passes write.
 module _ (s : List ℕ) (accepted : verdict s ≡ Accepted) (t : List ℕ) where

@@ -1,9 +1,5 @@
 // Loading a drawing into lent tables. Rules: docs/SPECIFICATION.md, "Flattening" and "Rounds" (the state at load).
 // Source: flatten.rs, `FlattenComponent::new`; simulator.rs, `Simulator::new`.
-mod names;
-mod rows;
-mod wires;
-
 ghost use mathlib.Core.Path.{_≡_};
 ghost use Prim.Native.Nat.{_≤_};
 ghost use lib.ListN.{length};
@@ -16,14 +12,14 @@ ghost use Rattle.tables.specs.Tables.{tablesOf, countsAfter};
 ghost use Rattle.load.specs.Load.{drawingTables, loadVerdict, Loads};
 use component::Verdict;
 use kinds::refused_by;
-use names::count_up;
-use names::lay_standing;
-use rows::lay_components;
-use rows::lay_outputs;
-use rows::zeros;
+use laying::count_up;
+use laying::lay_components;
+use laying::lay_outputs;
+use laying::lay_standing;
+use laying::lay_wires;
+use laying::zeros;
 use tables::Answer;
 use tables::Counts;
-use wires::lay_wires;
 
 // Writes the tables of an accepted drawing, with its index filled: all ports 0, a Const's output its value; standing every Const and Clock, following a copy
 // of it; current all components. The answer is how many entries of each table are in use.

@@ -27,8 +27,9 @@ use Rattle.flatten.proofs.Primitives.{flat-below, flat-inj, flat-onto, portsBef
 use Rattle.tables.specs.declared.Wire.{Wire}
 use Rattle.tables.specs.Tables.{Tables, fieldsAt, idAt, firstInput, firstOutput, inputPlace}
 use Rattle.tables.specs.Tables.{indexes, wiresIn}
-use Rattle.load.specs.Load.{primitives, flatPin, flatWires, drawingTables}
-use Rattle.load.proofs.FlatWires.{wire, flatWires-sound, leads-flatWires}
+use Rattle.laying.specs.Laid.{primitives, flatPin, flatWires}
+use Rattle.load.specs.Load.{drawingTables}
+use Rattle.laying.proofs.FlatWires.{wire, flatWires-sound, leads-flatWires}
 use Rattle.net.specs.Net.{isOutput, isInput}
 use Rattle.loaded.proofs.Entries.{loaded-wires, loaded-fields, loaded-id, loaded-firstInput, loaded-firstOutput}
 use Rattle.tables.proofs.SameLaws.{SameWiring, sameWiring-word, sameWiring-fields, sameWiring-wires}

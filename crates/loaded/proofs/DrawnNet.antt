@@ -28,8 +28,8 @@ use Rattle.flatten.proofs.Primitives.{primitive-obeyed, flat-onto, id-inj}
 use Rattle.tables.specs.declared.End.{End}
 use Rattle.tables.specs.declared.Wire.{Wire}
 use Rattle.tables.specs.Tables.{Tables, fieldsAt, idAt, firstInput, firstOutput, inputPlace, indexes}
-use Rattle.load.specs.Load.{flatPin, flatWires}
-use Rattle.load.proofs.FlatWires.{enteredEnds, flatWires-sound, flatWires-distinct}
+use Rattle.laying.specs.Laid.{flatPin, flatWires}
+use Rattle.laying.proofs.FlatWires.{enteredEnds, flatWires-sound, flatWires-distinct}
 use Rattle.net.specs.Net.{kindsObeyed, idsDistinct, inputSum, outputSum, portsFollow, wiresFit}
 use Rattle.net.specs.Net.{inputsOnce, wireFits}
 use Rattle.loaded.proofs.Drawn.{IsDrawn, drawn-primitive, drawn-every, drawn-isOutput, drawn-isInput}

@@ -17,8 +17,9 @@ use Rattle.flatten.proofs.Accepted.{Passed}
 use Rattle.flatten.proofs.Primitives.{primitive-below, flat-below, flat-place}
 use Rattle.tables.specs.declared.Wire.{Wire}
 use Rattle.tables.specs.Tables.{Tables, wordIn, endAt, fieldsAt, idAt, firstInput, firstOutput, wireAt, wiresIn, wireWords}
-use Rattle.load.specs.Load.{primitives, primitiveWords, flatWires, drawingTables}
-use Rattle.load.proofs.FlatWires.{wire}
+use Rattle.laying.specs.Laid.{primitives, primitiveWords, flatWires}
+use Rattle.load.specs.Load.{drawingTables}
+use Rattle.laying.proofs.FlatWires.{wire}
 
 -- What stands past the last wire; no law depends on it.
 abbrev noWire : Wire

@@ -17,8 +17,9 @@ use Rattle.flatten.specs.Descent.{flat}
 use Rattle.flatten.specs.Leads.{Leads}
 use Rattle.flatten.proofs.Accepted.{Passed}
 use Rattle.tables.specs.Tables.{Tables, fullSize, wiresIn, currentList, followingList, standingList}
-use Rattle.load.specs.Load.{flatPin, standingAtLoad, drawingTables, loadVerdict, loadTables}
-use Rattle.load.proofs.FlatWires.{wire}
+use Rattle.laying.specs.Laid.{flatPin, standingAtLoad}
+use Rattle.load.specs.Load.{drawingTables, loadVerdict, loadTables}
+use Rattle.laying.proofs.FlatWires.{wire}
 use Rattle.net.specs.Net.{isNet}
 use Rattle.tables.proofs.SameLaws.{SameWiring}
 use Rattle.loaded.proofs.Sizes.{loaded-current, loaded-following, loaded-standing}

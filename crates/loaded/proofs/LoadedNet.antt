@@ -25,10 +25,11 @@ use Rattle.flatten.proofs.Primitives.{primitive-obeyed, flat-below, flat-inj, p
 use Rattle.flatten.proofs.Primitives.{primitivesBefore-distinct, primitives-bound, inputs-bound, outputs-bound}
 use Rattle.tables.specs.Tables.{Tables, fieldsAt, firstOutput, inputsAt, outputsAt, currentList, followingList}
 use Rattle.tables.specs.Tables.{standingList}
-use Rattle.load.specs.Load.{primitives, standingAtLoad, drawingTables}
-use Rattle.load.proofs.FlatWires.{flatWires-bound}
-use Rattle.load.proofs.StandingLaws.{standing-bound}
-use Rattle.load.proofs.PortsLaws.{starting-length}
+use Rattle.laying.specs.Laid.{primitives, standingAtLoad}
+use Rattle.load.specs.Load.{drawingTables}
+use Rattle.laying.proofs.FlatWires.{flatWires-bound}
+use Rattle.laying.proofs.StandingLaws.{standing-bound}
+use Rattle.laying.proofs.PortsLaws.{starting-length}
 use Rattle.net.specs.Net.{countsWithin, valuesFit, constsHeld, names}
 use Rattle.loaded.proofs.Starting.{zeros-fit, starting-fits, starting-const}
 use Rattle.loaded.proofs.Entries.{loaded-fields}

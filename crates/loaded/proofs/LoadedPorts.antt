@@ -17,9 +17,10 @@ use Rattle.flatten.specs.Descent.{flat}
 use Rattle.flatten.proofs.Accepted.{Passed}
 use Rattle.flatten.proofs.Primitives.{primitive-below, primitive-obeyed, primitivesBefore-split, portsBefore-within}
 use Rattle.tables.specs.Tables.{Tables, numbers, inputsAt, outputsAt}
-use Rattle.load.specs.Load.{primitives, drawingTables}
-use Rattle.load.specs.Laying.{startingOf}
-use Rattle.load.proofs.PortsLaws.{starting-length, starting-before}
+use Rattle.laying.specs.Laid.{primitives}
+use Rattle.load.specs.Load.{drawingTables}
+use Rattle.laying.specs.Laying.{startingOf}
+use Rattle.laying.proofs.PortsLaws.{starting-length, starting-before}
 use Rattle.loaded.proofs.Entries.{loaded-fields, loaded-firstInput, loaded-firstOutput}
 
 -- Every input that there is is 0.

@@ -16,11 +16,12 @@ use Rattle.flatten.proofs.Primitives.{primitives-bound, inputs-bound, outputs-b
 use Rattle.tables.proofs.SizesLaws.{fullSize-sound}
 use Rattle.tables.proofs.SameLaws.{SameLengths}
 use Rattle.tables.specs.Tables.{Tables, fullSize, currentList, followingList, standingList, wireWords}
-use Rattle.load.specs.Load.{primitives, primitiveWords, flatWires, standingAtLoad, drawingTables}
-use Rattle.load.proofs.FlatWires.{flatWires-bound}
-use Rattle.load.specs.Laying.{startingOf}
-use Rattle.load.proofs.StandingLaws.{standing-bound}
-use Rattle.load.proofs.PortsLaws.{starting-before}
+use Rattle.laying.specs.Laid.{primitives, primitiveWords, flatWires, standingAtLoad}
+use Rattle.load.specs.Load.{drawingTables}
+use Rattle.laying.proofs.FlatWires.{flatWires-bound}
+use Rattle.laying.specs.Laying.{startingOf}
+use Rattle.laying.proofs.StandingLaws.{standing-bound}
+use Rattle.laying.proofs.PortsLaws.{starting-before}
 
 -- The three lists.
 module _ (at : ℕ → Record) (n : ℕ) (T : Tables) where

@@ -57,7 +57,7 @@ pub fn strike(list: &mut [u16], count: usize, x: u16) -> usize
 }
 
 // Copies a list of count entries to the front of another table, which keeps what it held past them. Crate rounds calls it for the
-// lists of a net, and crate load for the standing list that it has laid.
+// lists of a net, and crate load for the standing list that crate laying has laid.
 pub fn copy(list: &[u16], count: usize, into: &mut [u16])
     requires { ⌜ (count ≤ length (now list)) × (count ≤ length (now into)) ⌝ }
     ensures { λ _. ⌜ now (into .exit) ≡ overlay (take count (now (list .entry))) (now (into .entry)) ⌝ }

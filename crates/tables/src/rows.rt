@@ -114,7 +114,7 @@ pub fn fields_at(components: &[u64], i: usize) -> Fields
     }
 }
 
-// Lays the words of component i, whose ports start at `inputs` and `outputs` of their tables. Crate load calls it for the
+// Lays the words of component i, whose ports start at `inputs` and `outputs` of their tables. Crate laying calls it for the
 // primitives of an accepted drawing, for which a table of full size has room.
 pub fn lay_row(
     components: &mut [u64],

@@ -40,7 +40,7 @@ pub fn wire_at(wires: &[u16], k: usize) -> Wire
     Wire { src, dst }
 }
 
-// Lays the words of wire k. Crate load calls it for the wires of an accepted drawing, for which a table of full size has room.
+// Lays the words of wire k. Crate laying calls it for the wires of an accepted drawing, for which a table of full size has room.
 pub fn lay_wire(wires: &mut [u16], k: usize, wire: Wire)
     requires { ⌜ (wirePlace k + 4 ≤ length (now wires)) × (wire .src .comp .0 < 65536) × (wire .dst .comp .0 < 65536) ⌝ }
     ensures { λ _. ⌜ now (wires .exit) ≡ sets (now (wires .entry)) (wirePlace k) (wireWords wire) ⌝ }

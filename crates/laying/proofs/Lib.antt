@@ -1,0 +1,6 @@
+pub mod FlatWires
+pub mod LayingLaws
+pub mod PassesLaws
+pub mod PortsLaws
+pub mod StandingLaws
+pub mod WiresLaws
