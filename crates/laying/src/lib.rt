@@ -12,4 +12,5 @@ pub use rows::Before;
 pub use rows::lay_components;
 pub use rows::lay_outputs;
 pub use rows::zeros;
+pub use wires::flat_pin;
 pub use wires::lay_wires;

@@ -88,7 +88,7 @@ pub fn lay_standing(file: &[u8], standing: &mut [u16]) -> usize
     stood.count
 }
 
-// Fills the table of flat indexes: word c is the flat index of component c, the primitives before it. `lay_wires` calls it, with a table of
+// Fills the table of flat indexes: word c is the flat index of component c, the primitives before it. `lay_wires` calls it, and crate look, with a table of
 // 256 words.
 pub fn index_flat(file: &[u8], flat: &mut [u16])
     requires { ⌜ length (now flat) ≡ 256 ⌝ }

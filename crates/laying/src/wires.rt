@@ -28,8 +28,8 @@ use tables::End;
 use tables::FlatIdx;
 use tables::Wire;
 
-// A port of a component of the drawing as the net has it.
-fn flat_pin(indexes: &[u16], pin: Pin) -> End
+// A port of a component of the drawing as the net has it. Crates laying and look call it, with the flat indexes filled.
+pub fn flat_pin(indexes: &[u16], pin: Pin) -> End
     requires { ⌜ (length (now indexes) ≡ 256) × (pin .comp < 256) ⌝ }
     ensures { λ r. ⌜ (r ≡ endBy (now (indexes .entry)) pin) × (r .comp .0 < 65536) ⌝ }
 {
@@ -124,7 +124,7 @@ fn connect_all(file: &[u8], index: &[u16], indexes: &[u16], wires: &mut [u16]) -
     at
 }
 
-// Lays the wires of an accepted drawing, with its index filled. The answer is how many there are. Crate load calls it with a table of full size.
+// Lays the wires of an accepted drawing, with its index filled. The answer is how many there are. Crates load and look call it with a table of full size.
 pub fn lay_wires(file: &[u8], index: &[u16], wires: &mut [u16]) -> usize
     requires { ⌜ (verdict (now file) ≡ Accepted) × IsIndex (now file) (now index) × (4096 ≤ length (now wires)) ⌝ }
     ensures { λ r. ⌜ now (wires .exit) ≡ overlay (joined wireWords (flatWires (recordAt (now (file .entry))) (recordCount (now (file .entry)))))

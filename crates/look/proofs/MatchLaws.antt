@@ -14,7 +14,7 @@ use Rattle.lists.proofs.TestsLaws.{and-left, and-right}
 use Rattle.lists.proofs.OverlayLaws.{overlay-front, overlay-length, joined-width}
 use Rattle.component.specs.declared.Record.{Record}
 use Rattle.tables.specs.Tables.{Tables, wireWords}
-use Rattle.load.specs.Load.{primitives, primitiveWords, flatWires}
+use Rattle.laying.specs.Laid.{primitives, primitiveWords, flatWires}
 use Rattle.look.specs.Look.{same, matched}
 
 -- Lists of two lengths are not the same.

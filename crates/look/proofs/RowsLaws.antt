@@ -19,7 +19,7 @@ use Rattle.flatten.proofs.Accepted.{Passed, accepted-passed}
 use Rattle.flatten.proofs.Primitives.{flat-below}
 use Rattle.tables.specs.Tables.{Tables, tablesOf, wireWords}
 use Rattle.tables.specs.Words.{fieldsIn}
-use Rattle.load.specs.Load.{primitives, primitiveWords, flatWires}
+use Rattle.laying.specs.Laid.{primitives, primitiveWords, flatWires}
 use Rattle.load.specs.Load.{drawingTables}
 use Rattle.net.specs.Net.{netNumber}
 use Rattle.net.proofs.NetLaws.{netNumber-sizes}

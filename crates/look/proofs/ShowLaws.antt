@@ -36,8 +36,8 @@ use Rattle.flatten.proofs.Ends.{IsInput, IsOutput, into-there, from-there}
 use Rattle.flatten.proofs.TargetsLaws.{listed-count, listed-length, listed-read}
 use Rattle.tables.specs.declared.End.{End}
 use Rattle.tables.specs.Words.{uncounted, fieldsIn}
-use Rattle.load.specs.Laying.{IsFlat, endBy}
-use Rattle.load.proofs.LayingLaws.{sets-next}
+use Rattle.laying.specs.Laying.{IsFlat, endBy}
+use Rattle.laying.proofs.LayingLaws.{sets-next}
 use Rattle.questions.specs.declared.Side.{Side}
 use Rattle.questions.specs.declared.Side.the-variants.{Inputs, Outputs}
 use Rattle.questions.specs.Questions.{portCount, valueAt}

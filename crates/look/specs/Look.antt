@@ -18,7 +18,7 @@ use Rattle.flatten.specs.declared.Pin.{Pin}
 use Rattle.flatten.specs.Descent.{pin, outputBelow, inputsBelow, flat}
 use Rattle.flatten.specs.Verdict.{sized, refused, verdict, verdictGives}
 use Rattle.tables.specs.Tables.{Tables, fullSize, wireWords}
-use Rattle.load.specs.Load.{primitives, primitiveWords, flatWires}
+use Rattle.laying.specs.Laid.{primitives, primitiveWords, flatWires}
 use Rattle.net.specs.Net.{isNet}
 use Rattle.questions.specs.declared.Side.{Side}
 use Rattle.questions.specs.declared.Side.the-variants.{Inputs, Outputs}

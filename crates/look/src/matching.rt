@@ -9,11 +9,11 @@ ghost use Rattle.component.specs.declared.Verdict.the-variants.{Accepted};
 ghost use Rattle.index.specs.Index.{IsIndex};
 ghost use Rattle.flatten.specs.Verdict.{verdict};
 ghost use Rattle.tables.specs.Tables.{wireWords};
-ghost use Rattle.load.specs.Load.{primitives, primitiveWords, flatWires};
+ghost use Rattle.laying.specs.Laid.{primitives, primitiveWords, flatWires};
 ghost use Rattle.look.specs.Look.{same, matched};
 ghost use Rattle.net.specs.Parts.{lent};
-use load::lay_components;
-use load::lay_wires;
+use laying::lay_components;
+use laying::lay_wires;
 use tables::Counts;
 
 // Whether two tables of words have the same first words.

@@ -5,8 +5,8 @@ use native.Mathlib.Omega.{arith}
 use Rattle.lists.proofs.OverlayLaws.{joined-width}
 use Rattle.component.specs.Record.{recordAt, recordCount}
 use Rattle.flatten.proofs.WireTheorems.{accepted-primitives-bound}
-use Rattle.load.specs.declared.rows.Before.{Before}
-use Rattle.load.specs.Load.{primitives, primitiveWords}
+use Rattle.laying.specs.declared.rows.Before.{Before}
+use Rattle.laying.specs.Laid.{primitives, primitiveWords}
 use Rattle.look.proofs.MatchLaws.{laid-other, laid-room, laid-same}
 use borrow.Author.Needs.{needs}
 use Rattle.look.proofs.matching.components_match.Statement.{statement}

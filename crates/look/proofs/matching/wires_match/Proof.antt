@@ -6,8 +6,8 @@ use Rattle.lists.proofs.OverlayLaws.{joined-width}
 use Rattle.component.specs.Record.{recordAt, recordCount}
 use Rattle.flatten.proofs.Accepted.{accepted-passed}
 use Rattle.tables.specs.Tables.{wireWords}
-use Rattle.load.specs.Load.{flatWires}
-use Rattle.load.proofs.FlatWires.{flatWires-bound}
+use Rattle.laying.specs.Laid.{flatWires}
+use Rattle.laying.proofs.FlatWires.{flatWires-bound}
 use Rattle.look.proofs.MatchLaws.{laid-other, laid-room, laid-same}
 use borrow.Author.Needs.{needs}
 use Rattle.look.proofs.matching.wires_match.Statement.{statement}

@@ -3,7 +3,7 @@
 use mathlib.Core.Path.{ap}
 use Rattle.value.specs.declared.Value.{Value}
 use Rattle.kinds.specs.declared.table.Fields.{Fields}
-use Rattle.load.specs.Laying.{Ready}
+use Rattle.laying.specs.Laying.{Ready}
 use Rattle.look.specs.declared.Looked.the-variants.{Shown}
 use Rattle.look.proofs.ShowLaws.{first-room, second-room, both-shown}
 use borrow.Author.Needs.{needs}
