@@ -1,1 +1,3 @@
 pub mod ReachedMatch
+pub mod LastLaws
+pub mod Shows
