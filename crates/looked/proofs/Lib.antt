@@ -1,3 +1,5 @@
-pub mod ReachedMatch
 pub mod LastLaws
 pub mod Shows
+pub mod ReachedMatch
+pub mod Boxes
+pub mod Cases
