@@ -73,7 +73,7 @@ module _ (at : ℕ → Record) (n : ℕ) (d : Passed at n) where
         λ t v. subst (In t) none (targets-complete at n d 0 deepest c (r .0) t (zero-add deepest) refl v),
       )
 
-  no-open-input : (c : ℕ) → NoOpenInput at n c
+  pub no-open-input : (c : ℕ) → NoOpenInput at n c
   unfolding dangling
   no-open-input c e i l =
       let full = any-none (λ j. eqb (length (behind at n c j)) 0) i (from 0 (inputsOf (at c))) e (from0-complete (inputsOf (at c)) i l) in

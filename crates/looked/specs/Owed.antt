@@ -2,6 +2,8 @@
 -- docs/SPECIFICATION.md, "Looking at a box".
 --   Last at n c i t   t is the primitive input that input i of component c reaches last, with no depth
 --   LookShows         what a look shows is what the drawing says, and 21 is given for an open input alone
+--   LookAsLoad        where a load is refused, a look is refused alike
+--   LookAccepted      a look that is not refused is at a component, and shows what its inputs reach last and its outputs come from
 --   LookReached       a look at reached tables is refused for its path or with 21 alone
 -- Assumes nothing.
 use mathlib.Core.Path.{_≡_}
@@ -11,8 +13,9 @@ use mathlib.Core.List.{List, [], _∷_}
 use lib.ListN.{length}
 use lib.Dec.{leb}
 use Rattle.lists.specs.Lists.{refusal, _if_}
+use Rattle.kinds.specs.declared.answers.Refusal.{Refusal}
 use Rattle.component.specs.declared.Record.{Record}
-use Rattle.component.specs.declared.Verdict.the-variants.{Accepted}
+use Rattle.component.specs.declared.Verdict.the-variants.{Accepted, Refused}
 use Rattle.component.specs.Record.{recordAt, recordCount, toOf, inputOf, inputsOf, outputsOf, isPrimitive}
 use Rattle.component.specs.Drawing.{child, mapsIn}
 use Rattle.flatten.specs.declared.Pin.{Pin}
@@ -20,6 +23,7 @@ use Rattle.flatten.specs.Descent.{pin}
 use Rattle.flatten.specs.Leads.{From, Into}
 use Rattle.flatten.specs.Verdict.{verdict}
 use Rattle.tables.specs.Tables.{Tables}
+use Rattle.load.specs.Load.{loadVerdict}
 use Rattle.questions.specs.declared.Side.the-variants.{Inputs, Outputs}
 use Rattle.look.specs.Look.{matched, dangling, portShown, andThen, lookedAt, lookVerdict}
 use Rattle.demands.specs.Reached.{Reached}
@@ -55,6 +59,21 @@ LookShows =
     (file : List ℕ) → verdict file ≡ Accepted
     → let at = recordAt file in let n = recordCount file in
     (c : ℕ) → (at c .form) ≡ 1 → InputsShown at n c × OutputsShown at n c × OpenInput at n c × NoOpenInput at n c
+
+-- "after a load's own": where a load of the file is refused, a look, its lists long enough, is refused alike.
+abbrev pub LookAsLoad : Type 0
+LookAsLoad =
+    (file : List ℕ) (T : Tables) (path ns ws : List ℕ) → 256 ≤ length ns → 256 ≤ length ws
+    → (r : Refusal) → loadVerdict file T ≡ Refused r → lookVerdict file T path ns ws ≡ Refused r
+
+-- A look that is not refused, whatever the tables, is at a component of the drawing. It shows what each input reaches last and each output comes from.
+abbrev pub LookAccepted : Type 0
+LookAccepted =
+    (file : List ℕ) (T : Tables) (path ns ws : List ℕ) → lookVerdict file T path ns ws ≡ Accepted
+    → let at = recordAt file in let n = recordCount file in let c = lookedAt file path in
+    ((at c .form) ≡ 1)
+    × ((i : ℕ) → i < inputsOf (at c) → Last at n c i (portShown at n Inputs c i))
+    × ((i : ℕ) → i < outputsOf (at c) → From at n c i (portShown at n Outputs c i))
 
 -- "File and tables match when the tables hold the components and wires that a load of the file gives": those that calls reach from a load of the
 -- file match it, so that a look at them, its lists long enough, is refused for "no such path" or with 21 alone, "position 0 for both".
