@@ -65,7 +65,7 @@ module _ (file : List ℕ) (T : Tables) (bytes : IsBytes file) (a : loadVerdict 
       (primitivesBefore (recordAt file) (recordCount file)) q
       (primitivesBefore-complete (recordAt file) (recordCount file) x (recordCount file) (p .of-primitive) (p .in-file)))))
 
-  load-fresh : Fresh L
+  pub load-fresh : Fresh L
   load-fresh =
       record {
         net = sym (netNumber-0 L (accepted-fullSize file T a) (accepted-net file T a bytes));

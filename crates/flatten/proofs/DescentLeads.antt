@@ -78,7 +78,7 @@ module _ (at : ℕ → Record) (n : ℕ) where
 
 module _ (at : ℕ → Record) (n : ℕ) (d : Passed at n) where
   -- A child is one deeper than its owner.
-  deeper-child : (g o k : ℕ) → formOf (at (child at n o k)) ≡ 1 → deeper at g o ≡ true
+  pub deeper-child : (g o k : ℕ) → formOf (at (child at n o k)) ≡ 1 → deeper at g o ≡ true
       → deeper at (suc g) (child at n o k) ≡ true
   deeper-child g o k e u =
       let r = child-owner at n d o k e in
@@ -90,7 +90,7 @@ module _ (at : ℕ → Record) (n : ℕ) (d : Passed at n) where
       let z : g ≡ deepest = omega arith in
       true≢false (sym u ∙ ap (λ (x : ℕ). deeper at x c) z ∙ component-deep at n d c e)
 
-  into-component : (c i : ℕ) (t : Pin) → Into at n c i t → formOf (at c) ≡ 1
+  pub into-component : (c i : ℕ) (t : Pin) → Into at n c i t → formOf (at c) ≡ 1
   into-component c i t (ends e u) = primitive-component (at c) e
   into-component c i t (maps q l e m r) =
       let s = mapsIn-sound at n c i q m in

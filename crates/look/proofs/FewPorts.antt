@@ -4,12 +4,11 @@ use mathlib.Core.Path.{_≡_, ap}
 use mathlib.Core.Logic.{⊎-elim}
 use Prim.Native.Nat.{ℕ, _≤_}
 use native.Mathlib.Omega.{arith}
-use mathlib.Core.Bool.{true}
 use mathlib.Core.List.{List}
 use Rattle.kinds.specs.declared.table.Fields.{Fields}
 use Rattle.kinds.specs.declared.Kind.{Kind}
 use Rattle.kinds.specs.declared.Kind.the-variants.{Composite, And, Or, Not, Nand, Nor, Xor, Switch, Input, Output, Splitter, Joiner, Clock, Const}
-use Rattle.kinds.specs.Kinds.{kindOf, row, rowOf, mostPorts, obeys}
+use Rattle.kinds.specs.Kinds.{kindOf, row, mostPorts}
 use Rattle.kinds.proofs.ObeysLaws.{InRow, obeys-row}
 use Rattle.component.specs.declared.Verdict.the-variants.{Accepted}
 use Rattle.component.specs.Record.{recordAt, recordCount, fieldsOf, inputsOf, outputsOf}

@@ -4,7 +4,7 @@ use mathlib.Core.Path.{_≡_, refl, sym, ap, _∙_}
 use mathlib.Core.Logic.{⊎-elim}
 use Prim.Native.Nat.{ℕ, suc, _+_, _-_, _<_, _≤_}
 use native.Mathlib.Omega.{arith}
-use mathlib.Core.Bool.{Bool, true, false, _&&_}
+use mathlib.Core.Bool.{true, false, _&&_}
 use mathlib.Core.List.{List, [], _∷_, foldl}
 use lib.ListN.{length, getD, drop, drop-of-length-le}
 use lib.Seq.{drop-cons}
@@ -25,7 +25,7 @@ use Rattle.component.proofs.RecordLaws.{unseen-test, seen-is}
 use Rattle.flatten.specs.Verdict.{verdict}
 use Rattle.flatten.proofs.Accepted.{Passed, accepted-passed}
 use Rattle.flatten.proofs.Components.{component-below, owner-before}
-use Rattle.look.specs.Look.{childNamed, placeOf, lookedAt}
+use Rattle.look.specs.Look.{childNamed}
 use Rattle.look.specs.Looking.{named}
 
 -- A record that is no component is no child, and a component is one where owner and id are those asked for.

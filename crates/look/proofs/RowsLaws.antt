@@ -1,9 +1,9 @@
 -- Tables that are a net and match the drawing hold its primitives: the component table is what a load of the drawing makes of it.
 -- Assumes nothing.
-use mathlib.Core.Path.{_≡_, refl, sym, ap, _∙_, subst}
+use mathlib.Core.Path.{_≡_, refl, sym, ap, _∙_}
 use Prim.Native.Nat.{ℕ, _*_, _≤_}
 use native.Mathlib.Omega.{arith}
-use mathlib.Core.Bool.{true, _&&_}
+use mathlib.Core.Bool.{true}
 use mathlib.Core.List.{List, _++_}
 use lib.ListN.{length, take, drop, take-append-drop}
 use lib.Seq.{length-take-le}
@@ -11,22 +11,19 @@ use Rattle.lists.specs.Lists.{joined, overlay}
 use Rattle.lists.proofs.TestsLaws.{and-left}
 use Rattle.lists.proofs.OverlayLaws.{joined-width}
 use Rattle.component.specs.declared.Record.{Record}
-use Rattle.component.specs.declared.Verdict.the-variants.{Accepted}
-use Rattle.component.specs.Record.{recordAt, recordCount, fieldsOf, isPrimitive}
 use Rattle.flatten.specs.Descent.{flat}
-use Rattle.flatten.specs.Verdict.{verdict}
-use Rattle.flatten.proofs.Accepted.{Passed, accepted-passed}
+use Rattle.flatten.proofs.Accepted.{Passed}
 use Rattle.flatten.proofs.Primitives.{flat-below}
-use Rattle.tables.specs.Tables.{Tables, tablesOf, wireWords}
+use Rattle.tables.specs.Tables.{Tables}
 use Rattle.tables.specs.Words.{fieldsIn}
-use Rattle.laying.specs.Laid.{primitives, primitiveWords, flatWires}
+use Rattle.laying.specs.Laid.{primitives, primitiveWords}
 use Rattle.load.specs.Load.{drawingTables}
 use Rattle.net.specs.Net.{netNumber}
 use Rattle.net.proofs.NetLaws.{netNumber-sizes}
 use Rattle.rounds.proofs.Sound.{net-within}
 use Rattle.loaded.proofs.Entries.{loaded-fields}
 use Rattle.questions.proofs.QuestionsLaws.{net-row}
-use Rattle.look.specs.Look.{same, matched}
+use Rattle.look.specs.Look.{matched}
 use Rattle.look.specs.Looking.{RowsHeld}
 use Rattle.look.proofs.MatchLaws.{same-sound}
 

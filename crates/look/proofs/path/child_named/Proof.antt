@@ -1,9 +1,8 @@
 -- `child_named`: the first child of the id among the records to come is the answer.
 -- Assumes nothing.
 use mathlib.Core.Path.{_≡_, refl, sym, _∙_}
-use Prim.Native.Nat.{_-_, _/_}
-use native.Mathlib.Omega.{arith}
-use lib.ListN.{length, getD}
+use Prim.Native.Nat.{_-_}
+use lib.ListN.{getD}
 use Rattle.lists.specs.Lists.{from, keep}
 use Rattle.lists.proofs.ListsLaws.{kth-here, kth-next, kth-none}
 use Rattle.component.specs.Record.{recordAt, recordCount}

@@ -1,0 +1,104 @@
+-- A look and a load: what refuses a load refuses a look alike (`LookAsLoad`); and a look that is not refused has passed a load's own checks, 20 and
+-- 21, so that it is at a component without an open input, and shows what the drawing says (`LookAccepted`).
+-- Assumes nothing.
+use mathlib.Core.Path.{_≡_, refl, ap}
+use mathlib.Core.Logic.{_⊎_, inl, inr, ⊎-elim}
+use Prim.Native.Nat.{ℕ, _-_, _<_}
+use native.Mathlib.Nat.{zero-add}
+use native.Mathlib.Omega.{arith}
+use mathlib.Core.Bool.{Bool, true, false, cond, not, _&&_, _||_, and-true}
+use mathlib.Core.List.{List, [], _∷_, foldl}
+use borrow.Author.Tests.{eqb-true, le-leb, leb-false, not-false}
+use lib.ListN.{length}
+use lib.Dec.{eqb, leb}
+use Rattle.lists.specs.Lists.{from, keep, _if_}
+use Rattle.lists.proofs.ListsLaws.{refusal-first, refusal-rest}
+use Rattle.lists.proofs.TestsLaws.{and-left, or-right}
+use Rattle.lists.proofs.MembersLaws.{getD-cases, keep-sound}
+use Rattle.kinds.specs.Given.{refusedBy}
+use Rattle.component.specs.declared.Record.{Record}
+use Rattle.component.specs.declared.Verdict.{Verdict}
+use Rattle.component.specs.declared.Verdict.the-variants.{Accepted, Refused}
+use Rattle.component.specs.Record.{recordAt, recordCount, ownedAs}
+use Rattle.component.specs.Reading.{formOf, ownerOf, idOf}
+use Rattle.component.specs.Drawing.{deepest}
+use Rattle.flatten.specs.Verdict.{sized, refused, verdict}
+use Rattle.flatten.proofs.Accepted.{Passed, refused-not, accepted-passed}
+use Rattle.flatten.proofs.DescentLeads.{source-sound}
+use Rattle.tables.specs.Tables.{Tables, fullSize}
+use Rattle.load.specs.Load.{loadVerdict}
+use Rattle.net.specs.Net.{isNet}
+use Rattle.look.specs.Look.{childNamed, placeOf, matched, dangling, lookNumber, andThen, lookedAt, loadsOwn, lookVerdict}
+use Rattle.looked.specs.Owed.{LookAsLoad, LookAccepted}
+use Rattle.looked.proofs.Shows.{no-open-input}
+
+pub look-as-load : LookAsLoad
+unfolding lookVerdict loadVerdict
+look-as-load file T path ns ws h k r e =
+    let own : loadsOwn file T ns ws ≡ Refused r = rw (le-leb 256 (length ns) h, le-leb 256 (length ws) k, and-true (fullSize T), and-true (fullSize T)) e in
+    ap (λ (v : Verdict). andThen v (lookNumber (recordAt file) (recordCount file) T (lookedAt file path))) own
+
+-- Accepted after both: each has passed.
+andThen-passed : (v : Verdict) (k : ℕ) → andThen v k ≡ Accepted → (v ≡ Accepted) × (k ≡ 0)
+andThen-passed (Refused r) k e = absurd (refused-not (r .number) (r .position) e)
+andThen-passed Accepted k e = by-number (eqb k 0) refl e
+  where
+    by-number : (b : Bool) → eqb k 0 ≡ b → cond b Accepted (Refused (refusedBy k)) ≡ Accepted → (Accepted ≡ Accepted) × (k ≡ 0)
+    by-number true z e = (refl, eqb-true k 0 z)
+    by-number false z e = absurd (refused-not k 0 e)
+
+loadsOwn-passed : (file : List ℕ) (T : Tables) (ns ws : List ℕ) → loadsOwn file T ns ws ≡ Accepted → verdict file ≡ Accepted
+loadsOwn-passed file T ns ws e = by-sizes (sized file) (fullSize T && leb 256 (length ns) && leb 256 (length ws)) e
+  where
+    by-sizes : (b c : Bool) → cond b (cond c (verdict file) (refused 2 0)) (refused 1 0) ≡ Accepted → verdict file ≡ Accepted
+    by-sizes true true e = e
+    by-sizes true false e = absurd (refused-not 2 0 e)
+    by-sizes false c e = absurd (refused-not 1 0 e)
+
+module _ (at : ℕ → Record) (n : ℕ) where
+  -- What a path names below a component is a component, or nothing.
+  path-component : (path : List ℕ) (c : ℕ) → (c ≡ n) ⊎ (formOf (at c) ≡ 1)
+      → (foldl (childNamed at n) c path ≡ n) ⊎ (formOf (at (foldl (childNamed at n) c path)) ≡ 1)
+  path-component [] c h = h
+  path-component (i ∷ path) c h =
+      path-component path (childNamed at n c i)
+      (⊎-elim (λ u. inl u) (λ v. inr (child-form (keep-sound named (childNamed at n c i) (from 1 (n - 1)) (v .1) .0)))
+      (getD-cases (keep named (from 1 (n - 1))) 0 n))
+    where
+      named : ℕ → Bool
+      named q = ownedAs 1 c (at q) && eqb (idOf (at q)) i
+
+      child-form : {q : ℕ} → named q ≡ true → formOf (at q) ≡ 1
+      child-form {q = q} e = eqb-true (formOf (at q)) 1 (and-left _ (eqb (ownerOf (at q)) c) (and-left (ownedAs 1 c (at q)) _ e))
+
+  -- What is looked at is a component.
+  place-component : Passed at n → (path : List ℕ) → placeOf at n path < n → formOf (at (placeOf at n path)) ≡ 1
+  place-component d path l =
+      let root : formOf (at 0) ≡ 1 = eqb-true (formOf (at 0)) 1 (not-false _ (d .passes 4 refl 0 (omega (arith, l)))) in
+      ⊎-elim (λ u. absurd (omega (arith, u, l))) (λ v. v) (path-component path 0 (inr root))
+
+  -- Past 16, 20 and 21: the path names a component of the drawing, and it has no open input.
+  lookNumber-passed : (T : Tables) (c : ℕ) → lookNumber at n T c ≡ 0 → (c < n) × (dangling at n c ≡ false)
+  unfolding lookNumber
+  lookNumber-passed T c z =
+      let twenty = not (matched at n T) || leb n c in
+      let after = refusal-rest 16 (not (isNet T)) ((20 if twenty) ∷ (21 if dangling at n c) ∷ []) (λ q. omega arith) z in (
+        leb-false n c
+            (or-right (not (matched at n T)) (leb n c) (refusal-first 20 twenty ((21 if dangling at n c) ∷ []) (λ q. omega arith) after)),
+        refusal-first 21 (dangling at n c) [] (λ q. omega arith)
+            (refusal-rest 20 twenty ((21 if dangling at n c) ∷ []) (λ q. omega arith) after),
+      )
+
+pub look-accepted : LookAccepted
+unfolding lookVerdict
+look-accepted file T path ns ws e =
+    let at = recordAt file in
+    let n = recordCount file in
+    let c = lookedAt file path in
+    let passed = andThen-passed (loadsOwn file T ns ws) (lookNumber at n T c) e in
+    let d = accepted-passed file (loadsOwn-passed file T ns ws (passed .0)) in
+    let found = lookNumber-passed at n T c (passed .1) in (
+      place-component at n d path (found .0),
+      no-open-input at n d c (found .1),
+      λ i l. source-sound at n d 0 deepest c i (zero-add deepest) refl l,
+    )

@@ -1,0 +1,6 @@
+pub mod LastLaws
+pub mod Shows
+pub mod AcceptedLook
+pub mod ReachedMatch
+pub mod Boxes
+pub mod Cases
