@@ -13,7 +13,7 @@ pub const FILE_KEPT: usize = 30_000;
 /// The most values on one side that `X` takes.
 pub const VALUES_MAX: u64 = 256;
 /// The most ids of a path that `B` takes.
-pub const PATH_MAX: u64 = 256;
+pub const PATH_MAX: usize = 256;
 
 /// One component, handed in with its ports' values and a time.
 #[derive(Clone, Debug)]
@@ -122,6 +122,7 @@ impl Command {
                 written.iter().for_each(|word| to.extend_from_slice(&word.to_le_bytes()));
             }
             Command::Look { path } => {
+                assert!(path.len() <= PATH_MAX, "a longer path is a bad command");
                 words(to, b'B', &[(path.len() as u64, 2)]);
                 path.iter().for_each(|id| to.extend_from_slice(&id.0.to_le_bytes()));
             }
@@ -144,7 +145,7 @@ fn read_words<R: Read, W: Write>(from: &mut Channel<R, W>) -> Result<Vec<u64>, S
 /// How many, at most 256, and that many ids.
 fn read_path<R: Read, W: Write>(from: &mut Channel<R, W>) -> Result<Vec<Id>, Stop> {
     let how_many = from.number::<2>()?;
-    if how_many > PATH_MAX {
+    if how_many > PATH_MAX as u64 {
         return Err(Stop::Bad);
     }
     (0..how_many).map(|_| Ok(Id(from.number::<4>()? as u32))).collect()

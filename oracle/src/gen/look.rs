@@ -7,7 +7,7 @@ use super::random::Random;
 use super::rounds::step;
 use super::tables::{change_values, fault};
 use super::Stream;
-use crate::command::Command;
+use crate::command::{Command, PATH_MAX};
 use crate::plain::drawing::{records, Id, Record, COMPONENT, CONNECTION, INPUT_MAP};
 use crate::tables::{ALL, ANSWER, FULL_WORDS, INPUTS, NUMBERS, OUTPUTS, WIDTHS};
 use std::io::{Result, Write};
@@ -86,6 +86,7 @@ pub fn any_path(random: &mut Random, records: &[Record]) -> Vec<Id> {
         8 => path.reverse(),
         _ => {}
     }
+    path.truncate(PATH_MAX);
     path
 }
 
@@ -98,7 +99,6 @@ pub fn path_to(records: &[Record], component: usize) -> Vec<Id> {
         path.insert(0, Id(records[at].id));
         at = (records[at].owner as usize).min(at - 1);
     }
-    path.truncate(256);
     path
 }
 
