@@ -17,6 +17,7 @@ static berxundar_net net;
 static uint16_t list[BERXUNDAR_NAMES];
 static uint64_t found;
 static berxundar_single single;
+static berxundar_box box;
 
 static void fill(volatile uint8_t *area)
 {
@@ -64,6 +65,7 @@ static uint32_t index_of(void) { return berxundar_net_index(&net, (uint32_t)net.
 static uint32_t value(void) { return berxundar_net_value(&net, BERXUNDAR_SIDE_OUTPUTS, 0, 0, &found, NULL); }
 static uint32_t sources(void) { return berxundar_net_sources(&net, 0, list, &found); }
 static uint32_t targets(void) { return berxundar_net_targets(&net, 0, list, &found); }
+static uint32_t look(void) { return berxundar_net_look(&net, bytes, length, NULL, 0, &box); }
 static uint32_t check(void) { return berxundar_net_check(&net); }
 static uint32_t evaluate(void) { return berxundar_single_evaluate(&single, 0); }
 
@@ -71,9 +73,10 @@ static const struct {
     const char *name;
     uint32_t (*call)(void);
     size_t said;
-} calls[] = { { "judge", judge, 180000 }, { "load", load, 180000 }, { "round", run_round, 8000 }, { "run until calm", run, 8000 },
-    { "edit", edit, 8000 }, { "calm", calm, 8000 }, { "index", index_of, 8000 }, { "value", value, 8000 },
-    { "sources", sources, 8000 }, { "targets", targets, 8000 }, { "check", check, 8000 }, { "evaluate", evaluate, 8000 } };
+} calls[] = { { "judge", judge, 180000 }, { "load", load, 180000 }, { "look", look, 180000 }, { "round", run_round, 8000 },
+    { "run until calm", run, 8000 }, { "edit", edit, 8000 }, { "calm", calm, 8000 }, { "index", index_of, 8000 },
+    { "value", value, 8000 }, { "sources", sources, 8000 }, { "targets", targets, 8000 }, { "check", check, 8000 },
+    { "evaluate", evaluate, 8000 } };
 
 int main(void)
 {
