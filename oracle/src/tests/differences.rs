@@ -1,7 +1,7 @@
 //! What logix does with the smallest inputs of docs/DIFFERENCES.md that it does
 //! not take as the plain coding does.
 
-use super::{component, connection, input_map, output_map, verdict};
+use super::{component, connection, input_map, lamp, output_map, verdict};
 use crate::engine::{nested, Engine};
 use crate::gen::drawing::file_of;
 use crate::plain::drawing::{Drawing, Id, Record};
@@ -102,6 +102,18 @@ fn an_input_that_reaches_nothing_is_left_out_or_shows_component_0() {
         [component(0, 0, 2, 0, 1), switch(0, 2), component(3, 0, 1, 1, 3), input_map(0, 1, (1, 0))];
     assert_eq!(look_number(&no_input, &[]), 21);
     assert!(catch_unwind(AssertUnwindSafe(|| shown(&no_input, &[]))).is_err(), "component 0 has no input");
+}
+
+#[test]
+fn a_path_that_leads_nowhere_is_an_error_or_a_panic() {
+    let status = |path: &[usize]| {
+        let Ok(flat) = logix::flatten::FlattenComponent::new(nested(&Drawing::new(lamp()), 0));
+        flat.get_status(path, None).is_err()
+    };
+    assert_eq!(look_number(&lamp(), &[Id(9)]), 20);
+    assert!(status(&[9]));
+    assert_eq!(look_number(&lamp(), &[Id(3), Id(4), Id(4)]), 20);
+    assert!(catch_unwind(|| status(&[3, 4, 4])).is_err());
 }
 
 #[test]
