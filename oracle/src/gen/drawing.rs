@@ -79,7 +79,7 @@ pub fn running_profile(random: &mut Random) -> Profile {
 pub fn boxes_profile(random: &mut Random) -> Profile {
     let profile = running_profile(random);
     Profile {
-        components: profile.components.min(random.pick(&[8, 20, 40, 80, COMPONENTS_MAX as u64]) as usize),
+        components: profile.components.min(random.pick(&[6, 12, 12, 25, 60, COMPONENTS_MAX as u64]) as usize),
         depth: random.pick(&[3, 4, 6, DEPTH_MAX as u64, DEPTH_MAX as u64]) as usize,
         composite_in: random.pick(&[2, 2, 3, 4]),
         whole: random.pick(&[0, 5, 9, 10, 10]),

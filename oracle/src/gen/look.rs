@@ -3,35 +3,48 @@
 
 use super::damage::damaged;
 use super::drawing::{blank, boxes_profile, drawing, file_of};
+use super::judge::bad_file;
 use super::random::Random;
 use super::rounds::step;
 use super::tables::{change_values, fault};
 use super::Stream;
 use crate::command::{Command, PATH_MAX};
 use crate::plain::drawing::{records, Id, Record, COMPONENT, CONNECTION, INPUT_MAP};
-use crate::tables::{ALL, ANSWER, FULL_WORDS, INPUTS, NUMBERS, OUTPUTS, WIDTHS};
+use crate::plain::net::entries;
+use crate::tables::{Tables, ALL, ANSWER, COMPONENTS, FULL_WORDS, INPUTS, NUMBERS, OUTPUTS, WIDTHS, WIRES};
 use std::io::{Result, Write};
 
 pub fn one<W: Write>(random: &mut Random, stream: &mut Stream<W>) -> Result<()> {
     let profile = boxes_profile(random);
     let drawn = drawing(random, profile);
     let file = file_of(&drawn);
-    stream.put_all([Command::Keep(file.clone()), Command::Load(file)])?;
-    steps(random, stream)?;
-    looks(random, stream)?;
+    for _ in 0..random.between(1, 3) {
+        stream.put_all([Command::Keep(file.clone()), Command::Load(file.clone())])?;
+        steps(random, stream)?;
+        if random.once_in(2) {
+            other_values(random, stream)?;
+        }
+        looks(random, stream)?;
+        otherwise(random, stream, &drawn)?;
+        looks(random, stream)?;
+    }
+    let table = random.pick(&[NUMBERS, NUMBERS, WIDTHS, WIDTHS, ANSWER, INPUTS, ALL]);
+    stream.put(Command::Table { table: table as u8 })
+}
+
+/// Something else is lent from now on.
+fn otherwise<W: Write>(random: &mut Random, stream: &mut Stream<W>, drawn: &[Record]) -> Result<()> {
     match random.below(12) {
-        0..=2 => steps(random, stream),
-        3 | 4 => other_values(random, stream),
-        5 | 6 => stream.put(Command::Keep(file_of(&other_drawing(random, drawn)))),
-        7 => stream.put(Command::Keep(damaged(random, drawn))),
-        8 | 9 => stream.put_all(fault(random, &stream.program.tables)),
-        10 => return lent_less(random, stream),
+        0 => steps(random, stream),
+        1 => other_values(random, stream),
+        2 | 3 => stream.put(Command::Keep(file_of(&other_drawing(random, drawn.to_vec())))),
+        4 => stream.put(Command::Load(file_of(&other_drawing(random, drawn.to_vec())))),
+        5 | 6 => stream.put(Command::Keep(damaged(random, drawn.to_vec()))),
+        7 => stream.put_all(fault(random, &stream.program.tables)),
+        8 | 9 => stream.put_all(other_net(random, &stream.program.tables)),
+        10 => lent_less(random, stream),
         _ => lists_written(random, stream),
-    }?;
-    looks(random, stream)?;
-    stream.put(Command::Table {
-        table: random.pick(&[NUMBERS, NUMBERS, WIDTHS, WIDTHS, ANSWER, INPUTS, ALL]) as u8,
-    })
+    }
 }
 
 /// Some rounds and edits.
@@ -48,7 +61,7 @@ fn steps<W: Write>(random: &mut Random, stream: &mut Stream<W>) -> Result<()> {
 /// Looks along several paths of the kept file.
 fn looks<W: Write>(random: &mut Random, stream: &mut Stream<W>) -> Result<()> {
     let kept = records(&stream.program.kept);
-    for _ in 0..random.between(2, 10) {
+    for _ in 0..random.between(1, 5) {
         stream.put(Command::Look { path: any_path(random, &kept) })?;
     }
     Ok(())
@@ -144,19 +157,81 @@ fn other_drawing(random: &mut Random, mut records: Vec<Record>) -> Vec<Record> {
     let count = records.iter().filter(|record| record.kind == COMPONENT).count();
     let any = random.below(count as u64) as usize;
     let new_id = random.any() as u32;
-    match random.below(8) {
+    let room = count < 256 && records[0].is_composite() && records.len() < 1_024;
+    match random.below(12) {
         0 => return drawing(random, profile),
         1 => records[0].id = new_id,
         2 => records[any].id = new_id,
-        3 if count < 256 && records[0].is_composite() && records.len() < 1_024 => {
-            records.insert(count, Record { id: new_id, ..blank(COMPONENT) });
+        3 if room => records.insert(count, Record { id: new_id, ..blank(COMPONENT) }),
+        4 if room => {
+            records.insert(count, Record { id: new_id, component_kind: 7, b: 1, ..blank(COMPONENT) })
         }
-        4 => one_of(random, &mut records, CONNECTION, remove),
-        5 => one_of(random, &mut records, INPUT_MAP, remove),
-        6 => one_of(random, &mut records, CONNECTION, swap_with_next),
+        5 | 6 => other_primitive(random, &mut records),
+        7 => one_of(random, &mut records, CONNECTION, remove),
+        8 => records = without_last(records, CONNECTION),
+        9 => one_of(random, &mut records, INPUT_MAP, remove),
+        10 => one_of(random, &mut records, CONNECTION, swap_with_next),
         _ => one_of(random, &mut records, INPUT_MAP, swap_with_next),
     }
     records
+}
+
+/// A primitive becomes another with the same ports.
+fn other_primitive(random: &mut Random, records: &mut [Record]) {
+    let primitives: Vec<usize> = (0..records.len())
+        .filter(|at| records[*at].kind == COMPONENT && !records[*at].is_composite())
+        .collect();
+    if primitives.is_empty() {
+        return;
+    }
+    let record = &mut records[random.pick(&primitives)];
+    let gates = random.pick(&[1, 2, 4, 5]);
+    match record.component_kind {
+        1 | 2 | 4 | 5 => record.component_kind = gates,
+        8 => record.component_kind = 9,
+        9 => record.component_kind = 8,
+        12 => record.parameter = record.parameter / 2 + 1,
+        13 => record.parameter ^= 1 << random.below(record.c as u64),
+        _ => record.id ^= 1 << random.below(32),
+    }
+}
+
+fn without_last(mut records: Vec<Record>, kind: u8) -> Vec<Record> {
+    if let Some(last) = records.iter().rposition(|record| record.kind == kind) {
+        records.remove(last);
+    }
+    records
+}
+
+/// Words that make another net of the tables: it goes on being one, and does not match.
+fn other_net(random: &mut Random, tables: &Tables) -> Vec<Command> {
+    let entries = entries(tables);
+    if !tables.counts_within() || entries.is_empty() {
+        return vec![];
+    }
+    let at = random.below(entries.len() as u64);
+    let word = |field, word| {
+        vec![Command::WriteWord { table: COMPONENTS as u8, place: (8 * at + field) as u16, word }]
+    };
+    let wires = tables.counts[WIRES];
+    let kind = random.pick(&[1, 2, 4, 5]);
+    match (entries[at as usize].fields.kind, random.below(4)) {
+        (_, 0) => word(1, random.any() as u32 as u64),
+        (_, 1) if wires > 0 => vec![Command::SetCount { which: WIRES as u8, number: wires - 1 }],
+        (_, 2) if wires > 1 => swapped_wires(tables, 4 * random.below(wires - 1) as usize),
+        (1 | 2 | 4 | 5, _) => word(0, kind),
+        (8, _) => word(0, 9),
+        (9, _) => word(0, 8),
+        (12, _) => word(3, entries[at as usize].fields.parameter / 2 + 1),
+        _ => word(1, entries[at as usize].id ^ (1 << random.below(32))),
+    }
+}
+
+/// Two neighbours among the wires change places.
+fn swapped_wires(tables: &Tables, place: usize) -> Vec<Command> {
+    let mut words = tables.words[WIRES][place..place + 8].to_vec();
+    words.rotate_left(4);
+    vec![Command::WriteWords { table: WIRES as u8, place: place as u16, words }]
 }
 
 /// Does something to a record of a kind, where there is one.
@@ -188,14 +263,14 @@ fn lent_less<W: Write>(random: &mut Random, stream: &mut Stream<W>) -> Result<()
     stream.put(Command::Lend { table: table as u8, words })?;
     looks(random, stream)?;
     match random.below(4) {
-        0 => stream.put(Command::Keep(vec![1; random.pick(&[0, 23, 24, 30_000, 30_001])]))?,
+        0 => stream.put(Command::Keep(vec![1; random.pick(&[0, 23, 24, 48, 30_000, 30_001])]))?,
         1 => stream.put_all(fault(random, &stream.program.tables))?,
+        2 => stream.put(Command::Keep(bad_file(random)))?,
         _ => {}
     }
     looks(random, stream)?;
     stream.put_all([Command::Table { table: NUMBERS as u8 }, Command::Table { table: WIDTHS as u8 }])?;
-    stream.put(Command::Lend { table: table as u8, words: 65_535 })?;
-    looks(random, stream)
+    stream.put(Command::Lend { table: table as u8, words: 65_535 })
 }
 
 /// Words written into the lists for answers, past their ends too, and shown.
