@@ -12,7 +12,7 @@ mod load;
 pub mod look;
 pub mod random;
 pub mod rounds;
-mod tables;
+pub mod tables;
 
 use crate::command::Command;
 use crate::plain::net::broken;
