@@ -16,8 +16,8 @@
  * that no wire enters.
  *
  * AN ID is the number that a component has in the drawing. AN INDEX is its place in the tables, from 0. Only `berxundar_index`
- * takes an id; every other call names a component by its index, and a port by its number among the component's inputs, or
- * outputs, from 0.
+ * takes an id, and `berxundar_look` ids in a row; every other call names a component by its index, and a port by its number among
+ * the component's inputs, or outputs, from 0.
  *
  * THE TABLES are lent by the caller: the engine keeps nothing between calls and takes no memory. A `berxundar_net` (below) is one
  * struct with all of them. A call on tables is refused with 2 where one of them is shorter than its full size; it may be longer.
@@ -39,17 +39,17 @@
  * of lighting below holds again from the next load on.
  *
  * EVERY CALL takes any bytes, any words and any lengths, ends, and answers a number times 65,536 plus a position: 0 where it is
- * done. The position is a record of the file, from 0, and is 0 in each call but a judgement and a load. The same words always
- * give the same answer. A call that is refused writes nothing at all.
+ * done. The position is a record of the file, from 0, and is 0 in each call but a judgement, a load and a look. The same words
+ * always give the same answer. A call that is refused writes nothing at all.
  *
  * A CALLER MUST KEEP TO THIS
  *   - Each pointer is aligned for its type and has so many entries of that type behind it as the length after it says. With a
- *     length of 0 it may be NULL: that is an empty file, or a table of no words.
+ *     length of 0 it may be NULL: that is an empty file, an empty path, or a table of no words.
  *   - No memory is lent twice in one call: no two tables overlap, and neither do a table and the file or the words for an answer.
  *   - While a call runs, nobody else writes to what it is lent, nor reads what it writes. Apart from that calls may run in any
  *     number of threads at once.
- *   - A load or a judgement needs up to 180,000 bytes of stack, each other call less than 8,000. A thread with a
- *     small stack must not load or judge.
+ *   - A load, a judgement or a look needs up to 180,000 bytes of stack, each other call less than 8,000. A thread with a
+ *     small stack must not load, judge or look.
  *
  * WHEN TO LIGHT: once a round has run since the load, and the three lists name nothing but Clocks, the whole drawing is
  * satisfied: each output has the value of every input that it leads to, and each component's outputs are its function of its
@@ -72,6 +72,7 @@ extern "C" {
 #define BERXUNDAR_OUTPUTS 1024
 #define BERXUNDAR_WIRES 1024
 #define BERXUNDAR_NAMES 256 /* of a list of components */
+#define BERXUNDAR_SHOWN 256 /* of a list of numbers, or of widths, that a look shows */
 #define BERXUNDAR_COUNTS 7
 
 /* Words of one component and of one wire, and full size in words. */
@@ -124,7 +125,7 @@ enum {
     BERXUNDAR_BAD_OWNER = 5, BERXUNDAR_TOO_MANY = 6, BERXUNDAR_KEPT_KIND = 7, BERXUNDAR_UNKNOWN_KIND = 8, BERXUNDAR_BAD_FIELDS = 9,
     BERXUNDAR_SAME_ID = 10, BERXUNDAR_TOO_MANY_PORTS = 11, BERXUNDAR_NO_CHILD = 12, BERXUNDAR_ENTERED_TWICE = 13,
     BERXUNDAR_OUTPUT_MAPS = 14, BERXUNDAR_WIDTHS_DIFFER = 15, BERXUNDAR_NO_NET = 16, BERXUNDAR_NOT_FOUND = 17,
-    BERXUNDAR_NOT_SETTABLE = 18, BERXUNDAR_NO_FIT = 19
+    BERXUNDAR_NOT_SETTABLE = 18, BERXUNDAR_NO_FIT = 19, BERXUNDAR_NO_PATH = 20, BERXUNDAR_NOTHING_BEHIND = 21
 };
 
 /* The number of an answer. */
@@ -160,12 +161,14 @@ static inline const char *berxundar_words(uint32_t answer_or_number)
     case BERXUNDAR_NOT_FOUND: return "there is no component with that index or id, or it has no such port";
     case BERXUNDAR_NOT_SETTABLE: return "only a Switch, or an Input that no wire enters, can be set";
     case BERXUNDAR_NO_FIT: return "the value has another width than its port, or is too large for it";
+    case BERXUNDAR_NO_PATH: return "the path leads to no component, or the file is not the one that the tables were loaded from";
+    case BERXUNDAR_NOTHING_BEHIND: return "an input of the composite leads to no component inside it, so it has no value";
     default: return "this is no number of the engine";
     }
 }
 
-/* ---- The twelve calls, with every pointer and its length in entries of the pointer's type. What is marked `const` is only read;
- * the numbers behind a colon are those of the refusals that a call can give. ---- */
+/* ---- The thirteen calls, with every pointer and its length in entries of the pointer's type. What is marked `const` is only
+ * read; the numbers behind a colon are those of the refusals that a call can give. ---- */
 
 /* Judges the bytes of a file as a load would, without tables: 1, 3 to 15. */
 uint32_t berxundar_judge(const uint8_t *bytes, size_t length);
@@ -235,6 +238,19 @@ uint32_t berxundar_targets(
     size_t outputs_length, const uint16_t *wires, size_t wires_length, const uint16_t *current, size_t current_length,
     const uint16_t *following, size_t following_length, const uint16_t *standing, size_t standing_length, const uint64_t *counts,
     size_t counts_length, size_t index, uint16_t *list, size_t list_length, uint64_t *found, size_t found_length);
+
+/* Looks at a component, a composite too: the number and the width in bits of each of its ports: 1 to 16, 20, 21. `file` is the
+ * drawing that the tables were loaded from. `path` names the component by the ids on the way down to it, the root's own not among
+ * them: a path of no ids is the root. The inputs come first, then the outputs; found[0] is how many inputs there are, found[1] how
+ * many outputs. An output of a composite shows the output inside that its maps lead to; an input shows the input inside that its
+ * maps lead to last, and where one leads to none the look is refused (21). `numbers` and `widths` have 256 entries or more, those
+ * past the ports keep what they held, and `found` has 2 entries or more. */
+uint32_t berxundar_look(const uint8_t *file, size_t file_length,
+    const uint64_t *components, size_t components_length, const uint64_t *inputs, size_t inputs_length, const uint64_t *outputs,
+    size_t outputs_length, const uint16_t *wires, size_t wires_length, const uint16_t *current, size_t current_length,
+    const uint16_t *following, size_t following_length, const uint16_t *standing, size_t standing_length, const uint64_t *counts,
+    size_t counts_length, const uint32_t *path, size_t path_length, uint64_t *numbers, size_t numbers_length, uint64_t *widths,
+    size_t widths_length, uint64_t *found, size_t found_length);
 
 /* Whether the tables are a net: 2, 16. */
 uint32_t berxundar_check(
@@ -336,6 +352,28 @@ static inline uint32_t berxundar_net_sources(const berxundar_net *net, size_t in
 static inline uint32_t berxundar_net_targets(const berxundar_net *net, size_t index, uint16_t *list, uint64_t *count)
 {
     return berxundar_targets(BERXUNDAR_LENT(net), net->counts, BERXUNDAR_COUNTS, index, list, BERXUNDAR_NAMES, count, 1);
+}
+
+/* What a look shows: how many inputs and outputs, and the number and width in bits of each port, inputs first, then outputs. */
+typedef struct berxundar_box {
+    uint64_t inputs;
+    uint64_t outputs;
+    uint64_t numbers[BERXUNDAR_SHOWN];
+    uint64_t widths[BERXUNDAR_SHOWN];
+} berxundar_box;
+
+/* `bytes` is the file that the net was loaded from, and `path` the ids down to the box: NULL and 0 for the root. */
+static inline uint32_t berxundar_net_look(const berxundar_net *net, const uint8_t *bytes, size_t length, const uint32_t *path,
+    size_t path_length, berxundar_box *box)
+{
+    uint64_t found[2] = { 0, 0 };
+    uint32_t answer = berxundar_look(bytes, length, BERXUNDAR_LENT(net), net->counts, BERXUNDAR_COUNTS, path, path_length,
+        box->numbers, BERXUNDAR_SHOWN, box->widths, BERXUNDAR_SHOWN, found, 2);
+    if (answer == 0) {
+        box->inputs = found[0];
+        box->outputs = found[1];
+    }
+    return answer;
 }
 
 static inline uint32_t berxundar_net_check(const berxundar_net *net)

@@ -1,9 +1,7 @@
 /* Refusals in words: see refusal.h. Every look-up answers "not there" for what does not exist, and no loop leaves the file. */
 #include "refusal.h"
 
-#include "berxundar.h"
-
-enum { COMPONENT = 1, CONNECTION = 2, INPUT_MAP = 3, OUTPUT_MAP = 4 };
+#include "record.h"
 
 #define NOWHERE ((size_t)-1)
 #define DEEPEST 16
@@ -34,44 +32,13 @@ const char *refusal_kind_name(uint64_t kind) { return kind < KINDS ? kinds[kind]
 /* ---- The records. ---- */
 
 typedef struct {
-    unsigned form, kind, owner, a, b, c, d;
-    unsigned long id;
-    unsigned long long parameter;
-} record;
-
-typedef struct {
     FILE *to;
     const uint8_t *bytes;
     size_t length, count;
 } drawing;
 
-static unsigned long long number_in(const uint8_t *bytes, size_t count)
-{
-    unsigned long long number = 0;
-    while (count)
-        number = number * 256 + bytes[--count];
-    return number;
-}
-
 /* The record at a position; one of no form where there is none. */
-static record record_at(const drawing *of, size_t position)
-{
-    record r = { 0, 0, 0, 0, 0, 0, 0, 0, 0 };
-    const uint8_t *bytes;
-    if (of->count <= position)
-        return r;
-    bytes = of->bytes + BERXUNDAR_RECORD * position;
-    r.form = bytes[0];
-    r.kind = bytes[1];
-    r.owner = (unsigned)number_in(bytes + 2, 2);
-    r.a = (unsigned)number_in(bytes + 4, 2);
-    r.b = (unsigned)number_in(bytes + 6, 2);
-    r.c = (unsigned)number_in(bytes + 8, 2);
-    r.d = (unsigned)number_in(bytes + 10, 2);
-    r.id = (unsigned long)number_in(bytes + 12, 4);
-    r.parameter = number_in(bytes + 16, 8);
-    return r;
-}
+static record record_at(const drawing *of, size_t position) { return record_in(of->bytes, of->length, position); }
 
 static int is_component(const drawing *of, size_t position) { return record_at(of, position).form == COMPONENT; }
 
@@ -445,6 +412,53 @@ static void explain_widths(const drawing *of, record r)
     fprintf(of->to, "\n");
 }
 
+/* Follows a path of ids from the root as far as it leads: the component there, and how many ids were followed. */
+static size_t follow(const drawing *of, const uint32_t *path, size_t path_length, size_t *followed)
+{
+    size_t at = 0;
+    for (*followed = 0; *followed < path_length; ++*followed) {
+        size_t position = 1;
+        while (position < of->count && !(is_component(of, position) && record_at(of, position).owner == at
+                                         && record_at(of, position).id == path[*followed]))
+            position++;
+        if (of->count <= position)
+            break;
+        at = position;
+    }
+    return at;
+}
+
+/* A path that goes on with an id that the component at a position does not hold. */
+static void explain_path(const drawing *of, size_t at, uint32_t id)
+{
+    size_t position;
+    fprintf(of->to, "    ");
+    say_component(of, at);
+    fprintf(of->to, "%s, holds no component of id %lu", at ? "" : ", the root", (unsigned long)id);
+    if (owned(of, COMPONENT, at, of->count))
+        fprintf(of->to, "; it holds these, by id:");
+    for (position = 1; position < of->count; position++)
+        if (is_component(of, position) && record_at(of, position).owner == at)
+            fprintf(of->to, " %lu", record_at(of, position).id);
+    fprintf(of->to, "\n");
+}
+
+/* The inputs of a component that lead to nothing. No input has 0 bits, so any that is reached has another width. */
+static void explain_behind(const drawing *of, size_t at)
+{
+    unsigned port;
+    fprintf(of->to, "    of ");
+    say_component(of, at);
+    fprintf(of->to, ", these inputs lead nowhere:");
+    for (port = 0; port < record_at(of, at).a; port++) {
+        pin input = { at, port };
+        unsigned long left = 100000;
+        if (other_width(of, input, 0, DEEPEST + 1, &left).at == NOWHERE)
+            fprintf(of->to, " %u", port);
+    }
+    fprintf(of->to, "\n");
+}
+
 static void explain_in_particular(const drawing *of, unsigned number, size_t position)
 {
     record r = record_at(of, position);
@@ -483,21 +497,47 @@ static const char *advice(unsigned number)
     case BERXUNDAR_ENTERED_TWICE: return "remove one of the two records, or lead one of them to another input";
     case BERXUNDAR_OUTPUT_MAPS: return "give the composite one output map for each of its outputs, in their order";
     case BERXUNDAR_WIDTHS_DIFFER: return "give both ends the same number of bits, or put a Splitter or a Joiner between them";
+    case BERXUNDAR_NO_PATH: return "name the ids on the way down from the root, its own left out; ./berxundar look FILE has the boxes";
+    case BERXUNDAR_NOTHING_BEHIND: return "lead the input to a component inside with an input map, or look at one inside instead";
     default: return NULL;
     }
 }
 
-void refusal_explain(FILE *to, const char *name, const uint8_t *bytes, size_t length, unsigned number, unsigned position)
+static void say_advice(FILE *to, unsigned number)
+{
+    if (advice(number))
+        fprintf(to, "    to do: %s\n", advice(number));
+}
+
+static drawing drawing_in(FILE *to, const uint8_t *bytes, size_t length)
 {
     drawing of;
     of.to = to;
     of.bytes = bytes;
     of.length = length;
     of.count = length / BERXUNDAR_RECORD;
+    return of;
+}
+
+void refusal_explain(FILE *to, const char *name, const uint8_t *bytes, size_t length, unsigned number, unsigned position)
+{
+    drawing of = drawing_in(to, bytes, length);
     fprintf(to, "%s: refused %u at %u: %s\n", name, number, position, number < 65536 ? berxundar_words(number) : "no number");
     if (BERXUNDAR_BAD_RECORD <= number && number <= BERXUNDAR_WIDTHS_DIFFER)
         say_record(&of, position);
     explain_in_particular(&of, number, position);
-    if (advice(number))
-        fprintf(to, "    to do: %s\n", advice(number));
+    say_advice(to, number);
+}
+
+void refusal_explain_look(FILE *to, const char *name, const uint8_t *bytes, size_t length, unsigned number, const uint32_t *path,
+    size_t path_length)
+{
+    drawing of = drawing_in(to, bytes, length);
+    size_t followed, at = follow(&of, path, path_length, &followed);
+    fprintf(to, "%s: refused %u: %s\n", name, number, number < 65536 ? berxundar_words(number) : "no number");
+    if (number == BERXUNDAR_NO_PATH && followed < path_length)
+        explain_path(&of, at, path[followed]);
+    if (number == BERXUNDAR_NOTHING_BEHIND)
+        explain_behind(&of, at);
+    say_advice(to, number);
 }

@@ -16,6 +16,13 @@
  */
 void refusal_explain(FILE *to, const char *name, const uint8_t *bytes, size_t length, unsigned number, unsigned position);
 
+/*
+ * The same of a look along a path of ids, where it is refused at no record: 2, 16, 20, 21. Says how far the path leads, or which
+ * inputs lead to nothing.
+ */
+void refusal_explain_look(FILE *to, const char *name, const uint8_t *bytes, size_t length, unsigned number, const uint32_t *path,
+    size_t path_length);
+
 /* The name of a kind of component, as the listing writes it; a null pointer where there is no such kind. */
 const char *refusal_kind_name(uint64_t kind);
 

@@ -4,16 +4,17 @@
  * Loads a drawing, sets the Switches and Inputs that are named by id, runs rounds at the time (0 where none is given) until the
  * net is settled, and prints a line for each Output: its id, its value, and `lit` or `dark`. It lights only what a settled net
  * says: where the three lists name nothing but Clocks, every wire has one value at both ends and every component's outputs are
- * its function of its inputs. Where that is not reached within ROUNDS rounds nothing is lit. The file `-` is standard input. Exit
- * status: 0 settled; 1 the file or a setting is refused, or the net is not settled; 2 the file cannot be read or a word is none.
+ * its function of its inputs. Where that is not reached within SETTLE_ROUNDS rounds nothing is lit. The file `-` is standard
+ * input. Exit status: 0 settled; 1 the file or a setting is refused, or the net is not settled; 2 the file cannot be read or a
+ * word is none.
  */
 #include "berxundar.h"
 #include "file.h"
+#include "number.h"
 #include "refusal.h"
+#include "settle.h"
 
 #include <stdio.h>
-
-#define ROUNDS 1000
 
 static uint8_t bytes[FILE_ROOM];
 
@@ -22,18 +23,11 @@ static berxundar_net net;
 
 /* ---- The words of the command line. ---- */
 
-/* A number in decimal up to a character; a null pointer where there is none, else where it ends. */
-static const char *number_in(const char *word, char end, uint64_t *number)
+/* Whether a word is a number from its start to its end. */
+static int is_number(const char *word, uint64_t *number)
 {
-    const char *at = word;
-    *number = 0;
-    while ('0' <= *at && *at <= '9') {
-        uint64_t digit = (uint64_t)(*at++ - '0');
-        if (*number > (UINT64_MAX - digit) / 10)
-            return NULL;
-        *number = *number * 10 + digit;
-    }
-    return at == word || *at != end ? NULL : at;
+    const char *end = number_in(word, number);
+    return end && !*end;
 }
 
 static int same(const char *a, const char *b)
@@ -47,8 +41,8 @@ static int same(const char *a, const char *b)
 static int setting_in(const char *word, uint32_t *id, uint64_t *number)
 {
     uint64_t wide;
-    const char *at = number_in(word, '=', &wide);
-    if (!at || !number_in(at + 1, '\0', number) || UINT32_MAX < wide) {
+    const char *at = number_in(word, &wide);
+    if (!at || *at != '=' || !is_number(at + 1, number) || UINT32_MAX < wide) {
         fprintf(stderr, "%s: this is no setting of the form ID=NUMBER, as 1=1\n", word);
         return 0;
     }
@@ -67,7 +61,7 @@ static int take_words(int count, char **words, const char **path, uint64_t *time
         uint32_t id;
         uint64_t number;
         if (same(words[i], "--time")) {
-            if (++i == count || !number_in(words[i], '\0', time)) {
+            if (++i == count || !is_number(words[i], time)) {
                 fprintf(stderr, "--time: a number from 0 to 18446744073709551615 must follow\n");
                 return 0;
             }
@@ -141,26 +135,6 @@ static int set(const char *word)
 
 /* ---- Running and lighting. ---- */
 
-/*
- * Runs at a time until the net is settled, at most ROUNDS rounds. Run until calm looks at the current list alone, and an edit
- * waits in the standing list for up to three rounds: so calm is not enough, and it is called again.
- */
-static uint32_t settle(uint64_t time, int *settled)
-{
-    uint16_t left = ROUNDS;
-    uint64_t rounds;
-    uint32_t answer;
-    do {
-        answer = berxundar_net_run_until_calm(&net, time, left, &rounds, NULL);
-        if (answer == 0)
-            answer = berxundar_net_settled(&net, settled);
-        if (answer != 0)
-            return answer;
-        left = (uint16_t)(left - rounds);
-    } while (!*settled && left);
-    return 0;
-}
-
 /* Prints a line for each Output, lit only in a settled net. */
 static void show(int settled)
 {
@@ -194,7 +168,7 @@ static int work(const char *path, uint64_t time, char **settings, int count, int
         status = set(settings[i]);
     if (status)
         return status;
-    answer = settle(time, settled);
+    answer = settle(&net, time, settled);
     if (answer != 0)
         fprintf(stderr, "%s: refused %u: %s\n", path, berxundar_number(answer), berxundar_words(answer));
     return answer == 0 ? 0 : 1;
@@ -217,6 +191,6 @@ int main(int argc, char **argv)
     }
     if (!settled)
         fprintf(stderr, "%s: not settled after %d rounds at time %llu, so nothing is lit: does the drawing feed back on itself?\n",
-            path, ROUNDS, (unsigned long long)time);
+            path, SETTLE_ROUNDS, (unsigned long long)time);
     return settled ? 0 : 1;
 }

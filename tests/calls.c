@@ -1,7 +1,8 @@
 /*
  * What the header says beside the calls' own rules: NULL with length 0 is an empty file and a table of no words, so that each
  * call answers as for any short table (2), a load as for an empty file (1), and a component without ports is evaluated; a net of
- * zeros is one of no components; a sentence belongs to an answer and to its number. Leaves with 1 at the first other answer.
+ * zeros is one of no components, the net of a root alone, which is looked at along no path; a sentence belongs to an answer and to
+ * its number. Leaves with 1 at the first other answer.
  */
 #include "berxundar.h"
 
@@ -25,6 +26,9 @@ static int nothing_lent(void)
         && berxundar_sources(BERXUNDAR_LENT(&net), net.counts, 7, 0, NONE, found, 1) == NUMBER(2)
         && berxundar_targets(SEVEN, NONE, 0, NONE, NONE) == NUMBER(2) && berxundar_check(SEVEN, NONE) == NUMBER(2)
         && berxundar_check(BERXUNDAR_LENT(&net), NONE) == NUMBER(2)
+        && berxundar_look(NONE, SEVEN, NONE, NONE, NONE, NONE, NONE) == NUMBER(2)
+        && berxundar_look(NONE, SEVEN, net.counts, 7, NONE, NONE, NONE, found, 2) == NUMBER(1)
+        && berxundar_look(NONE, SEVEN, net.counts, 7, NONE, NONE, NONE, found, 1) == NUMBER(2)
         && berxundar_evaluate(1, 0, 1, 0, 0, NONE, NONE, NONE, NONE, 0) == NUMBER(2)
         && berxundar_evaluate(1, 0, 1, 0, 0, NONE, NONE, found, 1, found + 1, 1, 0) == 0 && found[0] == 1;
 }
@@ -36,6 +40,27 @@ static int zeros(void)
     return berxundar_net_check(&net) == 0 && berxundar_net_settled(&net, &settled) == 0 && settled == 1
         && berxundar_net_calm(&net, &calm) == 0 && calm == 1 && berxundar_net_run_until_calm(&net, 5, 7, &rounds, NULL) == 0
         && rounds == 1 && berxundar_net_edit(&net, 0, 0) == NUMBER(17);
+}
+
+/* A root alone in a net of zeros is looked at along no path and not by its id; with an input it is 21, with a Switch in it 20. */
+static int looked_at(void)
+{
+    static uint8_t root[2 * BERXUNDAR_RECORD] = { 1 };
+    static berxundar_box box;
+    uint32_t id = 1;
+    box.inputs = box.outputs = 9;
+    root[12] = 1;
+    if (berxundar_net_look(&net, root, BERXUNDAR_RECORD, &id, 1, &box) != NUMBER(BERXUNDAR_NO_PATH) || box.inputs != 9
+        || berxundar_net_look(&net, root, BERXUNDAR_RECORD, NULL, 0, &box) != 0 || box.inputs != 0 || box.outputs != 0)
+        return 0;
+    root[4] = 1;
+    if (berxundar_net_look(&net, root, BERXUNDAR_RECORD, NULL, 0, &box) != NUMBER(BERXUNDAR_NOTHING_BEHIND))
+        return 0;
+    root[4] = 0;
+    root[24] = 1;
+    root[25] = BERXUNDAR_SWITCH;
+    root[30] = 1;
+    return berxundar_net_look(&net, root, 2 * BERXUNDAR_RECORD, NULL, 0, &box) == NUMBER(BERXUNDAR_NO_PATH) && box.inputs == 0;
 }
 
 /* A Joiner of 0, 1, 1 is 6; with an input of another width it is refused. */
@@ -61,7 +86,7 @@ static int joined(void)
 static int sentences(void)
 {
     uint32_t a, b;
-    for (a = 0; a <= 20; a++) {
+    for (a = 0; a <= 22; a++) {
         if (berxundar_words(a) != berxundar_words(NUMBER(a) + (a ? 1023 : 0)))
             return 0;
         for (b = 0; b < a; b++)
@@ -71,4 +96,4 @@ static int sentences(void)
     return 1;
 }
 
-int main(void) { return !(zeros() && nothing_lent() && joined() && sentences()); }
+int main(void) { return !(zeros() && nothing_lent() && looked_at() && joined() && sentences()); }

@@ -17,18 +17,20 @@ static uint32_t changed(const uint8_t *bytes, size_t length)
 
 static uint32_t asked(const berxundar_net *of)
 {
+    static berxundar_box box;
     uint16_t list[BERXUNDAR_NAMES];
     uint64_t found, width;
     int settled;
     return berxundar_net_calm(of, &found) + berxundar_net_index(of, 1, &found)
         + berxundar_net_value(of, BERXUNDAR_SIDE_INPUTS, 0, 0, &found, &width) + berxundar_net_sources(of, 0, list, &found)
-        + berxundar_net_targets(of, 0, list, &found) + berxundar_net_check(of) + berxundar_net_settled(of, &settled);
+        + berxundar_net_targets(of, 0, list, &found) + berxundar_net_look(of, NULL, 0, NULL, 0, &box) + (uint32_t)box.widths[0]
+        + berxundar_net_check(of) + berxundar_net_settled(of, &settled);
 }
 
 int main(void)
 {
     uint32_t answer = changed(NULL, 0) + asked(&net);
-    return berxundar_number(answer) == BERXUNDAR_NO_FIT && berxundar_position(answer) == BERXUNDAR_FILE
+    return berxundar_number(answer) == BERXUNDAR_NOTHING_BEHIND && berxundar_position(answer) == BERXUNDAR_FILE
         && net.components[BERXUNDAR_WORD_FIRST_OUTPUT] == BERXUNDAR_CONST && net.wires[BERXUNDAR_WIRE_TO_INPUT] == BERXUNDAR_BITS
         && net.counts[BERXUNDAR_COUNT_STANDING] == BERXUNDAR_SIDE_OUTPUTS && berxundar_words(answer) == NULL;
 }

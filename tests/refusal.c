@@ -1,7 +1,7 @@
 /*
- * refusal_explain on files that hold anything: drawings whose records name each other at random, noise, lengths that are no
- * multiple of 24, and every number and position, right or not. It must end and look at no byte that is not there: each file
- * stands in memory of its own size, for the sanitizers. Prints nothing, and leaves with 0.
+ * refusal_explain and refusal_explain_look on files that hold anything: drawings whose records name each other at random, noise,
+ * lengths that are no multiple of 24, and every number, position and path, right or not. They must end and look at no byte that is
+ * not there: each file stands in memory of its own size, for the sanitizers. Prints nothing, and leaves with 0.
  */
 #include "refusal.h"
 
@@ -46,8 +46,14 @@ int main(void)
             bytes[i] = (uint8_t)below(256);
         for (i = 0; turn % 8 && i + 24 <= length; i += 24)
             draw(bytes + i);
-        for (number = 0; number < 22; number++)
+        for (number = 0; number < 24; number++) {
+            uint32_t path[4];
+            size_t ids = below(5);
+            for (i = 0; i < ids; i++)
+                path[i] = below(8);
             refusal_explain(nowhere, "file", length ? bytes : NULL, length, number, below(8) ? below(40) : below(65536));
+            refusal_explain_look(nowhere, "file", length ? bytes : NULL, length, number, ids ? path : NULL, ids);
+        }
         refusal_explain(nowhere, "file", bytes, length, below(1u << 24) << 8, 0);
         free(bytes);
     }

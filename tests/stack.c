@@ -5,6 +5,7 @@
  */
 #include "berxundar.h"
 #include "file.h"
+#include "record.h"
 
 #include <stdio.h>
 
@@ -17,6 +18,7 @@ static berxundar_net net;
 static uint16_t list[BERXUNDAR_NAMES];
 static uint64_t found;
 static berxundar_single single;
+static berxundar_box box;
 
 static void fill(volatile uint8_t *area)
 {
@@ -64,6 +66,19 @@ static uint32_t index_of(void) { return berxundar_net_index(&net, (uint32_t)net.
 static uint32_t value(void) { return berxundar_net_value(&net, BERXUNDAR_SIDE_OUTPUTS, 0, 0, &found, NULL); }
 static uint32_t sources(void) { return berxundar_net_sources(&net, 0, list, &found); }
 static uint32_t targets(void) { return berxundar_net_targets(&net, 0, list, &found); }
+static uint32_t look(void) { return berxundar_net_look(&net, bytes, length, NULL, 0, &box); }
+
+/* At the first composite below the root. */
+static uint32_t look_inside(void)
+{
+    uint32_t id;
+    size_t at = 1;
+    while (record_in(bytes, length, at).form == COMPONENT && record_in(bytes, length, at).kind != BERXUNDAR_COMPOSITE)
+        at++;
+    id = (uint32_t)record_in(bytes, length, at).id;
+    return berxundar_net_look(&net, bytes, length, &id, 1, &box);
+}
+
 static uint32_t check(void) { return berxundar_net_check(&net); }
 static uint32_t evaluate(void) { return berxundar_single_evaluate(&single, 0); }
 
@@ -71,9 +86,11 @@ static const struct {
     const char *name;
     uint32_t (*call)(void);
     size_t said;
-} calls[] = { { "judge", judge, 180000 }, { "load", load, 180000 }, { "round", run_round, 8000 }, { "run until calm", run, 8000 },
-    { "edit", edit, 8000 }, { "calm", calm, 8000 }, { "index", index_of, 8000 }, { "value", value, 8000 },
-    { "sources", sources, 8000 }, { "targets", targets, 8000 }, { "check", check, 8000 }, { "evaluate", evaluate, 8000 } };
+} calls[] = { { "judge", judge, 180000 }, { "load", load, 180000 }, { "look at the root", look, 180000 },
+    { "look inside", look_inside, 180000 }, { "round", run_round, 8000 },
+    { "run until calm", run, 8000 }, { "edit", edit, 8000 }, { "calm", calm, 8000 }, { "index", index_of, 8000 },
+    { "value", value, 8000 }, { "sources", sources, 8000 }, { "targets", targets, 8000 }, { "check", check, 8000 },
+    { "evaluate", evaluate, 8000 } };
 
 int main(void)
 {

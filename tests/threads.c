@@ -1,7 +1,8 @@
 /*
  * Calls on different nets in several threads at once: threads <FILE. Each thread loads the drawing on standard input over and
- * over, sets its first component where that can be set, and runs it, on a net of its own. Leaves with 1 where a net does not end
- * up with the very words that a single thread's has.
+ * over, sets its first component where that can be set, runs it and looks at that component, which stands right below the root, on
+ * a net of its own. Leaves with 1 where a net, or what a look showed, does not end up with the very words that a single thread's
+ * has.
  */
 #include "berxundar.h"
 #include "file.h"
@@ -15,11 +16,19 @@ int pthread_join(unsigned long thread, void **ended);
 
 static uint8_t bytes[FILE_ROOM];
 static size_t length;
-static berxundar_net nets[THREADS + 1];
+
+/* What a thread has of its own. */
+typedef struct {
+    berxundar_net net;
+    berxundar_box box;
+} own;
+
+static own owns[THREADS + 1];
 
 static void *work(void *argument)
 {
-    berxundar_net *net = (berxundar_net *)argument;
+    berxundar_net *net = &((own *)argument)->net;
+    uint32_t first;
     int turn;
     for (turn = 0; turn < TURNS; turn++) {
         berxundar_net_load(net, bytes, length);
@@ -27,6 +36,8 @@ static void *work(void *argument)
         berxundar_net_edit(net, 0, (uint64_t)turn % 2);
         berxundar_net_run_until_calm(net, (uint64_t)turn, 20, NULL, NULL);
         berxundar_net_round(net, 7);
+        first = (uint32_t)net->components[BERXUNDAR_WORD_ID];
+        berxundar_net_look(net, bytes, length, &first, 1, &((own *)argument)->box);
     }
     return NULL;
 }
@@ -39,16 +50,16 @@ int main(void)
     if (read < 0)
         return 2;
     length = (size_t)read;
-    work(&nets[THREADS]);
+    work(&owns[THREADS]);
     for (i = 0; i < THREADS; i++)
-        if (pthread_create(&threads[i], NULL, work, &nets[i]) != 0)
+        if (pthread_create(&threads[i], NULL, work, &owns[i]) != 0)
             return 2;
     for (i = 0; i < THREADS; i++)
         if (pthread_join(threads[i], NULL) != 0)
             return 2;
     for (i = 0; i < THREADS; i++)
-        for (at = 0; at < sizeof nets[i]; at++)
-            if (((const uint8_t *)&nets[i])[at] != ((const uint8_t *)&nets[THREADS])[at])
+        for (at = 0; at < sizeof owns[i]; at++)
+            if (((const uint8_t *)&owns[i])[at] != ((const uint8_t *)&owns[THREADS])[at])
                 return 1;
-    return berxundar_net_check(&nets[0]) != 0;
+    return berxundar_net_check(&owns[0].net) != 0 || owns[0].box.outputs != 1;
 }

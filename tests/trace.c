@@ -11,19 +11,20 @@
 long read(int file, void *to, size_t count);
 long write(int file, const void *from, size_t count);
 
-enum { COMPONENTS, INPUTS, OUTPUTS, WIRES, CURRENT, FOLLOWING, STANDING, TABLES, LIST = TABLES, LENT };
+enum { COMPONENTS, INPUTS, OUTPUTS, WIRES, CURRENT, FOLLOWING, STANDING, TABLES, LIST = TABLES, NUMBERS, WIDTHS, LENT };
 
-/* A file of more bytes is read to its end, and these stand for it: they are too many as well. */
+/* Of a file of more bytes, which is read to its end, so many stand for it: they are too many as well. */
 #define LONGEST 30000
 
-/* The most values of a side that `X` takes. */
+/* The most values of a side that `X` takes, and the most ids of a path that `B` takes. */
 #define VALUES 256
+#define PATH 256
 
 /* 2^32 commands are enough. */
 #define COMMANDS UINT64_C(4294967296)
 
 static const size_t full_words[LENT] = { BERXUNDAR_COMPONENT_WORDS, BERXUNDAR_INPUTS, BERXUNDAR_OUTPUTS, BERXUNDAR_WIRE_WORDS,
-    BERXUNDAR_NAMES, BERXUNDAR_NAMES, BERXUNDAR_NAMES, BERXUNDAR_NAMES };
+    BERXUNDAR_NAMES, BERXUNDAR_NAMES, BERXUNDAR_NAMES, BERXUNDAR_NAMES, BERXUNDAR_SHOWN, BERXUNDAR_SHOWN };
 static const size_t full_entries[TABLES] = { BERXUNDAR_COMPONENTS, BERXUNDAR_INPUTS, BERXUNDAR_OUTPUTS, BERXUNDAR_WIRES,
     BERXUNDAR_NAMES, BERXUNDAR_NAMES, BERXUNDAR_NAMES };
 static const char *const table_names[TABLES]
@@ -31,8 +32,10 @@ static const char *const table_names[TABLES]
 
 static berxundar_net net;
 static uint16_t list[BERXUNDAR_NAMES];
+static berxundar_box box;
 static uint64_t found[2];
-static uint8_t file[LONGEST];
+static uint8_t file[LONGEST], kept[LONGEST];
+static size_t kept_length;
 static size_t lent[LENT];
 
 /* ---- Output: a command's lines, written before the next command is read. ---- */
@@ -135,21 +138,24 @@ static uint64_t number_in(const uint8_t *bytes, size_t count)
     return number;
 }
 
-/* Reads a file: its length, then its bytes. */
-static int take_file(size_t *length)
+/* Reads a file: its length, then its bytes, of which the first LONGEST are kept. */
+static int take_file(uint8_t *to, size_t *length)
 {
-    uint8_t head[4];
+    uint8_t head[4], rest[4096];
     uint64_t left;
     if (!take(head, 4))
         return 0;
     left = number_in(head, 4);
     *length = left < LONGEST ? (size_t)left : LONGEST;
-    while (LONGEST < left) {
-        if (!take(file, LONGEST))
+    if (!take(to, *length))
+        return 0;
+    for (left -= *length; left;) {
+        size_t step = left < sizeof rest ? (size_t)left : sizeof rest;
+        if (!take(rest, step))
             return 0;
-        left -= LONGEST;
+        left -= step;
     }
-    return take(file, (size_t)left);
+    return 1;
 }
 
 /* ---- Memory that is lent. ---- */
@@ -165,7 +171,7 @@ int mprotect(void *at, size_t length, int allowed);
 
 #define PAGE 4096
 #define ROOM (8 * PAGE)
-#define PLACES 16
+#define PLACES 20
 
 static uint8_t *places[PLACES];
 
@@ -253,7 +259,7 @@ static int judge(void)
 {
     size_t length;
     uint32_t answer;
-    if (!take_file(&length))
+    if (!take_file(file, &length))
         return 0;
     lend_all(0, length);
     answer = berxundar_judge(now.file, length + OVERSTATED);
@@ -265,7 +271,7 @@ static int load(void)
 {
     size_t length;
     uint32_t answer;
-    if (!take_file(&length))
+    if (!take_file(file, &length))
         return 0;
     lend_all(0, length);
     answer = berxundar_load(now.file, length, NOW);
@@ -376,6 +382,56 @@ static int ask_list(int targets)
     return 1;
 }
 
+static int keep_file(void) { return take_file(kept, &kept_length); }
+
+/* A path: so many ids. */
+static int take_path(size_t *count, uint32_t *path)
+{
+    uint8_t bytes[4];
+    size_t i;
+    if (!take(bytes, 2))
+        return 0;
+    *count = (size_t)number_in(bytes, 2);
+    if (PATH < *count)
+        return 0;
+    for (i = 0; i < *count; i++) {
+        if (!take(bytes, 4))
+            return 0;
+        path[i] = (uint32_t)number_in(bytes, 4);
+    }
+    return 1;
+}
+
+static int look(void)
+{
+    static uint32_t path[PATH];
+    uint64_t *shown, *wide;
+    size_t count, i;
+    uint32_t answer;
+    if (!take_path(&count, path))
+        return 0;
+    found[0] = found[1] = 0;
+    lend_all(2, 0);
+    shown = (uint64_t *)lend(15, box.numbers, 8 * lent[NUMBERS]);
+    wide = (uint64_t *)lend(16, box.widths, 8 * lent[WIDTHS]);
+    answer = berxundar_look((uint8_t *)lend(17, kept, kept_length), kept_length, NOW, (uint32_t *)lend(18, path, 4 * count),
+        count, shown, lent[NUMBERS], wide, lent[WIDTHS], now.found, 2);
+    back_all(2);
+    back(box.numbers, shown, 8 * lent[NUMBERS]);
+    back(box.widths, wide, 8 * lent[WIDTHS]);
+    put_words("look");
+    put_number(berxundar_number(answer));
+    put_number(berxundar_position(answer));
+    put_number(found[0]);
+    put_number(found[1]);
+    for (i = 0; i < found[0] + found[1] && i < BERXUNDAR_SHOWN; i++) {
+        put_number(box.numbers[i]);
+        put_number(box.widths[i]);
+    }
+    put('\n');
+    return 1;
+}
+
 /* So many values, each a number of 64 bits and a width of 8. */
 static int take_values(size_t *count, uint64_t *numbers, uint64_t *widths)
 {
@@ -465,19 +521,58 @@ static void show_all(void)
     show_tables(BERXUNDAR_INPUTS, BERXUNDAR_OUTPUTS, BERXUNDAR_NAMES, BERXUNDAR_NAMES, BERXUNDAR_NAMES, 1);
 }
 
+/* The words of a table, where they are of 64 bits; else a null pointer. */
+static uint64_t *longs_of(unsigned table)
+{
+    switch (table) {
+    case COMPONENTS: return net.components;
+    case INPUTS: return net.inputs;
+    case OUTPUTS: return net.outputs;
+    case NUMBERS: return box.numbers;
+    case WIDTHS: return box.widths;
+    default: return NULL;
+    }
+}
+
+/* The same of 16 bits. */
+static uint16_t *shorts_of(unsigned table)
+{
+    switch (table) {
+    case WIRES: return net.wires;
+    case CURRENT: return net.current;
+    case FOLLOWING: return net.following;
+    case STANDING: return net.standing;
+    case LIST: return list;
+    default: return NULL;
+    }
+}
+
+static int show_table(void)
+{
+    uint8_t table;
+    size_t i;
+    if (!take(&table, 1))
+        return 0;
+    if (LENT <= table) {
+        put_words("no table\n");
+        return 1;
+    }
+    put_words("table");
+    put_number(table);
+    for (i = 0; i < full_words[table]; i++)
+        put_number(longs_of(table) ? longs_of(table)[i] : shorts_of(table)[i]);
+    put('\n');
+    return 1;
+}
+
 static void write_word(unsigned table, size_t at, uint64_t word)
 {
-    uint64_t *longs = table == COMPONENTS ? net.components : table == INPUTS ? net.inputs : net.outputs;
-    uint16_t *shorts = table == WIRES ? net.wires
-        : table == CURRENT            ? net.current
-        : table == FOLLOWING          ? net.following
-                                      : net.standing;
-    if (TABLES <= table || full_words[table] <= at)
+    if (LENT <= table || full_words[table] <= at)
         return;
-    if (table < WIRES)
-        longs[at] = word;
+    if (longs_of(table))
+        longs_of(table)[at] = word;
     else if (word < 65536)
-        shorts[at] = (uint16_t)word;
+        shorts_of(table)[at] = (uint16_t)word;
 }
 
 static int write_one(void)
@@ -486,6 +581,20 @@ static int write_one(void)
     if (!take(bytes, 11))
         return 0;
     write_word(bytes[0], (size_t)number_in(bytes + 1, 2), number_in(bytes + 3, 8));
+    return 1;
+}
+
+static int write_words(void)
+{
+    uint8_t head[5], bytes[8];
+    uint64_t i;
+    if (!take(head, 5))
+        return 0;
+    for (i = 0; i < number_in(head + 3, 2); i++) {
+        if (!take(bytes, 8))
+            return 0;
+        write_word(head[0], (size_t)(number_in(head + 1, 2) + i), number_in(bytes, 8));
+    }
     return 1;
 }
 
@@ -531,6 +640,10 @@ static int answer_one(uint8_t letter)
     case 'W': return write_one();
     case 'K': return set_count();
     case 'Z': return lend_less();
+    case 'F': return keep_file();
+    case 'D': return show_table();
+    case 'Y': return write_words();
+    case 'B': return look();
     default: return 0;
     }
 }
@@ -540,11 +653,11 @@ int main(void)
     size_t i, table;
     uint64_t left;
     uint8_t letter;
-    for (table = 0; table < TABLES; table++)
+    for (table = 0; table < LENT; table++) {
         for (i = 0; i < full_words[table]; i++)
             write_word((unsigned)table, i, 7);
-    for (table = 0; table < LENT; table++)
         lent[table] = full_words[table];
+    }
     for (left = COMMANDS; left && take(&letter, 1); left--) {
         if (!answer_one(letter)) {
             put_words("bad command\n");

@@ -1,14 +1,19 @@
 //! The commands of the trace language: reading and writing their bytes.
 
 use crate::io::{Channel, Stop};
+use crate::plain::drawing::Id;
 use crate::plain::kinds::Fields;
 use crate::plain::single::PortValue;
 use std::io::{Read, Write};
 
 /// The most bytes of a file that are kept; a longer one is too long already.
-const FILE_KEPT: usize = 30_001;
+const FILE_READ: usize = 30_001;
+/// The most bytes of a file that `F` keeps.
+pub const FILE_KEPT: usize = 30_000;
 /// The most values on one side that `X` takes.
 pub const VALUES_MAX: u64 = 256;
+/// The most ids of a path that `B` takes.
+pub const PATH_MAX: usize = 256;
 
 /// One component, handed in with its ports' values and a time.
 #[derive(Clone, Debug)]
@@ -38,6 +43,10 @@ pub enum Command {
     WriteWord { table: u8, place: u16, word: u64 },
     SetCount { which: u8, number: u64 },
     Lend { table: u8, words: u16 },
+    Keep(Vec<u8>),
+    Table { table: u8 },
+    WriteWords { table: u8, place: u16, words: Vec<u64> },
+    Look { path: Vec<Id> },
 }
 
 impl Command {
@@ -69,6 +78,14 @@ impl Command {
             },
             b'K' => Command::SetCount { which: from.number::<1>()? as u8, number: from.number::<8>()? },
             b'Z' => Command::Lend { table: from.number::<1>()? as u8, words: from.number::<2>()? as u16 },
+            b'F' => Command::Keep(read_file(from)?),
+            b'D' => Command::Table { table: from.number::<1>()? as u8 },
+            b'Y' => Command::WriteWords {
+                table: from.number::<1>()? as u8,
+                place: from.number::<2>()? as u16,
+                words: read_words(from)?,
+            },
+            b'B' => Command::Look { path: read_path(from)? },
             _ => return Err(Stop::Bad),
         };
         Ok(command)
@@ -98,6 +115,17 @@ impl Command {
             }
             Command::SetCount { which, number } => words(to, b'K', &[(*which as u64, 1), (*number, 8)]),
             Command::Lend { table, words: lent } => words(to, b'Z', &[(*table as u64, 1), (*lent as u64, 2)]),
+            Command::Keep(file) => write_file(to, b'F', file),
+            Command::Table { table } => words(to, b'D', &[(*table as u64, 1)]),
+            Command::WriteWords { table, place, words: written } => {
+                words(to, b'Y', &[(*table as u64, 1), (*place as u64, 2), (written.len() as u64, 2)]);
+                written.iter().for_each(|word| to.extend_from_slice(&word.to_le_bytes()));
+            }
+            Command::Look { path } => {
+                assert!(path.len() <= PATH_MAX, "a longer path is a bad command");
+                words(to, b'B', &[(path.len() as u64, 2)]);
+                path.iter().for_each(|id| to.extend_from_slice(&id.0.to_le_bytes()));
+            }
         }
     }
 }
@@ -105,7 +133,22 @@ impl Command {
 /// A length and that many bytes.
 fn read_file<R: Read, W: Write>(from: &mut Channel<R, W>) -> Result<Vec<u8>, Stop> {
     let length = from.number::<4>()? as usize;
-    from.bytes(length, FILE_KEPT)
+    from.bytes(length, FILE_READ)
+}
+
+/// How many, and that many words.
+fn read_words<R: Read, W: Write>(from: &mut Channel<R, W>) -> Result<Vec<u64>, Stop> {
+    let how_many = from.number::<2>()?;
+    (0..how_many).map(|_| from.number::<8>()).collect()
+}
+
+/// How many, at most 256, and that many ids.
+fn read_path<R: Read, W: Write>(from: &mut Channel<R, W>) -> Result<Vec<Id>, Stop> {
+    let how_many = from.number::<2>()?;
+    if how_many > PATH_MAX as u64 {
+        return Err(Stop::Bad);
+    }
+    (0..how_many).map(|_| Ok(Id(from.number::<4>()? as u32))).collect()
 }
 
 fn read_single<R: Read, W: Write>(from: &mut Channel<R, W>) -> Result<Single, Stop> {

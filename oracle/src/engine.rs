@@ -1,8 +1,10 @@
 //! logix at work: from a drawing or from the tables to a `Simulator`, and back
 //! into the tables.
 
-use crate::plain::drawing::Drawing;
+use crate::plain::drawing::{Drawing, Id};
+use crate::plain::look::Shown;
 use crate::plain::net::{entries, Entry};
+use crate::plain::single::PortValue;
 use crate::primitive::{kind_words, primitive};
 use crate::tables::{Tables, COMPONENTS, CURRENT, FOLLOWING, INPUTS, OUTPUTS, STANDING, WIRES};
 use logix::component::{Component, ComponentBuilder, Conn};
@@ -65,16 +67,34 @@ impl Engine {
         let connections = wires.map(|wire| conn(wire[0], wire[1], wire[2], wire[3])).collect();
         let root = ComponentBuilder::new(usize::MAX).sub_comps(children).connections(connections);
         let mut engine = Engine::start(root.build());
+        engine.take_values(tables);
         engine.simulator.state(|state| {
-            for (component, entry) in state.comp.components.iter_mut().zip(&entries) {
-                put_values(&mut component.inputs, &tables.used(INPUTS)[entry.first_input as usize..]);
-                put_values(&mut component.outputs, &tables.used(OUTPUTS)[entry.first_output as usize..]);
-            }
             state.local_upd_list = list(tables, CURRENT);
             state.local_next_upd_list = list(tables, FOLLOWING);
             state.to_upd = list(tables, STANDING);
         });
         engine
+    }
+
+    /// Takes the values of tables that hold the engine's components.
+    fn take_values(&mut self, tables: &Tables) {
+        self.simulator.state(|state| {
+            for (component, entry) in state.comp.components.iter_mut().zip(entries(tables)) {
+                put_values(&mut component.inputs, &tables.used(INPUTS)[entry.first_input as usize..]);
+                put_values(&mut component.outputs, &tables.used(OUTPUTS)[entry.first_output as usize..]);
+            }
+        });
+    }
+
+    /// What `get_status` shows of a drawing's box with the values of tables that
+    /// match the drawing. The path leads to a component.
+    pub fn look(drawing: &Drawing, tables: &Tables, path: &[Id]) -> Shown {
+        let mut engine = Engine::of_drawing(drawing);
+        engine.take_values(tables);
+        let ids: Vec<usize> = path.iter().map(|Id(id)| *id as usize).collect();
+        let status = engine.simulator.state(|state| state.comp.get_status(&ids, None));
+        let (inputs, outputs) = status.expect("the path leads to a component");
+        Shown { inputs: port_values(&inputs), outputs: port_values(&outputs) }
     }
 
     /// Writes components, wires, values and lists.
@@ -180,6 +200,10 @@ fn put_values(ports: &mut [Data], numbers: &[u64]) {
     for (port, number) in ports.iter_mut().zip(numbers) {
         port.set_value(*number as usize);
     }
+}
+
+fn port_values(ports: &[Data]) -> Vec<PortValue> {
+    ports.iter().map(|data| PortValue { number: data.value as u64, width: data.bits as u64 }).collect()
 }
 
 fn list(tables: &Tables, list: usize) -> Vec<usize> {

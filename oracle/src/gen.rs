@@ -9,9 +9,10 @@ mod evaluate;
 mod full;
 pub mod judge;
 mod load;
+pub mod look;
 pub mod random;
 pub mod rounds;
-mod tables;
+pub mod tables;
 
 use crate::command::Command;
 use crate::plain::net::broken;
@@ -20,7 +21,7 @@ use random::Random;
 use std::collections::BTreeMap;
 use std::io::{BufWriter, Error, Result, Write};
 
-const USAGE: &str = "usage: oracle | oracle gen evaluate|judge|load|run|tables SEED COUNT [--stats]";
+const USAGE: &str = "usage: oracle | oracle gen evaluate|judge|load|run|tables|look SEED COUNT [--stats]";
 
 pub fn usage() -> Result<()> {
     Err(Error::other(USAGE))
@@ -63,11 +64,11 @@ impl<W: Write> Stream<W> {
         commands.into_iter().try_for_each(|command| self.put(command))
     }
 
-    /// The counted answers, but for `N`, `P` and `A`, which give no number.
+    /// The counted answers, but for `N`, `P`, `A` and `D`, which give no number.
     fn statistics(&self) -> String {
         let refusable = |answer: &&String| {
             let word = answer.split(' ').next().unwrap_or("");
-            !["net", "inputs", "components", "counts"].contains(&word)
+            !["net", "inputs", "components", "counts", "table", "no"].contains(&word)
         };
         let counted = self.answers.keys().filter(refusable);
         counted.map(|answer| format!("{answer}: {}\n", self.answers[answer])).collect()
@@ -93,6 +94,7 @@ pub fn run(words: &[String], output: impl Write) -> Result<()> {
             "load" => load::one(&mut random, &mut stream)?,
             "run" => rounds::one(&mut random, &mut stream)?,
             "tables" => tables::one(&mut random, &mut stream)?,
+            "look" => look::one(&mut random, &mut stream)?,
             _ => return usage(),
         }
     }

@@ -7,5 +7,6 @@ pub mod calls;
 pub mod drawing;
 pub mod judge;
 pub mod kinds;
+pub mod look;
 pub mod net;
 pub mod single;

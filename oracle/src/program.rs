@@ -1,17 +1,20 @@
 //! The program: it owns the tables, takes commands and prints lines.
 //!
-//! The numbers come from `plain`, all else from logix.
+//! The numbers given back come from `plain`, all else from logix.
 
-use crate::command::{Command, Single};
+use crate::command::{Command, Single, FILE_KEPT};
 use crate::engine::Engine;
 use crate::io::{Channel, Stop};
 use crate::plain::calls::{edit_number, index_number, load_number};
 use crate::plain::calls::{neighbours_number, round_number, value_number};
-use crate::plain::drawing::{records, Drawing};
+use crate::plain::drawing::{records, Drawing, Id};
 use crate::plain::judge::judge;
+use crate::plain::look::look;
 use crate::plain::single::single_number;
 use crate::primitive::evaluated;
-use crate::tables::{Tables, COMPONENTS, CURRENT, FOLLOWING, INPUTS, OUTPUTS, STANDING, WIRES};
+use crate::tables::{
+    Tables, ANSWER, COMPONENTS, CURRENT, FOLLOWING, INPUTS, NUMBERS, OUTPUTS, STANDING, WIDTHS, WIRES,
+};
 use std::fmt::Write as _;
 use std::io::{Read, Result, Write};
 
@@ -25,6 +28,8 @@ pub struct Program {
     pub tables: Tables,
     /// logix's side of the tables; none where they were changed by hand.
     engine: Option<Engine>,
+    /// The file that looks are handed.
+    pub kept: Vec<u8>,
 }
 
 /// Reads commands and prints their lines until the input ends or is bad.
@@ -52,7 +57,7 @@ pub fn run(input: impl Read, output: impl Write) -> Result<()> {
 
 impl Program {
     pub fn new() -> Program {
-        Program { tables: Tables::new(), engine: None }
+        Program { tables: Tables::new(), engine: None, kept: vec![] }
     }
 
     /// Does one command and appends its lines.
@@ -84,6 +89,15 @@ impl Program {
                 self.tables.set_count(*which as usize, *number);
             }
             Command::Lend { table, words } => self.tables.lend(*table as usize, *words as usize),
+            Command::Keep(file) => self.kept = file[..file.len().min(FILE_KEPT)].to_vec(),
+            Command::Table { table } => self.table(*table as usize, lines),
+            Command::WriteWords { table, place, words } => {
+                self.engine = None;
+                for (at, word) in words.iter().enumerate() {
+                    self.tables.write_word(*table as usize, *place as usize + at, *word);
+                }
+            }
+            Command::Look { path } => self.look(path, lines),
         }
     }
 
@@ -175,7 +189,23 @@ impl Program {
             0 => ask(self.engine(), index as usize),
             _ => vec![],
         };
+        self.tables.lay(ANSWER, &found);
         line(lines, word, std::iter::once(number).chain(found));
+    }
+
+    /// The plain coding says whether the look is refused; what it shows is logix's.
+    fn look(&mut self, path: &[Id], lines: &mut String) {
+        let plain = match look(&self.tables, &self.kept, path) {
+            Ok(plain) => plain,
+            Err((number, position)) => return line(lines, "look", [number, position, 0, 0]),
+        };
+        let shown = Engine::look(&Drawing::new(records(&self.kept)), &self.tables, path);
+        assert_eq!(shown, plain, "logix shows what the plain coding shows");
+        let ports: Vec<_> = shown.inputs.iter().chain(&shown.outputs).collect();
+        self.tables.lay(NUMBERS, &ports.iter().map(|port| port.number).collect::<Vec<u64>>());
+        self.tables.lay(WIDTHS, &ports.iter().map(|port| port.width).collect::<Vec<u64>>());
+        let head = [0, 0, shown.inputs.len() as u64, shown.outputs.len() as u64];
+        line(lines, "look", head.into_iter().chain(ports.iter().flat_map(|port| [port.number, port.width])));
     }
 
     fn net(&self, lines: &mut String) {
@@ -203,6 +233,13 @@ impl Program {
     fn all(&self, lines: &mut String) {
         for (name, words) in TABLE_NAMES.iter().zip(&self.tables.words) {
             line(lines, name, words.iter().copied());
+        }
+    }
+
+    fn table(&self, table: usize, lines: &mut String) {
+        match self.tables.words.get(table) {
+            Some(words) => line(lines, "table", std::iter::once(table as u64).chain(words.iter().copied())),
+            None => lines.push_str("no table\n"),
         }
     }
 }

@@ -1,4 +1,5 @@
-//! The seven lent tables at full size, their counts, and how much is lent.
+//! The seven lent tables at full size, their counts, the lists lent for answers, and
+//! how much of each is lent.
 
 pub const COMPONENTS: usize = 0;
 pub const INPUTS: usize = 1;
@@ -7,22 +8,28 @@ pub const WIRES: usize = 3;
 pub const CURRENT: usize = 4;
 pub const FOLLOWING: usize = 5;
 pub const STANDING: usize = 6;
-/// The list lent for an answer; it is lent, but no table of the net.
+/// The lists lent for an answer, which are no tables of the net: of sources and
+/// targets; of a look, its numbers and its widths.
 pub const ANSWER: usize = 7;
+pub const NUMBERS: usize = 8;
+pub const WIDTHS: usize = 9;
+/// How many tables there are in all.
+pub const ALL: usize = 10;
 
 /// Words of an entry.
 pub const ENTRY_WORDS: [usize; 7] = [8, 1, 1, 4, 1, 1, 1];
 /// "Full size: 256 components, 1,024 inputs, 1,024 outputs, 1,024 wires, three lists of 256."
 pub const FULL_ENTRIES: [u64; 7] = [256, 1_024, 1_024, 1_024, 256, 256, 256];
-/// Full size in words; the last is the list lent for an answer.
-pub const FULL_WORDS: [usize; 8] = [2_048, 1_024, 1_024, 4_096, 256, 256, 256, 256];
+/// Full size in words; the last three are the lists lent for an answer.
+pub const FULL_WORDS: [usize; ALL] = [2_048, 1_024, 1_024, 4_096, 256, 256, 256, 256, 256, 256];
 /// What each word holds at the program's start.
 const FIRST_WORD: u64 = 7;
 
+#[derive(Clone)]
 pub struct Tables {
-    pub words: [Vec<u64>; 7],
+    pub words: [Vec<u64>; ALL],
     pub counts: [u64; 7],
-    pub lent: [usize; 8],
+    pub lent: [usize; ALL],
 }
 
 impl Tables {
@@ -37,14 +44,14 @@ impl Tables {
     /// The greatest word that the table's type holds.
     fn word_max(table: usize) -> u64 {
         match table {
-            COMPONENTS | INPUTS | OUTPUTS => u64::MAX,
+            COMPONENTS | INPUTS | OUTPUTS | NUMBERS | WIDTHS => u64::MAX,
             _ => u16::MAX as u64,
         }
     }
 
     /// Writes a word. A place past the table or a word that does not fit is left out.
     pub fn write_word(&mut self, table: usize, place: usize, word: u64) {
-        if table < 7 && place < FULL_WORDS[table] && word <= Tables::word_max(table) {
+        if table < ALL && place < FULL_WORDS[table] && word <= Tables::word_max(table) {
             self.words[table][place] = word;
         }
     }
@@ -57,7 +64,7 @@ impl Tables {
 
     /// From now on only that many words are lent, at most full size.
     pub fn lend(&mut self, table: usize, words: usize) {
-        if table < 8 {
+        if table < ALL {
             self.lent[table] = words.min(FULL_WORDS[table]);
         }
     }
@@ -72,9 +79,14 @@ impl Tables {
         &self.words[table][..self.counts[table] as usize * ENTRY_WORDS[table]]
     }
 
+    /// Lays words over the front of a table; those past them keep what they held.
+    pub fn lay(&mut self, table: usize, contents: &[u64]) {
+        self.words[table][..contents.len()].copy_from_slice(contents);
+    }
+
     /// Puts new contents in; entries past the count keep what they held.
     pub fn put(&mut self, table: usize, contents: &[u64]) {
-        self.words[table][..contents.len()].copy_from_slice(contents);
+        self.lay(table, contents);
         self.counts[table] = (contents.len() / ENTRY_WORDS[table]) as u64;
     }
 }

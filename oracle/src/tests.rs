@@ -6,6 +6,7 @@ mod differences;
 mod lamp;
 mod language;
 mod limits;
+mod look;
 mod marked;
 mod net;
 

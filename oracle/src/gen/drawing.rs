@@ -34,6 +34,8 @@ pub struct Profile {
     pub chain: bool,
     /// Whether kinds that move are more frequent.
     pub lively: bool,
+    /// Of ten composites, how many have no input that reaches nothing.
+    pub whole: u64,
 }
 
 /// A profile of any kind, small ones more often.
@@ -57,6 +59,7 @@ pub fn any_profile(random: &mut Random) -> Profile {
         fill_outputs: limits && random.once_in(3),
         chain: components > 16 && random.once_in(4),
         lively: random.once_in(2),
+        whole: 0,
     }
 }
 
@@ -68,6 +71,18 @@ pub fn running_profile(random: &mut Random) -> Profile {
         density: random.pick(&[7, 9, 10]),
         lively: !random.once_in(4),
         components: profile.components.max(least),
+        ..profile
+    }
+}
+
+/// A profile for looking: boxes in boxes, most of them with something behind each input.
+pub fn boxes_profile(random: &mut Random) -> Profile {
+    let profile = running_profile(random);
+    Profile {
+        components: profile.components.min(random.pick(&[6, 12, 12, 25, 60, COMPONENTS_MAX as u64]) as usize),
+        depth: random.pick(&[3, 4, 6, DEPTH_MAX as u64, DEPTH_MAX as u64]) as usize,
+        composite_in: random.pick(&[2, 2, 3, 4]),
+        whole: random.pick(&[0, 5, 9, 10, 10]),
         ..profile
     }
 }
@@ -332,6 +347,9 @@ impl<'a> Drawer<'a> {
                 self.connect(node, &outputs, (child, port), width);
             }
         }
+        if self.profile.whole > 0 && self.random.below(10) < self.profile.whole {
+            self.records += drop_dangling(node);
+        }
     }
 
     /// An input map, unless the owner's input already reaches another width.
@@ -367,6 +385,19 @@ impl<'a> Drawer<'a> {
 
 fn row(kind: u64, inputs: u64, outputs: u64, width: u64, parameter: u64) -> Fields {
     Fields { kind, inputs, outputs, width, parameter }
+}
+
+/// Takes the inputs that reach nothing from a composite, with their maps: how many maps.
+fn drop_dangling(node: &mut Node) -> usize {
+    let reaching: Vec<usize> =
+        (0..node.input_widths.len()).filter(|at| node.input_widths[*at].is_some()).collect();
+    let before = node.input_maps.len();
+    let moved = |map: &Record| reaching.iter().position(|at| *at == map.a as usize);
+    node.input_maps =
+        node.input_maps.iter().filter_map(|map| Some(Record { a: moved(map)? as u16, ..*map })).collect();
+    node.input_widths.retain(Option::is_some);
+    node.record.a = node.input_widths.len() as u16;
+    before - node.input_maps.len()
 }
 
 /// Child, port and width of every output of the children.

@@ -3,20 +3,23 @@
 
 use super::drawing::{drawing, file_of, running_profile, Profile};
 use super::full::full_net;
+use super::look::any_path;
 use super::random::Random;
 use super::rounds::edit;
 use super::Stream;
 use crate::command::Command;
+use crate::plain::drawing::records;
 use crate::plain::kinds::PERIOD_MAX;
 use crate::plain::net::{entries, Entry};
 use crate::program::Program;
 use crate::tables::{
-    Tables, COMPONENTS, CURRENT, ENTRY_WORDS, FULL_ENTRIES, FULL_WORDS, INPUTS, OUTPUTS, STANDING, WIRES,
+    Tables, ALL, COMPONENTS, CURRENT, ENTRY_WORDS, FULL_ENTRIES, FULL_WORDS, INPUTS, OUTPUTS, STANDING, WIRES,
 };
 use std::io::{Result, Write};
 
 pub fn one<W: Write>(random: &mut Random, stream: &mut Stream<W>) -> Result<()> {
-    stream.put(Command::Load(small_file(random)))?;
+    let file = small_file(random);
+    stream.put_all([Command::Keep(file.clone()), Command::Load(file)])?;
     for _ in 0..random.below(4) {
         stream.put(Command::Round { time: random.below(40) })?;
     }
@@ -64,6 +67,7 @@ fn every_call<W: Write>(random: &mut Random, stream: &mut Stream<W>) -> Result<(
         Command::Value { side: random.below(2) as u8, index, port },
         Command::Sources { index },
         Command::Targets { index },
+        Command::Look { path: any_path(random, &records(&stream.program.kept)) },
     ];
     while !calls.is_empty() {
         let at = random.below(calls.len() as u64) as usize;
@@ -72,12 +76,13 @@ fn every_call<W: Write>(random: &mut Random, stream: &mut Stream<W>) -> Result<(
     if random.once_in(4) {
         stream.put_all([Command::Net, Command::State])?;
     }
-    stream.put(Command::All)
+    stream.put(Command::All)?;
+    stream.put(Command::Table { table: random.between(7, 9) as u8 })
 }
 
 /// Every table one word short, or empty, or lent past its full size.
-fn lend_less<W: Write>(random: &mut Random, stream: &mut Stream<W>) -> Result<()> {
-    let table = random.below(8) as usize;
+pub fn lend_less<W: Write>(random: &mut Random, stream: &mut Stream<W>) -> Result<()> {
+    let table = random.below(ALL as u64) as usize;
     let full = FULL_WORDS[table] as u16;
     let words = random.pick(&[full - 1, full - 1, 0, full, full + 1, 65_535]);
     stream.put(Command::Lend { table: table as u8, words })?;
@@ -129,7 +134,7 @@ fn changed_net(random: &mut Random) -> Tables {
 }
 
 /// Any values that fit; a Const keeps its own.
-fn change_values(random: &mut Random, tables: &mut Tables) {
+pub fn change_values(random: &mut Random, tables: &mut Tables) {
     for entry in entries(tables) {
         for port in 0..entry.fields.inputs {
             let value = random.any() & ((1 << entry.fields.input_width()) - 1);
@@ -168,7 +173,7 @@ fn some_components(random: &mut Random, count: u64, length: u64) -> Vec<u64> {
 }
 
 /// One fault, as a rule: a clause of the net for each arm.
-fn fault(random: &mut Random, tables: &Tables) -> Vec<Command> {
+pub fn fault(random: &mut Random, tables: &Tables) -> Vec<Command> {
     match random.below(12) {
         0 | 1 => vec![count_fault(random, tables)],
         2..=5 => component_fault(random, tables),

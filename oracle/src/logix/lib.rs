@@ -58,6 +58,13 @@ pub mod primitives {
 #[rustfmt::skip]
 pub mod flatten;
 
+/// flatten.rs as it came, with its call of `fix_inputs_data_addrs`: the tests say where
+/// what it shows is another.
+#[allow(dead_code, unused_imports, unused_mut, unused_variables)]
+#[rustfmt::skip]
+#[path = "../../original/flatten.rs"]
+pub mod original_flatten;
+
 #[allow(dead_code, unused_imports, unused_mut, unused_variables, unused_assignments)]
 #[rustfmt::skip]
 pub mod simulator;

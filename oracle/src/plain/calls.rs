@@ -1,5 +1,5 @@
 //! The numbers of loads, rounds, edits and questions: "2, 16, 17, 18, 19 in that
-//! order, as far as each applies".
+//! order, as far as each applies". Those of looks are in `look`.
 
 use super::judge::{check_1, judge_records};
 use super::kinds::fits;
@@ -8,9 +8,14 @@ use crate::tables::{Tables, ANSWER, FULL_WORDS, WIRES};
 
 /// A load: checks 1, 2, 3 to 15. Number and position.
 pub fn load_number(tables: &Tables, file: &[u8]) -> (u64, u64) {
+    load_number_with(file, table_short(tables))
+}
+
+/// The same, where it is known whether check 2 fails.
+pub fn load_number_with(file: &[u8], short: bool) -> (u64, u64) {
     if check_1(file) {
         (1, 0)
-    } else if table_short(tables) {
+    } else if short {
         (2, 0)
     } else {
         judge_records(file)
@@ -65,7 +70,7 @@ pub fn value_number(tables: &Tables, side: u8, index: u16, port: u16) -> u64 {
 
 /// Sources and targets: checks 2, here with the list for the answer, 16, 17.
 pub fn neighbours_number(tables: &Tables, index: u16) -> u64 {
-    if tables.lent[ANSWER] < FULL_WORDS[ANSWER] {
+    if lent_short(tables, ANSWER) {
         return 2;
     }
     on_component(tables, index, |_| 0)
@@ -81,8 +86,13 @@ fn on_component(tables: &Tables, index: u16, then: impl Fn(&Entry) -> u64) -> u6
 }
 
 /// Check 2: a lent table is shorter than full size.
-fn table_short(tables: &Tables) -> bool {
-    (0..7).any(|table| tables.lent[table] < FULL_WORDS[table])
+pub fn table_short(tables: &Tables) -> bool {
+    (0..7).any(|table| lent_short(tables, table))
+}
+
+/// Whether one table, or one list for an answer, is lent shorter than full size.
+pub fn lent_short(tables: &Tables, table: usize) -> bool {
+    tables.lent[table] < FULL_WORDS[table]
 }
 
 /// Whether a wire enters an input of the component.

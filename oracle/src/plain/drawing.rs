@@ -85,6 +85,11 @@ pub fn records(file: &[u8]) -> Vec<Record> {
 /// A port: component number and port number.
 pub type Port = (usize, usize);
 
+/// The number that a record gives a component: "An id is not an index, and a child
+/// number is neither".
+#[derive(Clone, Copy, Debug, PartialEq)]
+pub struct Id(pub u32);
+
 /// Records with the children and maps of each owner. Any records have one; it
 /// is what the document means once the checks up to 5 have passed.
 pub struct Drawing {
@@ -162,10 +167,15 @@ impl Drawing {
         }
     }
 
+    /// The primitive's output that an output is.
+    pub fn source_below(&self, port: Port) -> Option<Port> {
+        self.source(port, DEPTH_MAX)
+    }
+
     /// The primitive's output that output `port` of the owner's child is.
     pub fn source_of(&self, owner: u16, child: u16, port: u16) -> Option<Port> {
         let component = self.child(owner, child)?;
-        self.source((component, port as usize), DEPTH_MAX)
+        self.source_below((component, port as usize))
     }
 
     /// The wires that one connection gives, in order: source and target.

@@ -9,6 +9,7 @@ use crate::gen::random::Random;
 use crate::gen::rounds::step;
 use crate::plain::drawing::{records, Drawing, Record};
 use crate::plain::judge::judge;
+use crate::plain::look::wire_words;
 use crate::plain::net::{broken, is_net};
 use crate::program::Program;
 use crate::tables::{Tables, COMPONENTS, FULL_WORDS, INPUTS, OUTPUTS, WIRES};
@@ -40,15 +41,6 @@ fn build_panics_exactly_where_13_is_given() {
     }
 }
 
-/// The wires by the plain descent, as words of the wires table.
-fn plain_wires(drawing: &Drawing) -> Vec<u64> {
-    let primitive = |record: &Record| record.kind == 1 && !record.is_composite();
-    let index = |number: usize| drawing.records[..number].iter().filter(|r| primitive(r)).count() as u64;
-    let connections = drawing.records.iter().filter(|record| record.kind == 2);
-    let wires = connections.flat_map(|record| drawing.wires_of(record));
-    wires.flat_map(|((from, out), (to, port))| [index(from), out as u64, index(to), port as u64]).collect()
-}
-
 #[test]
 fn wires_are_those_of_the_plain_descent() {
     let mut random = Random::new(3);
@@ -59,7 +51,7 @@ fn wires_are_those_of_the_plain_descent() {
         let mut program = Program::new();
         answer(&mut program, Command::Load(file_of(&drawn)));
         let plain = Drawing::new(drawn);
-        assert_eq!(program.tables.used(WIRES), plain_wires(&plain));
+        assert_eq!(program.tables.used(WIRES), wire_words(&plain));
         assert!(is_net(&program.tables));
         several += plain.records.iter().filter(|r| r.kind == 2 && plain.wires_of(r).len() > 1).count();
     }

@@ -3,6 +3,7 @@
 use super::{answer, lamp};
 use crate::command::Command;
 use crate::gen::drawing::file_of;
+use crate::plain::drawing::Id;
 use crate::program::{run, Program};
 
 /// What the program prints for these bytes.
@@ -108,10 +109,80 @@ fn words_that_do_not_fit_are_left_out() {
     let word = |table, place, word| Command::WriteWord { table, place, word };
     answer(&mut program, word(4, 0, 65_536));
     answer(&mut program, word(4, 256, 1));
-    answer(&mut program, word(7, 0, 1));
+    answer(&mut program, word(10, 0, 1));
     answer(&mut program, word(1, 1, u64::MAX));
+    answer(&mut program, word(7, 0, 65_536));
+    answer(&mut program, word(8, 255, u64::MAX));
+    answer(&mut program, word(9, 256, 1));
     assert_eq!(program.tables.words[4], vec![7; 256]);
     assert_eq!(program.tables.words[1][..3], [7, u64::MAX, 7]);
+    assert_eq!(program.tables.words[7], vec![7; 256]);
+    assert_eq!(program.tables.words[8][254..], [7, u64::MAX]);
+    assert_eq!(program.tables.words[9], vec![7; 256]);
+}
+
+#[test]
+fn words_are_written_one_after_the_other() {
+    let mut program = Program::new();
+    let words = |table, place, words: &[u64]| Command::WriteWords { table, place, words: words.to_vec() };
+    assert_eq!(answer(&mut program, words(7, 254, &[65_535, 65_536, 1])), "");
+    assert_eq!(program.tables.words[7][253..], [7, 65_535, 7]);
+    answer(&mut program, words(8, 254, &[u64::MAX, 1, 2]));
+    assert_eq!(program.tables.words[8][253..], [7, u64::MAX, 1]);
+    answer(&mut program, words(4, 65_535, &[1; 3]));
+    answer(&mut program, words(10, 0, &[1; 3]));
+    answer(&mut program, words(4, 0, &[]));
+    assert_eq!(program.tables.words[4], vec![7; 256]);
+}
+
+#[test]
+fn a_table_is_shown_whole_whatever_is_lent() {
+    let mut program = Program::new();
+    let shown = |program: &mut Program, table| answer(program, Command::Table { table });
+    for (table, words) in [2_048, 1_024, 1_024, 4_096, 256, 256, 256, 256, 256, 256].into_iter().enumerate() {
+        answer(&mut program, Command::Lend { table: table as u8, words: 0 });
+        let line = format!("table {table}{}\n", " 7".repeat(words));
+        assert_eq!(shown(&mut program, table as u8), line);
+    }
+    assert_eq!(shown(&mut program, 10), "no table\n");
+    assert_eq!(shown(&mut program, 255), "no table\n");
+}
+
+#[test]
+fn sources_and_targets_are_laid_over_their_list() {
+    let mut program = Program::new();
+    answer(&mut program, Command::Load(file_of(&lamp())));
+    answer(&mut program, Command::Sources { index: 2 });
+    assert_eq!(program.tables.words[7][..3], [0, 1, 7]);
+    answer(&mut program, Command::Targets { index: 2 });
+    assert_eq!(program.tables.words[7][..3], [3, 1, 7]);
+    answer(&mut program, Command::Targets { index: 9 });
+    answer(&mut program, Command::Sources { index: 0 });
+    assert_eq!(program.tables.words[7][..3], [3, 1, 7]);
+}
+
+#[test]
+fn of_a_long_file_30000_bytes_are_kept() {
+    let mut program = Program::new();
+    for length in [0, 1, 30_000, 30_001] {
+        answer(&mut program, Command::Keep(vec![1; length]));
+        assert_eq!(program.kept.len(), length.min(30_000));
+    }
+    let mut input = b"F\x40\x9c\0\0".to_vec();
+    input.extend(vec![1; 40_000]);
+    input.extend(b"B\0\0C");
+    assert_eq!(printed(&input), "look 1 0 0 0\ncalm 0 1\n");
+}
+
+#[test]
+fn a_path_has_at_most_256_ids() {
+    let path = |ids: u16| [&b"B"[..], &ids.to_le_bytes(), &vec![0; 4 * ids as usize], b"C"].concat();
+    assert_eq!(printed(&path(256)), "look 1 0 0 0\ncalm 0 1\n");
+    assert_eq!(printed(&path(257)), "bad command\n");
+    assert_eq!(printed(b"B\x02\0\0\0\0\0"), "bad command\n");
+    assert_eq!(printed(b"Y\x08\0\0\x01\0"), "bad command\n");
+    assert_eq!(printed(b"F\x01\0\0\0"), "bad command\n");
+    assert_eq!(printed(b"D"), "bad command\n");
 }
 
 /// Each command is read as it was written.
@@ -128,11 +199,16 @@ fn commands_are_read_as_written() {
         Command::Lend { table: 9, words: 1 },
         Command::SetCount { which: 8, number: 1 },
         Command::WriteWord { table: 8, place: 1, word: 1 },
+        Command::Keep(vec![1; 24]),
+        Command::WriteWords { table: 9, place: 258, words: vec![1, 1 << 40] },
+        Command::Look { path: vec![Id(0x0102_0304), Id(5)] },
+        Command::Table { table: 77 },
         Command::Net,
     ];
     for command in &commands {
         command.write(&mut bytes);
     }
-    let lines = "judge 1 0\nround 0 0\nedit 17 0\nrun 0 1 0\nindex 17 0\nvalue 17 0 0\nnet 0 0 0 0\n";
+    let lines = "judge 1 0\nround 0 0\nedit 17 0\nrun 0 1 0\nindex 17 0\nvalue 17 0 0\n\
+                 look 2 0 0 0\nno table\nnet 0 0 0 0\n";
     assert_eq!(printed(&bytes), lines);
 }
