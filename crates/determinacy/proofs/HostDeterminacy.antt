@@ -16,8 +16,10 @@ use Rattle.simulator.specs.declared.Ran.{Ran}
 use Rattle.questions.specs.declared.Listed.{Listed}
 use Rattle.simulator.specs.Calls.{ranGives, Runs}
 use Rattle.questions.specs.Questions.{calmGives, indexGives, valueGives, listGives}
-use Rattle.host.specs.Host.{CallChanges, fewCounts, changed, CallRuns, fewToRun, ran, CallAsks, fewToAsk, asked, CallLists, fewToList, listed}
 use Rattle.words.specs.Words.{countsIn, valuesIn}
+use Rattle.words.specs.Said.{CallChanges, fewCounts, changed}
+use Rattle.changing.specs.Changing.{CallRuns, fewToRun, ran}
+use Rattle.asking.specs.Asking.{CallAsks, fewToAsk, asked, CallLists, fewToList, listed}
 use Rattle.determinacy.specs.Determined.{Determined, DeterminedAnswer}
 use Rattle.determinacy.specs.HostDetermined.{ChangesDetermined, AsksDetermined, ListsDetermined, HostDeterminacy}
 use Rattle.determinacy.proofs.Determinacy.{determinacy}

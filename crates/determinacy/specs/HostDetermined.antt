@@ -17,8 +17,11 @@ use Rattle.questions.specs.declared.Side.{Side}
 use Rattle.questions.specs.declared.Listed.{Listed}
 use Rattle.simulator.specs.Calls.{Rounds, Edits, Runs}
 use Rattle.questions.specs.Questions.{calmGives, AsksCalm, indexGives, AsksIndex, valueGives, AsksValue, AsksSources, AsksTargets}
-use Rattle.host.specs.Host.{CallChanges, CallRuns, CallAsks, CallLists, CallEvaluates}
 use Rattle.words.specs.Words.{countsIn}
+use Rattle.words.specs.Said.{CallChanges}
+use Rattle.changing.specs.Changing.{CallRuns}
+use Rattle.asking.specs.Asking.{CallAsks, CallLists}
+use Rattle.host.specs.Host.{CallEvaluates}
 use Rattle.determinacy.specs.Determined.{Determined}
 
 module _ (few : Bool) (ws fs : List ℕ) (lent : Counts → Tables) where

@@ -3,7 +3,7 @@ ghost use mathlib.Core.Bool.{_&&_};
 ghost use Rattle.flatten.specs.Verdict.{sized};
 ghost use Rattle.tables.specs.Tables.{tablesOf};
 ghost use Rattle.load.specs.Load.{Loads};
-ghost use Rattle.host.specs.Host.{short, CallChanges};
+ghost use Rattle.words.specs.Said.{short, CallChanges};
 use words::keep_loaded;
 
 // Loads a drawing file into the tables.

@@ -1,1 +1,3 @@
 pub mod WordsLaws
+pub mod PlainLaws
+pub mod SaidLaws

@@ -17,7 +17,7 @@ use questions::Port;
 use questions::Side;
 use simulator::Ran;
 
-// A number, as a call says it. Crate host calls it for a number of the engine's, which are below 65,536.
+// A number, as a call says it. Crate asking calls it for a number of the engine's, which are below 65,536.
 pub fn speak(number: u32) -> u32
     requires { ⌜ number < 65536 ⌝ }
     ensures { λ r. ⌜ r ≡ 65536 * number ⌝ }
@@ -43,8 +43,8 @@ fn level_of(high: bool) -> u64
     if high { 1 } else { 0 }
 }
 
-// The word of an answer, calm or not. A refusal lays nothing. Crate host calls it where the lent words have room, as it does each of the other
-// functions below.
+// The word of an answer, calm or not. A refusal lays nothing. Crate asking calls it where the lent words have room, as it does the functions of the
+// other questions.
 pub fn lay_calm(found: &mut [u64], answer: Calm) -> u32
     requires { ⌜ (1 ≤ length (now found)) × (calmGives answer .number < 65536) ⌝ }
     ensures { λ r. ⌜ (r ≡ 65536 * calmGives answer .number) × (now (found .exit) ≡ overlay (valuesIn (calmGives answer)) (now (found .entry))) ⌝ }
@@ -58,7 +58,7 @@ pub fn lay_calm(found: &mut [u64], answer: Calm) -> u32
     }
 }
 
-// The word of an index. Crate host calls it likewise.
+// The word of an index. Crate asking calls it likewise.
 pub fn lay_index(found: &mut [u64], answer: Index) -> u32
     requires { ⌜ (1 ≤ length (now found)) × (indexGives answer .number < 65536) ⌝ }
     ensures { λ r. ⌜ (r ≡ 65536 * indexGives answer .number) × (now (found .exit) ≡ overlay (valuesIn (indexGives answer)) (now (found .entry))) ⌝ }
@@ -72,7 +72,7 @@ pub fn lay_index(found: &mut [u64], answer: Index) -> u32
     }
 }
 
-// The words of a value: its number and its width. Crate host calls it likewise.
+// The words of a value: its number and its width. Crate asking calls it likewise.
 pub fn lay_value(found: &mut [u64], answer: Port) -> u32
     requires { ⌜ (2 ≤ length (now found)) × (valueGives answer .number < 65536) ⌝ }
     ensures { λ r. ⌜ (r ≡ 65536 * valueGives answer .number) × (now (found .exit) ≡ overlay (valuesIn (valueGives answer)) (now (found .entry))) ⌝ }
@@ -87,7 +87,7 @@ pub fn lay_value(found: &mut [u64], answer: Port) -> u32
     }
 }
 
-// The word of a list: how many it names. Crate host calls it likewise.
+// The word of a list: how many it names. Crate asking calls it likewise.
 pub fn lay_listed(found: &mut [u64], answer: Listed) -> u32
     requires { ⌜ (1 ≤ length (now found)) × (listGives answer .number < 65536) ⌝ }
     ensures { λ r. ⌜ (r ≡ 65536 * listGives answer .number) × (now (found .exit) ≡ overlay (valuesIn (listGives answer)) (now (found .entry))) ⌝ }
@@ -101,7 +101,7 @@ pub fn lay_listed(found: &mut [u64], answer: Listed) -> u32
     }
 }
 
-// The counts of a run, and its two words. Crate host calls it likewise.
+// The counts of a run, and its two words. Crate changing calls it likewise.
 pub fn lay_run(words: &mut [u64], found: &mut [u64], answer: Ran) -> u32
     requires { ⌜ (7 ≤ length (now words)) × (2 ≤ length (now found)) × (ranGives answer .number < 65536) ⌝ }
     ensures { λ r. ⌜ (r ≡ 65536 * ranGives answer .number)

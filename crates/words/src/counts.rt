@@ -45,7 +45,7 @@ pub(crate) fn lay(words: &mut [u64], counts: Counts)
     words[6] = counts.standing as u64;
 }
 
-// Lays the counts of an answer that changed the tables, and says its number. Crate host calls it where seven count words are lent.
+// Lays the counts of an answer that changed the tables, and says its number. Crate changing calls it where seven count words are lent.
 pub fn keep(words: &mut [u64], answer: Answer) -> u32
     requires { ⌜ (7 ≤ length (now words)) × (answerGives answer .number < 65536) ⌝ }
     ensures { λ r. ⌜ (r ≡ 65536 * answerGives answer .number) × (now (words .exit) ≡ overlay (valuesIn (answerGives answer)) (now (words .entry))) ⌝ }

@@ -3,7 +3,8 @@
 use mathlib.Core.Path.{_∙_}
 use Rattle.primitive.specs.Evaluate.{evaluatedGives}
 use Rattle.host.specs.Host.{fieldsFrom}
-use Rattle.host.proofs.NumbersLaws.{plain-fits, plain-spoken, evaluate-plain}
+use Rattle.words.proofs.PlainLaws.{plain-fits, plain-spoken}
+use Rattle.host.proofs.NumbersLaws.{evaluate-plain}
 use borrow.Author.Needs.{needs}
 use Rattle.host.proofs.evaluate.berxundar_evaluate.Statement.{statement}
 use Rattle.host.proofs.evaluate.berxundar_evaluate.Tie as tie

@@ -28,17 +28,21 @@ returns-2 c =
 
 keep-loaded-requires : tie.Need-keep-loaded-requires
 keep-loaded-requires c κs =
-    let s = c .before .before .before .before .before .before .before .before .before .before .before .before .before .before .before .before .before .before .before .before .before .before .before .before .before .before .before .before .before .before .before .before .before .before .before in
-    let T = came s (countsIn (s .args .counts .now)) in
-    (c .before .before .before .before .before .before .before .before .before .before .before .before .before .before .before .before .before .before .before .before .before .before .before .if2 .left, load-small (s .args .file .now) T (answerGives (c .before .before .before .before .before .before .before .before .before .before .before .before .before .before .before .load .result)) _ (c .before .before .before .before .before .before .before .before .before .before .before .before .before .before .before .load .ensures (countsIn (s .args .counts .now)) .0))
+    let r = c .before .before .before .before .before .before .before .before .before .before .before .before .before .before .before in
+    let i = r .before .before .before .before .before .before .before .before in
+    let s = i .before .before .before .before .before .before .before .before .before .before .before .before in
+    let m = countsIn (s .args .counts .now) in
+    (i .if2 .left, load-small (s .args .file .now) (came s m) (answerGives (r .load .result)) _ (r .load .ensures m .0))
 
 returns-3 : tie.Need-returns-3
 returns-3 c =
-    let s = c .before .before .before .before .before .before .before .before .before .before .before .before .before .before .before .before .before .before .before .before .before .before .before .before .before .before .before .before .before .before .before .before .before .before .before .before .before .before in
-    let r = c .before .before .before .before .before .before .before .before .before .before .before .before .before .before .before .before .before .before .load in
-    let k = c .before .before .keep-loaded in
-    load-made (s .args .file .now) (s .args .counts .now) (came s) (r .result) (k .last .0) _ (k .result)
-    (sym (c .before .before .before .before .before .before .before .before .before .before .before .before .before .before .before .before .before .before .before .before .before .before .before .before .before .before .before .before .is-sized .ensures) ∙ not-false _ (c .before .before .before .before .before .before .before .before .before .before .before .before .before .before .before .before .before .before .before .before .before .before .before .before .before .before .before .if1 .left)) (c .before .before .before .before .before .before .before .before .before .before .before .before .before .before .before .before .before .before .before .before .before .before .before .before .before .before .if2 .left) (r .ensures) (k .ensures .0) (k .ensures .1)
+    let k = c .before .before in
+    let r = k .before .before .before .before .before .before .before .before .before .before .before .before .before .before .before .before in
+    let i = r .before .before .before .before .before .before .before .before in
+    let z = i .before .before in
+    let s = z .before .before .before .before .before .before .before .before .before .before in
+    load-made (s .args .file .now) (s .args .counts .now) (came s) (r .load .result) (k .keep-loaded .last .0) _ (k .keep-loaded .result)
+    (sym (z .is-sized .ensures) ∙ not-false _ (i .before .if1 .left)) (i .if2 .left) (r .load .ensures) (k .keep-loaded .ensures .0) (k .keep-loaded .ensures .1)
 
 pub berxundar-load-spec : {M : Type 1} → statement M
 berxundar-load-spec =
