@@ -16,6 +16,7 @@ use Rattle.simulator.specs.Calls.{editNumber, run, ranGives}
 use Rattle.questions.specs.Questions.{calmGives, indexGives, valueGives, listNumber, listGives}
 use Rattle.simulator.proofs.AnswersLaws.{ranGives-is}
 use Rattle.questions.proofs.AnswersLaws.{calmGives-is, indexGives-is, valueGives-is, listGives-is}
+use Rattle.look.proofs.AnswerLaws.{lookGives-is}
 use Rattle.determinacy.specs.Determined.{Determinacy, Determined, DeterminedAnswer}
 
 -- What was written is `new`, and the answer gives what `said` says of it.
@@ -31,7 +32,7 @@ module _ {A : Type 0} (gives : A → Given) (is : (a b : A) → gives a ≡ give
 equation : {A : Type 0} (x : A) → DeterminedAnswer (λ (a : A). a ≡ x)
 equation x a a′ p q = p ∙ sym q
 
--- For evaluating one component, a load, a round, an edit, a run until calm, and the questions that write a lent list; then for judging, also as
+-- For evaluating one component, a load, a round, an edit, a run until calm, and the questions and looks that write lent lists; then for judging, also as
 -- the host's call, check 16, calm, the index of an id, a port's value, and a value's methods.
 pub determinacy : Determinacy
 determinacy = (
@@ -43,6 +44,10 @@ determinacy = (
       (λ counts. giving (netNumber T) (run limit t T .rounds ∷ run limit t T .evaluations ∷ counts)) _,
   λ T i lent. outcome listGives listGives-is (λ zs. giving (listNumber T i lent) (length (sources T i) ∷ [])) _,
   λ T i lent. outcome listGives listGives-is (λ zs. giving (listNumber T i lent) (length (targets T i) ∷ [])) _,
+  λ file T path ns ws a a′ b b′ p q.
+      let n = p .1 ∙ sym (q .1) in
+      let w = p .2 ∙ sym (q .2) in
+      (lookGives-is a a′ (p .0 ∙ sym (q .0)), λ i. (n i, w i)),
   λ file r r′ p q. judges-verdict file r p ∙ sym (judges-verdict file r′ q),
   λ file. equation _,
   λ T. equation _,

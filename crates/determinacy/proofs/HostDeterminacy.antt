@@ -16,12 +16,15 @@ use Rattle.simulator.specs.declared.Ran.{Ran}
 use Rattle.questions.specs.declared.Listed.{Listed}
 use Rattle.simulator.specs.Calls.{ranGives, Runs}
 use Rattle.questions.specs.Questions.{calmGives, indexGives, valueGives, listGives}
+use Rattle.look.specs.declared.Looked.{Looked}
+use Rattle.look.specs.Look.{lookGives}
 use Rattle.words.specs.Words.{countsIn, valuesIn}
-use Rattle.words.specs.Said.{CallChanges, fewCounts, changed}
+use Rattle.words.specs.Said.{fewCounts, changed}
 use Rattle.changing.specs.Changing.{CallRuns, fewToRun, ran}
-use Rattle.asking.specs.Asking.{CallAsks, fewToAsk, asked, CallLists, fewToList, listed}
+use Rattle.asking.specs.Asking.{fewToAsk, asked, fewToList, listed}
+use Rattle.host.specs.Host.{fewToLook, looked}
 use Rattle.determinacy.specs.Determined.{Determined, DeterminedAnswer}
-use Rattle.determinacy.specs.HostDetermined.{ChangesDetermined, AsksDetermined, ListsDetermined, HostDeterminacy}
+use Rattle.determinacy.specs.HostDetermined.{ChangesDetermined, AsksDetermined, ListsDetermined, LooksDetermined, HostDeterminacy}
 use Rattle.determinacy.proofs.Determinacy.{determinacy}
 
 -- No call is lent both too few words and enough.
@@ -86,20 +89,37 @@ module _ (few : Bool) (ws fs : List ℕ) (lent : Counts → Tables) where
         λ i. (m i, v i),
       )
 
-  -- Of the engine's calls: evaluate 0, load 1, round 2, edit 3, run 4, sources 5, targets 6, check 9, calm 10, index 11, value 12.
+  looks : (P : Tables → List ℕ → List ℕ → Looked → List ℕ → List ℕ → Type 0)
+      → ((T : Tables) (ns wd : List ℕ) → Determined (λ (a : Looked) (b : List ℕ × List ℕ). P T ns wd a (b .0) (b .1))) → LooksDetermined few ws fs lent P
+  looks P det ns wd r s c d (fewToLook e n k w u) (fewToLook e′ n′ k′ w′ u′) =
+      let l = k ∙ sym k′ in
+      let m = w ∙ sym w′ in
+      let v = u ∙ sym u′ in (n ∙ sym n′, λ i. (l i, m i, v i))
+  looks P det ns wd r s c d (fewToLook e n k w u) (looked x e′ p′ n′ u′) = neither few e e′
+  looks P det ns wd r s c d (looked x e p n u) (fewToLook e′ n′ k′ w′ u′) = neither few e′ e
+  looks P det ns wd r s c d (looked x e p n u) (looked y e′ p′ n′ u′) =
+      let q = det (lent (countsIn ws)) ns wd x y (c .0, c .1) (d .0, d .1) p p′ in
+      let b = q .1 in
+      let v = u ∙ ap (λ (z : Looked). overlay (valuesIn (lookGives z)) fs) (q .0) ∙ sym u′ in (
+        n ∙ ap (λ (z : Looked). spoken (lookGives z)) (q .0) ∙ sym n′,
+        λ i. (b i .0, b i .1, v i),
+      )
+
+  -- Of the engine's calls: evaluate 0, load 1, round 2, edit 3, run 4, sources 5, targets 6, look 7, check 10, calm 11, index 12, value 13.
   pub host-determinacy : HostDeterminacy few ws fs lent
   host-determinacy = (
     λ file. changes _ (determinacy .1 file),
     λ t. changes _ (determinacy .2 t),
     λ i v. changes _ (determinacy .3 i v),
     λ t limit. runs (Runs t limit) (determinacy .4 t limit),
-    asks calmGives _ (determinacy .10),
-    λ id. asks indexGives _ (λ T. determinacy .11 T id),
-    λ side i port. asks valueGives _ (λ T. determinacy .12 T side i port),
+    asks calmGives _ (determinacy .11),
+    λ id. asks indexGives _ (λ T. determinacy .12 T id),
+    λ side i port. asks valueGives _ (λ T. determinacy .13 T side i port),
     λ i. lists _ (λ T ls. determinacy .5 T i ls),
     λ i. lists _ (λ T ls. determinacy .6 T i ls),
-    asks (λ (k : ℕ). giving k []) _ (determinacy .9),
+    asks (λ (k : ℕ). giving k []) _ (determinacy .10),
     λ f xs vs ys us t r s zs zs′ p q.
         let d = determinacy .0 f xs vs ys us t (p .answer) (q .answer) zs zs′ (p .promised) (q .promised) in
         (p .said ∙ ap (λ (z : Evaluated). spoken (evaluatedGives z)) (d .0) ∙ sym (q .said), d .1),
+    λ file path. looks _ (λ T. determinacy .7 file T path),
   )

@@ -13,6 +13,8 @@ use Rattle.load.specs.Load.{Loads}
 use Rattle.net.specs.Net.{Checks}
 use Rattle.questions.specs.declared.Side.{Side}
 use Rattle.simulator.specs.Calls.{Rounds, Edits, Runs}
+use Rattle.look.specs.declared.Looked.{Looked}
+use Rattle.look.specs.Look.{Looks}
 use Rattle.questions.specs.Questions.{AsksCalm, AsksIndex, AsksValue, AsksSources, AsksTargets}
 
 -- Two outcomes that P allows, answer and what was written, are equal.
@@ -34,6 +36,8 @@ Determinacy =
     × ((t limit : ℕ) (T : Tables) → Determined (Runs t limit T))
     × ((T : Tables) (i : ℕ) (lent : List ℕ) → Determined (AsksSources T i lent))
     × ((T : Tables) (i : ℕ) (lent : List ℕ) → Determined (AsksTargets T i lent))
+    × ((file : List ℕ) (T : Tables) (path ns ws : List ℕ)
+    → Determined (λ (r : Looked) (b : List ℕ × List ℕ). Looks file T path ns ws r (b .0) (b .1)))
     × ((file : List ℕ) → DeterminedAnswer (Judges file))
     × ((file : List ℕ) → DeterminedAnswer (Speaks file))
     × ((T : Tables) → DeterminedAnswer (Checks T))

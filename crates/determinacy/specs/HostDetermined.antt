@@ -17,11 +17,13 @@ use Rattle.questions.specs.declared.Side.{Side}
 use Rattle.questions.specs.declared.Listed.{Listed}
 use Rattle.simulator.specs.Calls.{Rounds, Edits, Runs}
 use Rattle.questions.specs.Questions.{calmGives, AsksCalm, indexGives, AsksIndex, valueGives, AsksValue, AsksSources, AsksTargets}
+use Rattle.look.specs.declared.Looked.{Looked}
+use Rattle.look.specs.Look.{Looks}
 use Rattle.words.specs.Words.{countsIn}
 use Rattle.words.specs.Said.{CallChanges}
 use Rattle.changing.specs.Changing.{CallRuns}
 use Rattle.asking.specs.Asking.{CallAsks, CallLists}
-use Rattle.host.specs.Host.{CallEvaluates}
+use Rattle.host.specs.Host.{CallEvaluates, CallLooks}
 use Rattle.determinacy.specs.Determined.{Determined}
 
 module _ (few : Bool) (ws fs : List ℕ) (lent : Counts → Tables) where
@@ -40,6 +42,11 @@ module _ (few : Bool) (ws fs : List ℕ) (lent : Counts → Tables) where
   ListsDetermined P =
       (ls : List ℕ) → Determined (λ (r : ℕ) (c : List ℕ × List ℕ). CallLists P few ws ls (c .0) fs (c .1) lent r)
 
+  -- A look by the promise P.
+  abbrev pub LooksDetermined : (Tables → List ℕ → List ℕ → Looked → List ℕ → List ℕ → Type 0) → Type 0
+  LooksDetermined P =
+      (ns wd : List ℕ) → Determined (λ (r : ℕ) (c : List ℕ × List ℕ × List ℕ). CallLooks P few ws ns (c .0) wd (c .1) fs (c .2) lent r)
+
   -- Every call on tables, in the order of the header: load, round, edit, run until calm, then the questions.
   abbrev pub HostDeterminacy : Type 0
   HostDeterminacy =
@@ -55,3 +62,4 @@ module _ (few : Bool) (ws fs : List ℕ) (lent : Counts → Tables) where
       × ((i : ℕ) → ListsDetermined (λ T. AsksTargets T i))
       × AsksDetermined (λ k. giving k []) Checks
       × ((f : Fields) (xs vs ys us : List ℕ) (t : ℕ) → Determined (CallEvaluates f xs vs ys us t))
+      × ((file path : List ℕ) → LooksDetermined (λ T. Looks file T path))

@@ -1,2 +1,3 @@
 pub mod NumbersLaws
 pub mod HostLaws
+pub mod LookedLaws

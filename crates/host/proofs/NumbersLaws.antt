@@ -35,15 +35,15 @@ evaluate-plain f xs vs ys ws g e =
     (giving-plain (evaluateNumber f xs vs ys ws) [] (evaluate-number-small f xs vs ys ws))
 
 -- The host's number of a verdict.
-abbrev spokenOf : Verdict → ℕ
+abbrev pub spokenOf : Verdict → ℕ
 spokenOf v = spoken (verdictGives v [])
 
 -- A load's number and position fit the answer.
-spoken-small : (file : List ℕ) (v : Verdict) → verdict file ≡ v → spokenOf v < 4294967296
+pub spoken-small : (file : List ℕ) (v : Verdict) → verdict file ≡ v → spokenOf v < 4294967296
 spoken-small file Accepted e = omega arith
 spoken-small file (Judged r) e = let b = verdict-bound file r e in omega arith
 
-cond-small : (b : Bool) (x y : Verdict) → spokenOf x < 4294967296 → spokenOf y < 4294967296 → spokenOf (cond b x y) < 4294967296
+pub cond-small : (b : Bool) (x y : Verdict) → spokenOf x < 4294967296 → spokenOf y < 4294967296 → spokenOf (cond b x y) < 4294967296
 cond-small true x y h k = h
 cond-small false x y h k = k
 
@@ -53,7 +53,7 @@ load-verdict-small file T =
     cond-small (sized file) (cond (fullSize T) (verdict file) (refused 2 0)) (refused 1 0)
     (cond-small (fullSize T) (verdict file) (refused 2 0) (spoken-small file (verdict file) refl) (omega arith)) (omega arith)
 
-by-verdict : (v : Verdict) (xs : List ℕ) → spoken (verdictGives v xs) ≡ spokenOf v
+pub by-verdict : (v : Verdict) (xs : List ℕ) → spoken (verdictGives v xs) ≡ spokenOf v
 by-verdict Accepted xs = refl
 by-verdict (Judged r) xs = refl
 

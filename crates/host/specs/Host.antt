@@ -1,13 +1,21 @@
--- What evaluating one component promises, called from C. docs/SPECIFICATION.md, "Rounds" (the host's call) and "Numbers given back". The promise is the
--- engine's own, by name. (`berxundar_judge` promises `Speaks`, `berxundar_load` `CallChanges`.)
+-- What evaluating one component and looking at a box promise, called from C. docs/SPECIFICATION.md, "Rounds" (the host's call), "Numbers given back" and
+-- "Looking at a box". Each promise is the engine's own, by name. (`berxundar_judge` promises `Speaks`, `berxundar_load` `CallChanges`.)
 -- Assumes nothing.
 use Prim.Native.Nat.{ℕ}
 use mathlib.Core.Path.{_≡_}
+use mathlib.Core.Bool.{Bool, true, false}
 use mathlib.Core.List.{List}
+use Rattle.lists.specs.Lists.{overlay}
 use Rattle.kinds.specs.declared.table.Fields.{Fields}
 use Rattle.primitive.specs.declared.Evaluated.{Evaluated}
 use Rattle.kinds.specs.Given.{spoken}
 use Rattle.primitive.specs.Evaluate.{evaluatedGives, Evaluates}
+use Rattle.tables.specs.declared.Counts.{Counts}
+use Rattle.tables.specs.Tables.{Tables}
+use Rattle.look.specs.declared.Looked.{Looked}
+use Rattle.look.specs.Look.{lookGives}
+use Rattle.words.specs.Words.{countsIn, valuesIn}
+use Rattle.words.specs.Said.{saysShort}
 
 -- The fields that a call hands in one by one.
 abbrev pub fieldsFrom : ℕ → ℕ → ℕ → ℕ → ℕ → Fields
@@ -18,3 +26,12 @@ pub record CallEvaluates (f : Fields) (xs vs ys ws : List ℕ) (t r : ℕ) (zs :
   pub answer : Evaluated
   pub promised : Evaluates f xs vs ys ws t answer zs
   pub said : r ≡ spoken (evaluatedGives answer)
+
+-- A look, where P is the engine's promise, ns and ns′, wd and wd′ are the lists of numbers and of widths before and after: how many inputs and outputs are
+-- shown is laid over fs. `lent` are the seven tables by their counts, ws the count words; `few` says that fewer words are lent than the call needs: it then
+-- gives 2 and writes nothing.
+pub data CallLooks (P : Tables → List ℕ → List ℕ → Looked → List ℕ → List ℕ → Type 0) (few : Bool) (ws ns ns′ wd wd′ fs fs′ : List ℕ)
+    (lent : Counts → Tables) (r : ℕ) : Type 0 where
+  fewToLook : few ≡ true → r ≡ saysShort → ns′ ≡ ns → wd′ ≡ wd → fs′ ≡ fs → CallLooks P few ws ns ns′ wd wd′ fs fs′ lent r
+  looked : (a : Looked) → few ≡ false → P (lent (countsIn ws)) ns wd a ns′ wd′ → r ≡ spoken (lookGives a)
+      → fs′ ≡ overlay (valuesIn (lookGives a)) fs → CallLooks P few ws ns ns′ wd wd′ fs fs′ lent r

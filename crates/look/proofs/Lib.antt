@@ -4,3 +4,4 @@ pub mod RowsLaws
 pub mod FewPorts
 pub mod ShowLaws
 pub mod LookLaws
+pub mod AnswerLaws
