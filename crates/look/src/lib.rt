@@ -1,5 +1,5 @@
 // Looking at a box: the port values of a composite, named by the path of ids below the root. Rule: docs/SPECIFICATION.md, "Looking at a box".
-// Source: simulator.rs, `get_status`. A look changes no table.
+// Source: flatten.rs, `get_status`. A look changes no table.
 mod looking;
 mod matching;
 mod path;
