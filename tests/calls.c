@@ -1,8 +1,8 @@
 /*
  * What the header says beside the calls' own rules: NULL with length 0 is an empty file and a table of no words, so that each
- * call answers as for any short table (2), a load as for an empty file (1), and a component without ports is evaluated; a net of
- * zeros is one of no components, the net of a root alone, which is looked at along no path; a sentence belongs to an answer and to
- * its number. Leaves with 1 at the first other answer.
+ * call answers as for any short table (2), a load and a look as for an empty file (1), and a component without ports is
+ * evaluated; a net of zeros is one of no components, the net of a root alone, which is looked at along no path; a sentence
+ * belongs to an answer and to its number. Leaves with 1 at the first other answer.
  */
 #include "berxundar.h"
 
@@ -15,6 +15,8 @@ static berxundar_single single;
 
 static int nothing_lent(void)
 {
+    static const uint8_t record[BERXUNDAR_RECORD] = { 1 };
+    static uint64_t numbers[256], widths[256];
     uint64_t found[2] = { 0, 1 };
     return berxundar_judge(NONE) == NUMBER(1) && berxundar_net_load(&net, NONE) == NUMBER(1)
         && berxundar_load(NONE, SEVEN, NONE) == NUMBER(1) && berxundar_round(SEVEN, NONE, 3) == NUMBER(2)
@@ -26,9 +28,13 @@ static int nothing_lent(void)
         && berxundar_sources(BERXUNDAR_LENT(&net), net.counts, 7, 0, NONE, found, 1) == NUMBER(2)
         && berxundar_targets(SEVEN, NONE, 0, NONE, NONE) == NUMBER(2) && berxundar_check(SEVEN, NONE) == NUMBER(2)
         && berxundar_check(BERXUNDAR_LENT(&net), NONE) == NUMBER(2)
-        && berxundar_look(NONE, SEVEN, NONE, NONE, NONE, NONE, NONE) == NUMBER(2)
-        && berxundar_look(NONE, SEVEN, net.counts, 7, NONE, NONE, NONE, found, 2) == NUMBER(1)
-        && berxundar_look(NONE, SEVEN, net.counts, 7, NONE, NONE, NONE, found, 1) == NUMBER(2)
+        && berxundar_look(NONE, SEVEN, NONE, NONE, NONE, NONE, NONE) == NUMBER(1)
+        && berxundar_look(record, sizeof record, SEVEN, NONE, NONE, NONE, NONE, NONE) == NUMBER(2)
+        && berxundar_look(record, sizeof record, BERXUNDAR_LENT(&net), NONE, NONE, numbers, 256, widths, 256, found, 2) == NUMBER(2)
+        && berxundar_look(record, sizeof record, BERXUNDAR_LENT(&net), net.counts, 7, NONE, numbers, 256, widths, 256, found, 1)
+            == NUMBER(2)
+        && berxundar_look(record, sizeof record, BERXUNDAR_LENT(&net), net.counts, 7, NONE, numbers, 255, widths, 256, found, 2)
+            == NUMBER(2)
         && berxundar_evaluate(1, 0, 1, 0, 0, NONE, NONE, NONE, NONE, 0) == NUMBER(2)
         && berxundar_evaluate(1, 0, 1, 0, 0, NONE, NONE, found, 1, found + 1, 1, 0) == 0 && found[0] == 1;
 }

@@ -86,8 +86,8 @@ static const struct {
     const char *name;
     uint32_t (*call)(void);
     size_t said;
-} calls[] = { { "judge", judge, 180000 }, { "load", load, 180000 }, { "look at the root", look, 180000 },
-    { "look inside", look_inside, 180000 }, { "round", run_round, 8000 },
+} calls[] = { { "judge", judge, 180000 }, { "load", load, 180000 }, { "look at the root", look, 200000 },
+    { "look inside", look_inside, 200000 }, { "round", run_round, 8000 },
     { "run until calm", run, 8000 }, { "edit", edit, 8000 }, { "calm", calm, 8000 }, { "index", index_of, 8000 },
     { "value", value, 8000 }, { "sources", sources, 8000 }, { "targets", targets, 8000 }, { "check", check, 8000 },
     { "evaluate", evaluate, 8000 } };
