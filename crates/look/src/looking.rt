@@ -81,7 +81,7 @@ fn look_number(
         (tablesOf (now (components .entry)) (now (inputs .entry)) (now (outputs .entry)) (now (wires .entry)) (now (current .entry))
         (now (following .entry)) (now (standing .entry)) counts) place ⌝ }
 {
-    let number = net::net_number(
+    let net_number = net::net_number(
         components,
         inputs,
         outputs,
@@ -91,8 +91,8 @@ fn look_number(
         standing,
         counts,
     );
-    if number != 0 {
-        return number;
+    if net_number != 0 {
+        return net_number;
     }
     if !is_matched(file, index, components, wires, counts) {
         return 20;
