@@ -141,7 +141,7 @@ pub fn put_net(
     put_wires(out, next, wires, counts.wires)
 }
 
-// A round, and the current list that it leaves. Crate listing calls it for a list of a net.
+// A round, and the current list that it leaves. Crate running calls it for a list of a net.
 pub fn put_round(out: &mut [u8], at: usize, round: u64, current: &[u16], count: usize) -> usize
     requires { ⌜ count ≤ length (now current) ⌝ }
     ensures { λ r. ⌜ Puts (now (out .entry)) at (roundLine round (take count (now (current .entry)))) (now (out .exit)) r ⌝ }

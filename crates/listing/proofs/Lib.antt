@@ -1,4 +1,3 @@
-pub mod RoundsLaws
 pub mod LoadedLaws
 pub mod Listings
 pub mod ListingBound

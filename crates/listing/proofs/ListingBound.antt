@@ -34,7 +34,8 @@ use Rattle.simulator.proofs.Kept.{roundTables-net}
 use Rattle.rounds.proofs.Sound.{net-sound, net-within, wire-in}
 use Rattle.text.specs.Text.{placeAfter, numeralOf, numeral, spaced}
 use Rattle.lines.specs.Lines.{nameOf, componentLine, wireLine, componentsText, wiresText, roundLine}
-use Rattle.listing.specs.Listing.{fresh, ending, roundLines, listedText, listing}
+use Rattle.running.specs.Running.{ending, roundLines}
+use Rattle.listing.specs.Listing.{fresh, listedText, listing}
 use Rattle.listing.proofs.LoadedLaws.{loaded-number}
 
 -- A number below 10^k has at most k digits; none has more than 20.

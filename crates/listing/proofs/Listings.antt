@@ -17,7 +17,8 @@ use Rattle.simulator.specs.Calls.{roundTables}
 use Rattle.component.proofs.Drawings.{recordBytes, componentBytes, connectionBytes, lamp, lampTwice}
 use Rattle.text.specs.Text.{numeral}
 use Rattle.lines.specs.Lines.{ascii, componentLine, wireLine}
-use Rattle.listing.specs.Listing.{roundLines, listing}
+use Rattle.running.specs.Running.{roundLines}
+use Rattle.listing.specs.Listing.{listing}
 
 pub lamp-listing :
     listing lamp

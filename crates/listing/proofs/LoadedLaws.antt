@@ -23,7 +23,8 @@ use Rattle.net.proofs.NetLaws.{netNumber-0}
 use Rattle.loaded.proofs.LoadTheorems.{accepted-net, accepted-fullSize}
 use Rattle.simulator.proofs.CallsLaws.{counted}
 use Rattle.lines.specs.Lines.{componentsText, wiresText, refusedLine, Puts}
-use Rattle.listing.specs.Listing.{fresh, roundLines, listedText, listing}
+use Rattle.running.specs.Running.{roundLines}
+use Rattle.listing.specs.Listing.{fresh, listedText, listing}
 
 -- A part ends inside the buffer.
 pub inside : {t bs u : List ℕ} {at m : ℕ} → Puts t at bs u m → m ≤ length u

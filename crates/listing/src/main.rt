@@ -1,156 +1,9 @@
 // The listing program: reads a drawing from standard input and writes its listing.
 // Rule: docs/SPECIFICATION.md, "The lamp drawing and marked cases".
-ghost use mathlib.Core.Path.{_≡_};
-ghost use Prim.Native.Nat.{_≤_};
-ghost use lib.ListN.{length};
-ghost use Rattle.tables.specs.Tables.{tablesOf, countsAfter};
-ghost use Rattle.net.specs.Net.{netNumber};
-ghost use Rattle.rounds.specs.Round.{calm};
-ghost use Rattle.simulator.specs.Calls.{roundTables};
 ghost use Rattle.lines.specs.Lines.{Puts};
-ghost use Rattle.listing.specs.Listing.{fresh, ending, roundLines, listing};
-ghost use Rattle.listing.specs.Made.{RoundMade, calmOf};
+ghost use Rattle.listing.specs.Listing.{listing};
 use libc::STDIN_FILENO;
-use questions::Calm;
 use tables::Answer;
-use tables::Counts;
-
-// The most rounds.
-const ROUNDS: u64 = 16;
-
-// What a round leaves: the counts, and whether it left calm.
-struct Left {
-    counts: Counts,
-    calm: bool,
-}
-
-// The counts of an answer; none of a refusal.
-fn counts_of(answer: Answer) -> Counts
-    ensures { λ r. ⌜ r ≡ countsAfter answer (fresh .counts) ⌝ }
-{
-    let Answer::Done(counts) = answer else {
-        return Counts {
-            components: 0,
-            inputs: 0,
-            outputs: 0,
-            wires: 0,
-            current: 0,
-            following: 0,
-            standing: 0,
-        };
-    };
-    counts
-}
-
-// Calm or not; after a refusal there is nothing more to run.
-fn calm_of(answer: Calm) -> bool
-    ensures { λ r. ⌜ r ≡ calmOf answer ⌝ }
-{
-    let Calm::Is(calm) = answer else {
-        return true;
-    };
-    calm
-}
-
-// Runs a round of a net at time 0, and asks whether it left calm. On a net neither call is refused.
-fn round_left(
-    components: &[u64],
-    inputs: &mut [u64],
-    outputs: &mut [u64],
-    wires: &[u16],
-    current: &mut [u16],
-    following: &mut [u16],
-    standing: &mut [u16],
-    counts: Counts,
-) -> Left
-    requires { ⌜ netNumber (tablesOf (now components) (now inputs) (now outputs) (now wires) (now current) (now following) (now standing) counts) ≡ 0 ⌝ }
-    ensures { λ r.
-        let before = tablesOf (now (components .entry)) (now (inputs .entry)) (now (outputs .entry)) (now (wires .entry))
-        (now (current .entry)) (now (following .entry)) (now (standing .entry)) counts in
-        let after = tablesOf (now (components .entry)) (now (inputs .exit)) (now (outputs .exit)) (now (wires .entry))
-        (now (current .exit)) (now (following .exit)) (now (standing .exit)) (r .counts) in
-        ⌜ RoundMade before after (r .calm) ⌝ }
-{
-    let made = simulator::round(
-        components,
-        inputs,
-        outputs,
-        wires,
-        current,
-        following,
-        standing,
-        counts,
-        0,
-    );
-    let new = counts_of(made);
-    let asked = questions::is_calm(
-        components,
-        inputs,
-        outputs,
-        wires,
-        current,
-        following,
-        standing,
-        new,
-    );
-    Left {
-        counts: new,
-        calm: calm_of(asked),
-    }
-}
-
-// How the rounds end.
-fn put_end(out: &mut [u8], at: usize, calm: bool) -> usize
-    ensures { λ r. ⌜ Puts (now (out .entry)) at (ending calm) (now (out .exit)) r ⌝ }
-{
-    if calm {
-        return text::put_bytes(out, at, b"calm\n");
-    }
-    text::put_bytes(out, at, b"not calm\n")
-}
-
-// The rounds of a net at time 0 until calm, sixteen at most, and how they end.
-fn put_rounds(
-    components: &[u64],
-    inputs: &mut [u64],
-    outputs: &mut [u64],
-    wires: &[u16],
-    current: &mut [u16],
-    following: &mut [u16],
-    standing: &mut [u16],
-    counts: Counts,
-    out: &mut [u8],
-    at: usize,
-) -> usize
-    requires { ⌜ (at ≤ length (now out)) × (netNumber (tablesOf (now components) (now inputs) (now outputs) (now wires) (now current)
-        (now following) (now standing) counts) ≡ 0) ⌝ }
-    ensures { λ r.
-        let before = tablesOf (now (components .entry)) (now (inputs .entry)) (now (outputs .entry)) (now (wires .entry))
-        (now (current .entry)) (now (following .entry)) (now (standing .entry)) counts in
-        ⌜ Puts (now (out .entry)) at (roundLines 16 1 before) (now (out .exit)) r ⌝ }
-{
-    let mut reached = counts;
-    let mut next = at;
-    let mut round: u64 = 0;
-    let mut calm = false;
-    while !calm & (round < ROUNDS) {
-        let left = round_left(
-            components,
-            inputs,
-            outputs,
-            wires,
-            current,
-            following,
-            standing,
-            reached,
-        );
-        round += 1;
-        reached = left.counts;
-        calm = left.calm;
-        next = lines::put_round(out, next, round, current, reached.current);
-    }
-    put_end(out, next, calm)
-}
 
 // Lists a drawing in a lent buffer, and answers how many bytes that is.
 fn list(file: &[u8], out: &mut [u8]) -> usize
@@ -176,7 +29,7 @@ fn list(file: &[u8], out: &mut [u8]) -> usize
     match answer {
         Answer::Done(counts) => {
             let wired = lines::put_net(out, 0, &components, &wires, counts);
-            put_rounds(
+            running::put_rounds(
                 &components,
                 &mut inputs,
                 &mut outputs,

@@ -6,7 +6,8 @@ use Rattle.component.specs.Record.{IsBytes}
 use Rattle.tables.specs.Tables.{Tables, tablesOf}
 use Rattle.net.specs.Net.{netNumber}
 use Rattle.lines.proofs.LinesLaws.{both, named-as}
-use Rattle.listing.specs.Listing.{fresh, roundLines}
+use Rattle.running.specs.Running.{roundLines}
+use Rattle.listing.specs.Listing.{fresh}
 use Rattle.listing.proofs.LoadedLaws.{inside, listed-refused, listed-net, listed-done}
 use borrow.Author.Needs.{needs}
 use Rattle.listing.proofs.list.Statement.{statement}

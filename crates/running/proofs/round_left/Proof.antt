@@ -1,10 +1,10 @@
 -- `round_left`: a round of a net is made, and leaves a net, so that calm is answered.
 -- Assumes nothing.
 use Rattle.tables.specs.Tables.{tablesOf}
-use Rattle.listing.proofs.RoundsLaws.{rounded}
+use Rattle.running.proofs.RoundsLaws.{rounded}
 use borrow.Author.Needs.{needs}
-use Rattle.listing.proofs.round_left.Statement.{statement}
-use Rattle.listing.proofs.round_left.Tie as tie
+use Rattle.running.proofs.round_left.Statement.{statement}
+use Rattle.running.proofs.round_left.Tie as tie
 
 returns : tie.Need-returns
 returns c =

@@ -9,11 +9,11 @@ use Rattle.net.specs.Net.{netNumber}
 use Rattle.rounds.proofs.Sound.{current-in}
 use Rattle.simulator.proofs.RunLaws.{test-going, test-below}
 use Rattle.text.proofs.TextLaws.{ToCome}
-use Rattle.listing.specs.Listing.{roundLines}
-use Rattle.listing.proofs.RoundsLaws.{later, net-left, round-put, begun-inside, rounds-end}
+use Rattle.running.specs.Running.{roundLines}
+use Rattle.running.proofs.RoundsLaws.{later, net-left, round-put, begun-inside, rounds-end}
 use borrow.Author.Needs.{needs}
-use Rattle.listing.proofs.put_rounds.Statement.{statement}
-use Rattle.listing.proofs.put_rounds.Tie as tie
+use Rattle.running.proofs.put_rounds.Statement.{statement}
+use Rattle.running.proofs.put_rounds.Tie as tie
 
 abbrev Inv-loop : tie.InvT-loop
 Inv-loop components inputs₀ outputs₀ wires current₀ following₀ standing₀ out₀ at reached₀ next₀ round₀ calm₀ inputs outputs current following standing out reached next round calm =

@@ -3,8 +3,8 @@
 use Rattle.lines.specs.Lines.{ascii}
 use Rattle.lines.proofs.LinesLaws.{put}
 use borrow.Author.Needs.{needs}
-use Rattle.listing.proofs.put_end.Statement.{statement}
-use Rattle.listing.proofs.put_end.Tie as tie
+use Rattle.running.proofs.put_end.Statement.{statement}
+use Rattle.running.proofs.put_end.Tie as tie
 
 returns : tie.Need-returns
 returns c = rw (c .before .before .before .before .before .if1 .taken) (put (ascii "calm\n") (c .before .before .put-bytes .ensures))

@@ -9,12 +9,10 @@ use borrow.Author.Tests.{ltb-false}
 use lib.ListN.{length}
 use lib.Dec.{eqb, ltb}
 use Rattle.value.specs.Value.{level}
-use Rattle.kinds.specs.Given.{done, declined, refusedBy, giving}
-use Rattle.kinds.proofs.GivenLaws.{done-declined}
+use Rattle.kinds.specs.Given.{done, declined, refusedBy}
 use Rattle.tables.specs.declared.Counts.{Counts}
 use Rattle.tables.specs.declared.Answer.{Answer}
-use Rattle.tables.specs.declared.Answer.the-variants.{Done, Refused}
-use Rattle.tables.specs.Tables.{Tables, currentList, answerGives, countsAfter}
+use Rattle.tables.specs.Tables.{Tables, currentList, countsAfter}
 use Rattle.net.specs.Net.{netNumber}
 use Rattle.questions.specs.declared.Calm.{Calm}
 use Rattle.questions.specs.declared.Calm.the-variants.{Is as CalmIs}
@@ -26,25 +24,21 @@ use Rattle.simulator.proofs.CallsLaws.{counted}
 use Rattle.simulator.proofs.Kept.{roundTables-net}
 use Rattle.text.proofs.TextLaws.{ToCome, begun, put-piece}
 use Rattle.lines.specs.Lines.{roundLine, Puts}
-use Rattle.listing.specs.Listing.{fresh, ending, roundLines}
-use Rattle.listing.specs.Made.{RoundMade, calmOf}
+use Rattle.running.specs.Running.{ending, roundLines}
+use Rattle.running.specs.Made.{RoundMade, calmOf}
+
+-- Asked of a net, whether it is calm is answered.
+calm-net : (W : Tables) → netNumber W ≡ 0 → (q : Calm) → AsksCalm W q → calmOf q ≡ calm W
+calm-net W z q e =
+    let g = done (level (calm W) ∷ []) in
+    ap calmOf (calmGives-is q (CalmIs (calm W)) (e ∙ ap (λ (j : ℕ). cond (eqb j 0) g (declined (refusedBy j))) z))
 
 -- One round: the counts are those of the answer, and calm is asked of the tables that are left.
 module _ (T U : Tables) (net : netNumber T ≡ 0) where
-  -- A round of a net is not refused, so that the counts before it are not asked for.
-  round-counts : (a : Answer) (xs : List ℕ) → answerGives a ≡ giving (netNumber T) xs → (m k : Counts) → countsAfter a m ≡ countsAfter a k
-  round-counts (Done n) xs e m k = refl
-  round-counts (Refused x) xs e m k = absurd (done-declined xs x (sym (e ∙ ap (λ (j : ℕ). giving j xs) net)))
-
-  calm-net : (W : Tables) → netNumber W ≡ 0 → (q : Calm) → AsksCalm W q → calmOf q ≡ calm W
-  calm-net W z q e =
-      let g = done (level (calm W) ∷ []) in
-      ap calmOf (calmGives-is q (CalmIs (calm W)) (e ∙ ap (λ (j : ℕ). cond (eqb j 0) g (declined (refusedBy j))) z))
-
   pub rounded : (a : Answer) (m : Counts) (q : Calm) (b : Bool) → Rounds 0 T a (counted U (countsAfter a (T .counts)))
-      → m ≡ countsAfter a (fresh .counts) → AsksCalm (counted U m) q → b ≡ calmOf q → RoundMade T (counted U m) b
+      → m ≡ countsAfter a (T .counts) → AsksCalm (counted U m) q → b ≡ calmOf q → RoundMade T (counted U m) b
   rounded a m q b p d f g =
-      let made : counted U m ≡ roundTables T 0 = ap (counted U) (d ∙ round-counts a _ (p .0) (fresh .counts) (T .counts)) ∙ p .1 in
+      let made : counted U m ≡ roundTables T 0 = ap (counted U) d ∙ p .1 in
       let z : netNumber (counted U m) ≡ 0 = ap netNumber made ∙ roundTables-net T 0 net in
       record { tables = made; calmly = g ∙ calm-net (counted U m) z q f }
 
