@@ -6,15 +6,16 @@ use mathlib.Core.List.{List, [], _∷_}
 use Prim.Native.Nat.{ℕ, _≤_, _<_}
 use native.Mathlib.Omega.{arith}
 use lib.ListN.{length}
-use lib.Dec.{eqb, leb}
+use lib.Dec.{eqb, leb, ltb}
 use Rattle.lists.specs.Lists.{overlay, refusal, _if_}
 use Rattle.kinds.specs.Given.{Given, refusedBy, spoken}
 use Rattle.component.specs.declared.Verdict.{Verdict}
 use Rattle.component.specs.declared.Verdict.the-variants.{Accepted, Refused as Judged}
 use Rattle.component.specs.Record.{recordAt, recordCount}
-use Rattle.flatten.specs.Verdict.{sized, refused, verdict, verdictGives}
+use Rattle.flatten.specs.Verdict.{sized, refused, verdictGives}
 use Rattle.tables.specs.declared.Counts.{Counts}
-use Rattle.tables.specs.Tables.{Tables, fullSize}
+use Rattle.tables.specs.Tables.{Tables}
+use Rattle.load.specs.Load.{loadVerdict}
 use Rattle.net.specs.Net.{isNet}
 use Rattle.look.specs.declared.Looked.{Looked}
 use Rattle.look.specs.declared.Looked.the-variants.{Refused as NotShown}
@@ -23,7 +24,7 @@ use Rattle.words.specs.Words.{countsIn, valuesIn}
 use Rattle.words.specs.Said.{short}
 use Rattle.words.proofs.WordsLaws.{none-laid}
 use Rattle.host.specs.Host.{CallLooks, fewToLook, looked}
-use Rattle.host.proofs.NumbersLaws.{spokenOf, spoken-small, cond-small, by-verdict}
+use Rattle.host.proofs.NumbersLaws.{spokenOf, load-verdict-small, cond-small, by-verdict}
 
 -- The numbers past a load's own.
 look-number-small : (file : List ℕ) (T : Tables) (c : ℕ) → lookNumber (recordAt file) (recordCount file) T c ≤ 21
@@ -47,9 +48,7 @@ then-small Accepted k h l = by-test (eqb k 0)
 
 own-small : (file : List ℕ) (T : Tables) (ns wd : List ℕ) → spokenOf (loadsOwn file T ns wd) < 4294967296
 own-small file T ns wd =
-    cond-small (sized file) (cond (fullSize T && leb 256 (length ns) && leb 256 (length wd)) (verdict file) (refused 2 0)) (refused 1 0)
-    (cond-small (fullSize T && leb 256 (length ns) && leb 256 (length wd)) (verdict file) (refused 2 0) (spoken-small file (verdict file) refl) (omega arith))
-    (omega arith)
+    cond-small (sized file && (ltb (length ns) 256 || ltb (length wd) 256)) (refused 2 0) (loadVerdict file T) (omega arith) (load-verdict-small file T)
 
 verdict-small : (file : List ℕ) (T : Tables) (path ns wd : List ℕ) → spokenOf (lookVerdict file T path ns wd) < 4294967296
 unfolding lookVerdict
@@ -71,7 +70,7 @@ module _ (file path ws ns wd fs : List ℕ) (lent : Counts → Tables) where
   Promise T = Looks file T path
 
   unsized : (T : Tables) → sized file ≡ false → Looks file T path ns wd (NotShown (refusedBy 1)) ns wd
-  unfolding lookVerdict
+  unfolding lookVerdict loadVerdict
   unsized T h = rw h (refl, refl, refl)
 
   pub look-unsized : sized file ≡ false → CallLooks Promise few-looked ws ns ns wd wd fs fs lent 65536

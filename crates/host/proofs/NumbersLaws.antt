@@ -39,7 +39,7 @@ abbrev pub spokenOf : Verdict → ℕ
 spokenOf v = spoken (verdictGives v [])
 
 -- A load's number and position fit the answer.
-pub spoken-small : (file : List ℕ) (v : Verdict) → verdict file ≡ v → spokenOf v < 4294967296
+spoken-small : (file : List ℕ) (v : Verdict) → verdict file ≡ v → spokenOf v < 4294967296
 spoken-small file Accepted e = omega arith
 spoken-small file (Judged r) e = let b = verdict-bound file r e in omega arith
 
@@ -47,7 +47,7 @@ pub cond-small : (b : Bool) (x y : Verdict) → spokenOf x < 4294967296 → spok
 cond-small true x y h k = h
 cond-small false x y h k = k
 
-load-verdict-small : (file : List ℕ) (T : Tables) → spokenOf (loadVerdict file T) < 4294967296
+pub load-verdict-small : (file : List ℕ) (T : Tables) → spokenOf (loadVerdict file T) < 4294967296
 unfolding loadVerdict
 load-verdict-small file T =
     cond-small (sized file) (cond (fullSize T) (verdict file) (refused 2 0)) (refused 1 0)

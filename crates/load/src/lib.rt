@@ -60,8 +60,9 @@ fn fill(
     }
 }
 
-// The verdict of a load: check 1, check 2, then the checks 3 to 15; the lent index, of 82,432 words, is filled where it is accepted.
-fn judge_load(
+// The verdict of a load: check 1, check 2, then the checks 3 to 15; the lent index, of 82,432 words, is filled where it is accepted. `load`
+// calls it, and crate look, whose refusals begin with a load's.
+pub fn judge_load(
     file: &[u8],
     components: &[u64],
     inputs: &[u64],

@@ -1,16 +1,14 @@
 -- The ways out of a look: a load's own refusals; 16, 20 and 21; and what is shown.
 -- Assumes nothing.
 use mathlib.Core.Path.{_≡_, refl, sym, ap, _∙_}
-use mathlib.Core.Logic.{⊎-elim}
 use Prim.Native.Nat.{ℕ, _<_, _≤_}
 use native.Mathlib.Omega.{arith}
-use mathlib.Core.Bool.{Bool, true, false, cond, not, _&&_, _||_}
+use mathlib.Core.Bool.{Bool, true, false, cond, not, _&&_, _||_, false≢true}
 use mathlib.Core.List.{List, [], _∷_, map}
 use lib.ListN.{length}
 use lib.Dec.{leb, ltb}
-use borrow.Author.Tests.{ne-eqb, le-leb, lt-leb, leb-true, ltb-true, ltb-false}
+use borrow.Author.Tests.{ne-eqb, le-leb, lt-leb, ltb-false}
 use Rattle.lists.specs.Lists.{overlay, refusal, _if_}
-use Rattle.lists.proofs.TestsLaws.{or-left, or-right, or-cases}
 use Rattle.value.specs.declared.Value.{Value}
 use Rattle.kinds.specs.declared.answers.Refusal.{Refusal}
 use Rattle.kinds.specs.Given.{refusedBy}
@@ -19,54 +17,23 @@ use Rattle.component.specs.declared.Verdict.{Verdict}
 use Rattle.component.specs.declared.Verdict.the-variants.{Accepted, Refused}
 use Rattle.component.specs.Record.{recordAt, recordCount, inputsOf, outputsOf}
 use Rattle.flatten.specs.Verdict.{sized, refused, verdict}
-use Rattle.flatten.proofs.Accepted.{refused-not}
-use Rattle.tables.specs.declared.Counts.{Counts}
-use Rattle.tables.specs.Tables.{Tables, tablesOf, fullSize}
+use Rattle.flatten.proofs.Accepted.{refused-not, accepted-sized}
+use Rattle.load.specs.Load.{loadVerdict}
+use Rattle.load.proofs.LoadLaws.{load-passed}
+use Rattle.tables.specs.Tables.{Tables, fullSize}
 use Rattle.net.specs.Net.{isNet, netNumber}
 use Rattle.net.specs.Parts.{lent}
 use Rattle.look.specs.declared.Looked.the-variants.{Shown, Refused as NotShown}
 use Rattle.look.specs.Look.{matched, dangling, shown, lookNumber, loadsOwn, lookedAt, lookVerdict, Looks}
 use Rattle.look.specs.Looking.{ported}
 
--- The lists for the answer are long enough, or one of them is not.
-lists-short : (a b : ℕ) (full : Bool) → (ltb a 256 || ltb b 256) ≡ true → (full && leb 256 a && leb 256 b) ≡ false
-lists-short a b full e =
-    ⊎-elim (λ u. by-first full (lt-leb 256 a (ltb-true a 256 u))) (λ u. by-second (full && leb 256 a) (lt-leb 256 b (ltb-true b 256 u)))
-    (or-cases (ltb a 256) (ltb b 256) e)
-  where
-    by-first : (c : Bool) → leb 256 a ≡ false → (c && leb 256 a && leb 256 b) ≡ false
-    by-first true h = rw h
-    by-first false h = refl
+-- A load's own verdict, b saying whether the file has a size that check 1 passes: a list is too short; or the load's.
+module _ (s : List ℕ) (T : Tables) (ns wd : List ℕ) (b : Bool) (e : b ≡ sized s) where
+  pub own-lists : (b && (ltb (length ns) 256 || ltb (length wd) 256)) ≡ true → (r : Refusal) → r ≡ refusedBy 2 → Refused r ≡ loadsOwn s T ns wd
+  own-lists h r d = rw (← e, h, d)
 
-    by-second : (c : Bool) → leb 256 b ≡ false → (c && leb 256 b) ≡ false
-    by-second true h = h
-    by-second false h = refl
-
-lists-long : (a b : ℕ) → (ltb a 256 || ltb b 256) ≡ false → (256 ≤ a) × (256 ≤ b)
-lists-long a b e = (ltb-false a 256 (or-left _ _ e), ltb-false b 256 (or-right (ltb a 256) _ e))
-
--- A load's own refusals, whatever the counts: 1; 2, for a table; 2, for a list; and 0 or 3 to 15.
-module _ (s cs is os ws cur fol std ns wd : List ℕ) where
-  abbrev handed : Counts → Tables
-  handed = tablesOf cs is os ws cur fol std
-
-  pub own-unsized : sized s ≡ false → (r : Refusal) → r ≡ refusedBy 1 → (m : Counts) → Refused r ≡ loadsOwn s (handed m) ns wd
-  own-unsized e r d m = rw (e, d)
-
-  module _ (sz : sized s ≡ true) where
-    pub own-short : ((m : Counts) → fullSize (handed m) ≡ false) → (r : Refusal) → r ≡ refusedBy 2 → (m : Counts)
-        → Refused r ≡ loadsOwn s (handed m) ns wd
-    own-short e r d m = rw (sz, e m, d)
-
-    pub own-lists : (ltb (length ns) 256 || ltb (length wd) 256) ≡ true → (r : Refusal) → r ≡ refusedBy 2 → (m : Counts)
-        → Refused r ≡ loadsOwn s (handed m) ns wd
-    own-lists e r d m = rw (sz, lists-short (length ns) (length wd) (fullSize (handed m)) e, d)
-
-    pub own-file : ((m : Counts) → fullSize (handed m) ≡ true) → (ltb (length ns) 256 || ltb (length wd) 256) ≡ false → (v : Verdict) → v ≡ verdict s
-        → (m : Counts) → v ≡ loadsOwn s (handed m) ns wd
-    own-file full e v d m =
-        let long = lists-long (length ns) (length wd) e in
-        rw (sz, full m, le-leb 256 (length ns) (long .0), le-leb 256 (length wd) (long .1), d)
+  pub own-load : (b && (ltb (length ns) 256 || ltb (length wd) 256)) ≡ false → (v : Verdict) → v ≡ loadVerdict s T → v ≡ loadsOwn s T ns wd
+  own-load h v d = rw (← e, h, d)
 
 -- What was passed where none of them refuses.
 pub record OwnPassed (s : List ℕ) (T : Tables) (ns wd : List ℕ) : Type 0 where
@@ -76,16 +43,16 @@ pub record OwnPassed (s : List ℕ) (T : Tables) (ns wd : List ℕ) : Type 0 whe
   pub widths-long : 256 ≤ length wd
 
 pub own-passed : (s : List ℕ) (T : Tables) (ns wd : List ℕ) → loadsOwn s T ns wd ≡ Accepted → OwnPassed s T ns wd
-own-passed s T ns wd e = by-tests (sized s) (fullSize T) (leb 256 (length ns)) (leb 256 (length wd)) refl refl refl e
+own-passed s T ns wd e = by-size (sized s) refl (ltb (length ns) 256) (ltb (length wd) 256) refl refl e
   where
-    by-tests : (a b c d : Bool) → fullSize T ≡ b → leb 256 (length ns) ≡ c → leb 256 (length wd) ≡ d
-        → cond a (cond (b && c && d) (verdict s) (refused 2 0)) (refused 1 0) ≡ Accepted → OwnPassed s T ns wd
-    by-tests false b c d x y z u = absurd (refused-not 1 0 u)
-    by-tests true false c d x y z u = absurd (refused-not 2 0 u)
-    by-tests true true false d x y z u = absurd (refused-not 2 0 u)
-    by-tests true true true false x y z u = absurd (refused-not 2 0 u)
-    by-tests true true true true x y z u =
-        record { judged = u; full = x; numbers-long = leb-true 256 (length ns) y; widths-long = leb-true 256 (length wd) z }
+    by-size : (a : Bool) → sized s ≡ a → (b c : Bool) → ltb (length ns) 256 ≡ b → ltb (length wd) 256 ≡ c
+        → cond (a && (b || c)) (refused 2 0) (loadVerdict s T) ≡ Accepted → OwnPassed s T ns wd
+    by-size false z b c x y u = absurd (false≢true (sym z ∙ accepted-sized s (load-passed s T u .judged)))
+    by-size true z true c x y u = absurd (refused-not 2 0 u)
+    by-size true z false true x y u = absurd (refused-not 2 0 u)
+    by-size true z false false x y u =
+        let p = load-passed s T u in
+        record { judged = p .judged; full = p .full; numbers-long = ltb-false (length ns) 256 x; widths-long = ltb-false (length wd) 256 y }
 
 -- 16, 20 and 21, of tables of full size.
 module _ (at : ℕ → Record) (n : ℕ) (T : Tables) (c : ℕ) (full : fullSize T ≡ true) (k : ℕ) (e : k ≡ netNumber T) where

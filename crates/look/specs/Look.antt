@@ -5,7 +5,7 @@ use Prim.Native.Nat.{ℕ, _-_, _*_}
 use mathlib.Core.Bool.{Bool, true, false, cond, not, _&&_, _||_}
 use mathlib.Core.List.{List, [], _∷_, _++_, map, foldl}
 use lib.ListN.{length, getD, take}
-use lib.Dec.{eqb, leb}
+use lib.Dec.{eqb, leb, ltb}
 use Rattle.lists.specs.Lists.{from, keep, any, joined, overlay, refusal, _if_}
 use Rattle.value.specs.declared.Value.{Value}
 use Rattle.kinds.specs.Given.{Given, done, declined, refusedBy}
@@ -16,9 +16,10 @@ use Rattle.component.specs.Record.{recordAt, recordCount, inputsOf, outputsOf, 
 use Rattle.component.specs.Drawing.{deepest}
 use Rattle.flatten.specs.declared.Pin.{Pin}
 use Rattle.flatten.specs.Descent.{pin, outputBelow, inputsBelow, flat}
-use Rattle.flatten.specs.Verdict.{sized, refused, verdict, verdictGives}
-use Rattle.tables.specs.Tables.{Tables, fullSize, wireWords}
+use Rattle.flatten.specs.Verdict.{sized, refused, verdictGives}
+use Rattle.tables.specs.Tables.{Tables, wireWords}
 use Rattle.laying.specs.Laid.{primitives, primitiveWords, flatWires}
+use Rattle.load.specs.Load.{loadVerdict}
 use Rattle.net.specs.Net.{isNet}
 use Rattle.questions.specs.declared.Side.{Side}
 use Rattle.questions.specs.declared.Side.the-variants.{Inputs, Outputs}
@@ -93,10 +94,9 @@ andThen Accepted k = cond (eqb k 0) Accepted (Refused (refusedBy k))
 abbrev pub lookedAt : List ℕ → List ℕ → ℕ
 lookedAt file path = placeOf (recordAt file) (recordCount file) path
 
--- "a load's own" refusals: 1; 2, also where a list that is lent for numbers or widths is shorter than 256; 3 to 15.
+-- "a load's own" verdict; 2 also where a list that is lent for numbers or for widths is shorter than 256.
 abbrev pub loadsOwn : List ℕ → Tables → List ℕ → List ℕ → Verdict
-loadsOwn file T ns ws =
-    cond (sized file) (cond (fullSize T && leb 256 (length ns) && leb 256 (length ws)) (verdict file) (refused 2 0)) (refused 1 0)
+loadsOwn file T ns ws = cond (sized file && (ltb (length ns) 256 || ltb (length ws) 256)) (refused 2 0) (loadVerdict file T)
 
 -- The verdict of a look, of any file at any tables, path and lists.
 unfoldable pub lookVerdict : List ℕ → Tables → List ℕ → List ℕ → List ℕ → Verdict

@@ -20,8 +20,8 @@ use tables::Counts;
 // Full size of the lists for the answer.
 const PORTS: usize = 256;
 
-// What is judged before the tables are looked into: check 1; check 2, with the two lists; the checks 3 to 15. The lent index, of 82,432
-// words, is filled where the file is accepted.
+// What is judged before the tables are looked into: a load's own verdict, and 2 for a short list. The lent index, of 82,432 words, is filled where
+// the file is accepted.
 fn judge_look(
     file: &[u8],
     components: &[u64],
@@ -41,10 +41,11 @@ fn judge_look(
         (now (following .entry)) (now (standing .entry)) m) (now (numbers .entry)) (now (widths .entry))) ⌝ }
     ensures { λ r. ⌜ (r ≡ Accepted → IsIndex (now (file .entry)) (now (index .exit))) ⌝ }
 {
-    if !flatten::is_sized(file) {
-        return Verdict::Refused(refused_by(1));
+    if flatten::is_sized(file) & ((numbers.len() < PORTS) | (widths.len() < PORTS)) {
+        return Verdict::Refused(refused_by(2));
     }
-    if !tables::full_size(
+    load::judge_load(
+        file,
         components,
         inputs,
         outputs,
@@ -52,13 +53,8 @@ fn judge_look(
         current,
         following,
         standing,
-    ) {
-        return Verdict::Refused(refused_by(2));
-    }
-    if (numbers.len() < PORTS) | (widths.len() < PORTS) {
-        return Verdict::Refused(refused_by(2));
-    }
-    flatten::judge_indexed(file, index)
+        index,
+    )
 }
 
 // What is checked after a load's own refusals: 16; 20, file and tables do not match, or no such path; 21, nothing behind some input.

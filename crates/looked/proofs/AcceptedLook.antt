@@ -6,9 +6,9 @@ use mathlib.Core.Logic.{_⊎_, inl, inr, ⊎-elim}
 use Prim.Native.Nat.{ℕ, _-_, _<_}
 use native.Mathlib.Nat.{zero-add}
 use native.Mathlib.Omega.{arith}
-use mathlib.Core.Bool.{Bool, true, false, cond, not, _&&_, _||_, and-true}
+use mathlib.Core.Bool.{Bool, true, false, cond, not, _&&_, _||_}
 use mathlib.Core.List.{List, [], _∷_, foldl}
-use borrow.Author.Tests.{eqb-true, le-leb, leb-false, not-false}
+use borrow.Author.Tests.{eqb-true, leb-false, le-ltb, not-false}
 use lib.ListN.{length}
 use lib.Dec.{eqb, leb}
 use Rattle.lists.specs.Lists.{from, keep, _if_}
@@ -22,21 +22,26 @@ use Rattle.component.specs.declared.Verdict.the-variants.{Accepted, Refused}
 use Rattle.component.specs.Record.{recordAt, recordCount, ownedAs}
 use Rattle.component.specs.Reading.{formOf, ownerOf, idOf}
 use Rattle.component.specs.Drawing.{deepest}
-use Rattle.flatten.specs.Verdict.{sized, refused, verdict}
+use Rattle.flatten.specs.Verdict.{sized, refused}
 use Rattle.flatten.proofs.Accepted.{Passed, refused-not, accepted-passed}
 use Rattle.flatten.proofs.DescentLeads.{source-sound}
-use Rattle.tables.specs.Tables.{Tables, fullSize}
+use Rattle.tables.specs.Tables.{Tables}
 use Rattle.load.specs.Load.{loadVerdict}
 use Rattle.net.specs.Net.{isNet}
 use Rattle.look.specs.Look.{childNamed, placeOf, matched, dangling, lookNumber, andThen, lookedAt, loadsOwn, lookVerdict}
+use Rattle.look.proofs.LookLaws.{own-passed}
 use Rattle.looked.specs.Owed.{LookAsLoad, LookAccepted}
 use Rattle.looked.proofs.Shows.{no-open-input}
 
 pub look-as-load : LookAsLoad
-unfolding lookVerdict loadVerdict
+unfolding lookVerdict
 look-as-load file T path ns ws h k r e =
-    let own : loadsOwn file T ns ws ≡ Refused r = rw (le-leb 256 (length ns) h, le-leb 256 (length ws) k, and-true (fullSize T), and-true (fullSize T)) e in
+    let own : loadsOwn file T ns ws ≡ Refused r = rw (le-ltb (length ns) 256 h, le-ltb (length ws) 256 k) (by-size (sized file)) in
     ap (λ (v : Verdict). andThen v (lookNumber (recordAt file) (recordCount file) T (lookedAt file path))) own
+  where
+    by-size : (b : Bool) → cond (b && false) (refused 2 0) (loadVerdict file T) ≡ Refused r
+    by-size true = e
+    by-size false = e
 
 -- Accepted after both: each has passed.
 andThen-passed : (v : Verdict) (k : ℕ) → andThen v k ≡ Accepted → (v ≡ Accepted) × (k ≡ 0)
@@ -46,14 +51,6 @@ andThen-passed Accepted k e = by-number (eqb k 0) refl e
     by-number : (b : Bool) → eqb k 0 ≡ b → cond b Accepted (Refused (refusedBy k)) ≡ Accepted → (Accepted ≡ Accepted) × (k ≡ 0)
     by-number true z e = (refl, eqb-true k 0 z)
     by-number false z e = absurd (refused-not k 0 e)
-
-loadsOwn-passed : (file : List ℕ) (T : Tables) (ns ws : List ℕ) → loadsOwn file T ns ws ≡ Accepted → verdict file ≡ Accepted
-loadsOwn-passed file T ns ws e = by-sizes (sized file) (fullSize T && leb 256 (length ns) && leb 256 (length ws)) e
-  where
-    by-sizes : (b c : Bool) → cond b (cond c (verdict file) (refused 2 0)) (refused 1 0) ≡ Accepted → verdict file ≡ Accepted
-    by-sizes true true e = e
-    by-sizes true false e = absurd (refused-not 2 0 e)
-    by-sizes false c e = absurd (refused-not 1 0 e)
 
 module _ (at : ℕ → Record) (n : ℕ) where
   -- What a path names below a component is a component, or nothing.
@@ -96,7 +93,7 @@ look-accepted file T path ns ws e =
     let n = recordCount file in
     let c = lookedAt file path in
     let passed = andThen-passed (loadsOwn file T ns ws) (lookNumber at n T c) e in
-    let d = accepted-passed file (loadsOwn-passed file T ns ws (passed .0)) in
+    let d = accepted-passed file (own-passed file T ns ws (passed .0) .judged) in
     let found = lookNumber-passed at n T c (passed .1) in (
       place-component at n d path (found .0),
       no-open-input at n d c (found .1),

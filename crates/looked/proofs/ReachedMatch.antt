@@ -5,7 +5,7 @@ use mathlib.Core.Path.{_≡_, refl, sym, ap, _∙_}
 use Prim.Native.Nat.{ℕ, _*_}
 use mathlib.Core.Bool.{true}
 use mathlib.Core.List.{List, [], _∷_}
-use borrow.Author.Tests.{eq-eqb, le-leb}
+use borrow.Author.Tests.{eq-eqb, le-ltb}
 use lib.ListN.{length, take}
 use Rattle.lists.specs.Lists.{joined, overlay}
 use Rattle.lists.proofs.OverlayLaws.{overlay-front, joined-width}
@@ -60,7 +60,7 @@ module _ (file : List ℕ) (T₀ : Tables) (a : loadVerdict file T₀ ≡ Accept
       )
 
 pub look-reached : LookReached
-unfolding lookVerdict lookNumber
+unfolding lookVerdict lookNumber loadVerdict
 look-reached file ran t T r =
     let kept = reached-kept file (load-fresh file) r in
     let o = kept .0 in
@@ -71,9 +71,9 @@ look-reached file ran t T r =
       λ path ns ws h k.
           rw (
             accepted-sized file judged,
+            le-ltb (length ns) 256 h,
+            le-ltb (length ws) 256 k,
             netNumber-full T z,
-            le-leb 256 (length ns) h,
-            le-leb 256 (length ws) k,
             judged,
             netNumber-isNet T z,
             m,
