@@ -19,7 +19,8 @@ use Rattle.load.specs.Load.{loadVerdict}
 use Rattle.net.specs.Net.{isNet}
 use Rattle.look.specs.declared.Looked.{Looked}
 use Rattle.look.specs.declared.Looked.the-variants.{Refused as NotShown}
-use Rattle.look.specs.Look.{matched, dangling, lookNumber, andThen, loadsOwn, lookedAt, lookVerdict, lookGives, Looks}
+use Rattle.boxes.specs.Boxes.{matched, dangling}
+use Rattle.look.specs.Look.{lookNumber, andThen, loadsOwn, lookedAt, lookVerdict, lookGives, Looks}
 use Rattle.words.specs.Words.{countsIn, valuesIn}
 use Rattle.words.specs.Said.{short}
 use Rattle.words.proofs.WordsLaws.{none-laid}

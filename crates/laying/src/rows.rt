@@ -74,7 +74,7 @@ fn lay_component(components: &mut [u64], drawn: Drawn, before: Before) -> Before
     }
 }
 
-// Lays the entries of all primitives, in file order. The answer is how many there are, and their inputs and outputs. Crates load and look call it for an
+// Lays the entries of all primitives, in file order. The answer is how many there are, and their inputs and outputs. Crates load and boxes call it for an
 // accepted file, with a table of full size.
 pub fn lay_components(file: &[u8], components: &mut [u64]) -> Before
     requires { ⌜ (verdict (now file) ≡ Accepted) × (2048 ≤ length (now components)) ⌝ }

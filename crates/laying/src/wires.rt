@@ -124,7 +124,7 @@ fn connect_all(file: &[u8], index: &[u16], indexes: &[u16], wires: &mut [u16]) -
     at
 }
 
-// Lays the wires of an accepted drawing, with its index filled. The answer is how many there are. Crates load and look call it with a table of full size.
+// Lays the wires of an accepted drawing, with its index filled. The answer is how many there are. Crates load and boxes call it with a table of full size.
 pub fn lay_wires(file: &[u8], index: &[u16], wires: &mut [u16]) -> usize
     requires { ⌜ (verdict (now file) ≡ Accepted) × IsIndex (now file) (now index) × (4096 ≤ length (now wires)) ⌝ }
     ensures { λ r. ⌜ now (wires .exit) ≡ overlay (joined wireWords (flatWires (recordAt (now (file .entry))) (recordCount (now (file .entry)))))

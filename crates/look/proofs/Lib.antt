@@ -1,5 +1,3 @@
-pub mod PathLaws
-pub mod MatchLaws
 pub mod RowsLaws
 pub mod FewPorts
 pub mod ShowLaws

@@ -24,7 +24,8 @@ use Rattle.tables.specs.Tables.{Tables, fullSize}
 use Rattle.net.specs.Net.{isNet, netNumber}
 use Rattle.net.specs.Parts.{lent}
 use Rattle.look.specs.declared.Looked.the-variants.{Shown, Refused as NotShown}
-use Rattle.look.specs.Look.{matched, dangling, shown, lookNumber, loadsOwn, lookedAt, lookVerdict, Looks}
+use Rattle.boxes.specs.Boxes.{matched, dangling}
+use Rattle.look.specs.Look.{shown, lookNumber, loadsOwn, lookedAt, lookVerdict, Looks}
 use Rattle.look.specs.Looking.{ported}
 
 -- A load's own verdict, b saying whether the file has a size that check 1 passes: a list is too short; or the load's.

@@ -23,9 +23,9 @@ use Rattle.net.proofs.NetLaws.{netNumber-sizes}
 use Rattle.rounds.proofs.Sound.{net-within}
 use Rattle.loaded.proofs.Entries.{loaded-fields}
 use Rattle.questions.proofs.QuestionsLaws.{net-row}
-use Rattle.look.specs.Look.{matched}
+use Rattle.boxes.specs.Boxes.{matched}
 use Rattle.look.specs.Looking.{RowsHeld}
-use Rattle.look.proofs.MatchLaws.{same-sound}
+use Rattle.boxes.proofs.MatchLaws.{same-sound}
 
 -- A table whose front is a list is that list laid over it.
 front-overlay : (xs t : List ℕ) (k : ℕ) → k ≤ length t → take k t ≡ xs → t ≡ overlay xs t

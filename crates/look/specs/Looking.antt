@@ -1,17 +1,15 @@
 -- What the functions of src/ are handed and find on their way. Nobody has to believe anything here: each word only shortens what a definition
 -- of specs/Look.antt says.
---   named at c id q        the record at q is a child of component c that has the id
 --   RowsHeld at n cs is os the entry of each primitive of the drawing has its fields, and its ports stand in their tables
 --   valueShown, numbersOn, widthsOn   what a port shows, and a side, of the tables of components and ports
 -- Assumes nothing.
 use mathlib.Core.Path.{_≡_}
 use Prim.Native.Nat.{ℕ}
-use mathlib.Core.Bool.{Bool, true, _&&_}
+use mathlib.Core.Bool.{true}
 use mathlib.Core.List.{List, [], map}
-use lib.Dec.{eqb}
 use Rattle.value.specs.declared.Value.{Value}
 use Rattle.component.specs.declared.Record.{Record}
-use Rattle.component.specs.Record.{fieldsOf, isPrimitive, ownedAs}
+use Rattle.component.specs.Record.{fieldsOf, isPrimitive}
 use Rattle.flatten.specs.Descent.{flat}
 use Rattle.tables.specs.Tables.{Tables}
 use Rattle.tables.specs.Words.{noCounts, fieldsIn}
@@ -19,10 +17,8 @@ use Rattle.net.specs.Parts.{lent}
 use Rattle.questions.specs.declared.Side.{Side}
 use Rattle.questions.specs.Questions.{valueAt}
 use Rattle.questions.specs.Asked.{RowRight}
-use Rattle.look.specs.Look.{portShown, shownOn}
-
-abbrev pub named : (ℕ → Record) → ℕ → ℕ → ℕ → Bool
-named at c id q = ownedAs 1 c (at q) && eqb (at q .id) id
+use Rattle.boxes.specs.Boxes.{portShown}
+use Rattle.look.specs.Look.{shownOn}
 
 pub record RowsHeld (at : ℕ → Record) (n : ℕ) (cs is os : List ℕ) : Type 0 where
   pub row : (c : ℕ) → isPrimitive (at c) ≡ true → RowRight cs is os (flat at n c)

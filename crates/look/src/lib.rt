@@ -1,8 +1,6 @@
 // Looking at a box: the port values of a composite, named by the path of ids below the root. Rule: docs/SPECIFICATION.md, "Looking at a box".
 // Source: flatten.rs, `get_status`. A look changes no table.
 mod looking;
-mod matching;
-mod path;
 mod showing;
 
 use kinds::Refusal;

@@ -28,7 +28,8 @@ use Rattle.flatten.proofs.DescentLeads.{source-sound}
 use Rattle.tables.specs.Tables.{Tables}
 use Rattle.load.specs.Load.{loadVerdict}
 use Rattle.net.specs.Net.{isNet}
-use Rattle.look.specs.Look.{childNamed, placeOf, matched, dangling, lookNumber, andThen, lookedAt, loadsOwn, lookVerdict}
+use Rattle.boxes.specs.Boxes.{childNamed, placeOf, matched, dangling}
+use Rattle.look.specs.Look.{lookNumber, andThen, lookedAt, loadsOwn, lookVerdict}
 use Rattle.look.proofs.LookLaws.{own-passed}
 use Rattle.looked.specs.Owed.{LookAsLoad, LookAccepted}
 use Rattle.looked.proofs.Shows.{no-open-input}

@@ -19,7 +19,8 @@ use Rattle.load.specs.Load.{drawingTables, loadVerdict, loadTables}
 use Rattle.net.specs.Net.{countsWithin, kindsObeyed, idsDistinct, portsFollow, valuesFit, constsHeld, wiresFit, inputsOnce, names, isNet, netNumber}
 use Rattle.rounds.specs.Round.{leave, evaluated, send, visit, round, portSet, editedState, roundOf}
 use Rattle.simulator.specs.Calls.{roundTables, editNumber, editTables}
-use Rattle.look.specs.Look.{matched, dangling, shown, lookNumber, lookVerdict, lookedAt, valuesShown, listBy}
+use Rattle.boxes.specs.Boxes.{matched, dangling}
+use Rattle.look.specs.Look.{shown, lookNumber, lookVerdict, lookedAt, valuesShown, listBy}
 use Rattle.demands.proofs.Lamp.{lampLoaded, lampSet}
 use Rattle.looked.proofs.Boxes.{boxed, boxedOnce, withInputs}
 

@@ -20,7 +20,7 @@ use Rattle.flatten.specs.Leads.{Into}
 use Rattle.flatten.specs.Leads as into
 use Rattle.flatten.proofs.Accepted.{Passed}
 use Rattle.flatten.proofs.DescentLeads.{deeper-child, into-component, targets-sound, targets-complete}
-use Rattle.look.specs.Look.{lastOf}
+use Rattle.boxes.specs.Boxes.{lastOf}
 use Rattle.looked.specs.Owed.{Last, ends, maps}
 
 -- The last of two lists one after the other is the last of the second, or else of the first.

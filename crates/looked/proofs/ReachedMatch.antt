@@ -22,7 +22,8 @@ use Rattle.loaded.proofs.LoadNet.{load-loaded}
 use Rattle.net.proofs.NetLaws.{netNumber-full, netNumber-isNet}
 use Rattle.demands.proofs.Called.{reached-kept}
 use Rattle.demands.proofs.Demand3.{load-fresh}
-use Rattle.look.specs.Look.{same, matched, lookNumber, lookVerdict}
+use Rattle.boxes.specs.Boxes.{same, matched}
+use Rattle.look.specs.Look.{lookNumber, lookVerdict}
 use Rattle.looked.specs.Owed.{LookReached}
 
 same-itself : (xs : List ℕ) → same xs xs ≡ true

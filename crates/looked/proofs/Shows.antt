@@ -19,7 +19,7 @@ use Rattle.component.specs.Drawing.{deepest}
 use Rattle.flatten.specs.Descent.{pin}
 use Rattle.flatten.proofs.Accepted.{Passed, accepted-passed}
 use Rattle.flatten.proofs.DescentLeads.{targets-complete, source-complete}
-use Rattle.look.specs.Look.{behind, dangling}
+use Rattle.boxes.specs.Boxes.{behind, dangling}
 use Rattle.looked.specs.Owed.{InputsShown, OutputsShown, OpenInput, NoOpenInput, LookShows}
 use Rattle.looked.proofs.LastLaws.{last-into, last-unique, last-sound}
 

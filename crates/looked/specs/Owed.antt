@@ -25,7 +25,8 @@ use Rattle.flatten.specs.Verdict.{verdict}
 use Rattle.tables.specs.Tables.{Tables}
 use Rattle.load.specs.Load.{loadVerdict}
 use Rattle.questions.specs.declared.Side.the-variants.{Inputs, Outputs}
-use Rattle.look.specs.Look.{matched, dangling, portShown, andThen, lookedAt, lookVerdict}
+use Rattle.boxes.specs.Boxes.{matched, dangling, portShown}
+use Rattle.look.specs.Look.{andThen, lookedAt, lookVerdict}
 use Rattle.demands.specs.Reached.{Reached}
 
 -- "the primitive input that its maps reach last": a primitive's own input; else what the last of the maps that reach any reaches last.

@@ -9,7 +9,7 @@ use lib.Seq.{sets}
 use Rattle.lists.specs.Lists.{from}
 use Rattle.value.specs.declared.Value.{Value}
 use Rattle.component.specs.Record.{recordAt, recordCount}
-use Rattle.look.specs.Look.{portsOn}
+use Rattle.boxes.specs.Boxes.{portsOn}
 use Rattle.look.specs.Looking.{ported, valueShown}
 use Rattle.look.proofs.ShowLaws.{shown-step}
 use borrow.Author.Needs.{needs}

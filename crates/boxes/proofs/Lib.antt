@@ -1,0 +1,3 @@
+pub mod PathLaws
+pub mod MatchLaws
+pub mod BehindLaws
