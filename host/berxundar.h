@@ -125,7 +125,8 @@ enum {
     BERXUNDAR_BAD_OWNER = 5, BERXUNDAR_TOO_MANY = 6, BERXUNDAR_KEPT_KIND = 7, BERXUNDAR_UNKNOWN_KIND = 8, BERXUNDAR_BAD_FIELDS = 9,
     BERXUNDAR_SAME_ID = 10, BERXUNDAR_TOO_MANY_PORTS = 11, BERXUNDAR_NO_CHILD = 12, BERXUNDAR_ENTERED_TWICE = 13,
     BERXUNDAR_OUTPUT_MAPS = 14, BERXUNDAR_WIDTHS_DIFFER = 15, BERXUNDAR_NO_NET = 16, BERXUNDAR_NOT_FOUND = 17,
-    BERXUNDAR_NOT_SETTABLE = 18, BERXUNDAR_NO_FIT = 19, BERXUNDAR_NO_PATH = 20, BERXUNDAR_NOTHING_BEHIND = 21
+    BERXUNDAR_NOT_SETTABLE = 18, BERXUNDAR_NO_FIT = 19, BERXUNDAR_NO_PATH = 20, BERXUNDAR_NOTHING_BEHIND = 21,
+    BERXUNDAR_WIRE_AND_MAP = 22, BERXUNDAR_TWO_MAPS = 23
 };
 
 /* The number of an answer. */
@@ -163,17 +164,33 @@ static inline const char *berxundar_words(uint32_t answer_or_number)
     case BERXUNDAR_NO_FIT: return "the value has another width than its port, or is too large for it";
     case BERXUNDAR_NO_PATH: return "the path leads to no component, or the file is not the one that the tables were loaded from";
     case BERXUNDAR_NOTHING_BEHIND: return "an input of the composite leads to no component inside it, so it has no value";
+    case BERXUNDAR_WIRE_AND_MAP: return "the input map enters an input that a connection has entered";
+    case BERXUNDAR_TWO_MAPS: return "the input map enters an input that an earlier input map has entered";
     default: return "this is no number of the engine";
     }
 }
 
-/* ---- The thirteen calls, with every pointer and its length in entries of the pointer's type. What is marked `const` is only
+/* ---- The fourteen calls, with every pointer and its length in entries of the pointer's type. What is marked `const` is only
  * read; the numbers behind a colon are those of the refusals that a call can give. ---- */
 
-/* Judges the bytes of a file as a load would, without tables: 1, 3 to 15. */
+/* Judges the bytes of a file as a load would, without tables: 1, 3 to 15. Two records that enter one input are 13 here, whatever
+ * they are. */
 uint32_t berxundar_judge(const uint8_t *bytes, size_t length);
 
-/* Loads a file into the tables: 1 to 15. What the tables and the counts held before does not matter. */
+/* Judges the bytes of a file, and says which two records meet: 1, 3 to 15, 22, 23. It answers number times 2^32 plus position times
+ * 65,536 plus the earlier record. Where the record at the position enters an input that the earlier record has entered, the number
+ * is 13 for two connections, 22 for a connection and an input map, 23 for two input maps; with every other number the earlier
+ * record is 0. The answer's upper 48 bits are what a load of the file answers, into tables of full size. */
+uint64_t berxundar_judge_pair(const uint8_t *bytes, size_t length);
+
+/* The earlier record of two that meet, of an answer that a load or a look on this file gave; 0 where its number tells of no two. */
+static inline unsigned berxundar_earlier(uint32_t answer, const uint8_t *bytes, size_t length)
+{
+    uint64_t pair = berxundar_judge_pair(bytes, length);
+    return pair >> 16 == answer ? (unsigned)(pair & 65535u) : 0;
+}
+
+/* Loads a file into the tables: 1 to 15, 22, 23. What the tables and the counts held before does not matter. */
 uint32_t berxundar_load(const uint8_t *bytes, size_t length,
     uint64_t *components, size_t components_length, uint64_t *inputs, size_t inputs_length, uint64_t *outputs,
     size_t outputs_length, uint16_t *wires, size_t wires_length, uint16_t *current, size_t current_length, uint16_t *following,
@@ -239,7 +256,7 @@ uint32_t berxundar_targets(
     const uint16_t *following, size_t following_length, const uint16_t *standing, size_t standing_length, const uint64_t *counts,
     size_t counts_length, size_t index, uint16_t *list, size_t list_length, uint64_t *found, size_t found_length);
 
-/* Looks at a component, a composite too: the number and the width in bits of each of its ports: 1 to 16, 20, 21. `file` is the
+/* Looks at a component, a composite too: the number and the width in bits of each of its ports: 1 to 16, 20 to 23. `file` is the
  * drawing that the tables were loaded from. `path` names the component by the ids on the way down to it, the root's own not among
  * them: a path of no ids is the root. The inputs come first, then the outputs; found[0] is how many inputs there are, found[1] how
  * many outputs. An output of a composite shows the output inside that its maps lead to; an input shows the input inside that its

@@ -1,7 +1,7 @@
 /*
- * explain NAME NUMBER POSITION <FILE: says on standard error, in words, why the drawing file on standard input, which goes by a
- * name, was refused with this number at this position. It judges nothing itself. Exit status: 0 said, 2 standard input cannot be
- * read or a word is none.
+ * explain NAME NUMBER POSITION [EARLIER] <FILE: says on standard error, in words, why the drawing file on standard input, which
+ * goes by a name, was refused with this number at this position, EARLIER being the earlier record of two that meet. It judges
+ * nothing itself. Exit status: 0 said, 2 standard input cannot be read or a word is none.
  */
 #include "file.h"
 #include "refusal.h"
@@ -22,14 +22,16 @@ static long number_of(const char *word)
 
 int main(int argc, char **argv)
 {
-    long number = argc == 4 ? number_of(argv[2]) : -1, position = argc == 4 ? number_of(argv[3]) : -1, length;
-    if (number < 0 || position < 0) {
-        fprintf(stderr, "usage: explain NAME NUMBER POSITION <FILE\n");
+    int words = argc == 4 || argc == 5;
+    long number = words ? number_of(argv[2]) : -1, position = words ? number_of(argv[3]) : -1;
+    long earlier = argc == 5 ? number_of(argv[4]) : 0, length;
+    if (number < 0 || position < 0 || earlier < 0) {
+        fprintf(stderr, "usage: explain NAME NUMBER POSITION [EARLIER] <FILE\n");
         return 2;
     }
     length = file_read("-", bytes);
     if (length < 0)
         return 2;
-    refusal_explain(stderr, argv[1], bytes, (size_t)length, (unsigned)number, (unsigned)position);
+    refusal_explain(stderr, argv[1], bytes, (size_t)length, (unsigned)number, (unsigned)position, (unsigned)earlier);
     return 0;
 }

@@ -1,7 +1,8 @@
 /*
- * judge FILE..: judges drawing files, and prints a line for each: `FILE: accepted` or `FILE: refused N at P`. Why a file is
- * refused, and what to do about it, goes to standard error. The file `-` is standard input. Exit status: 0 if all are accepted, 1
- * if one is refused, 2 if one cannot be read or none is named.
+ * judge FILE..: judges drawing files, and prints a line for each: `FILE: accepted`, or `FILE: refused N at P`, number and record;
+ * where two records meet, `FILE: refused N at P against E`, with the earlier record. Why a file is refused, and what to do about
+ * it, goes to standard error. The file `-` is standard input. Exit status: 0 if all are accepted, 1 if one is refused, 2 if one
+ * cannot be read or none is named.
  */
 #include "berxundar.h"
 #include "file.h"
@@ -15,17 +16,24 @@ static uint8_t bytes[FILE_ROOM];
 static int judge(const char *path)
 {
     long length = file_read(path, bytes);
-    uint32_t answer;
+    uint64_t answer;
+    unsigned number, position, earlier;
     if (length < 0)
         return 2;
-    answer = berxundar_judge(bytes, (size_t)length);
+    answer = berxundar_judge_pair(bytes, (size_t)length);
     if (answer == 0) {
         printf("%s: accepted\n", path);
         return 0;
     }
-    printf("%s: refused %u at %u\n", path, berxundar_number(answer), berxundar_position(answer));
+    number = (unsigned)(answer >> 32);
+    position = (unsigned)(answer >> 16 & 65535u);
+    earlier = (unsigned)(answer & 65535u);
+    printf("%s: refused %u at %u", path, number, position);
+    if (refusal_names_earlier(number))
+        printf(" against %u", earlier);
+    printf("\n");
     fflush(stdout);
-    refusal_explain(stderr, path, bytes, (size_t)length, berxundar_number(answer), berxundar_position(answer));
+    refusal_explain(stderr, path, bytes, (size_t)length, number, position, earlier);
     return 1;
 }
 

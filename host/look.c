@@ -144,7 +144,8 @@ int main(int argc, char **argv)
     length = (size_t)read;
     answer = berxundar_net_load(&net, bytes, length);
     if (answer != 0) {
-        refusal_explain(stderr, argv[1], bytes, length, berxundar_number(answer), berxundar_position(answer));
+        refusal_explain(stderr, argv[1], bytes, length, berxundar_number(answer), berxundar_position(answer),
+            berxundar_earlier(answer, bytes, length));
         return 1;
     }
     if (argc == 2)

@@ -66,19 +66,6 @@ static size_t owned(const drawing *of, unsigned form, size_t owner, size_t befor
     return seen;
 }
 
-/* The first record that enters the input which the record at a position enters. */
-static size_t entered_before(const drawing *of, size_t position)
-{
-    record r = record_at(of, position);
-    size_t at;
-    for (at = 0; at < position; at++) {
-        record other = record_at(of, at);
-        if ((other.form == CONNECTION || other.form == INPUT_MAP) && other.owner == r.owner && other.c == r.c && other.d == r.d)
-            return at;
-    }
-    return NOWHERE;
-}
-
 static size_t with_id(const drawing *of, unsigned long id, size_t before)
 {
     size_t at;
@@ -375,13 +362,10 @@ static void explain_ends(const drawing *of, record r)
         explain_child(of, r.owner, r.c, r.d, 0);
 }
 
-static void explain_entered(const drawing *of, size_t position)
+static void explain_entered(const drawing *of, size_t earlier)
 {
-    size_t other = entered_before(of, position);
-    if (other != NOWHERE) {
-        fprintf(of->to, "    entered before by\n");
-        say_record(of, other);
-    }
+    fprintf(of->to, "    entered before by\n");
+    say_record(of, earlier);
 }
 
 static void explain_maps(const drawing *of, size_t position, record r)
@@ -459,7 +443,7 @@ static void explain_behind(const drawing *of, size_t at)
     fprintf(of->to, "\n");
 }
 
-static void explain_in_particular(const drawing *of, unsigned number, size_t position)
+static void explain_in_particular(const drawing *of, unsigned number, size_t position, size_t earlier)
 {
     record r = record_at(of, position);
     switch (number) {
@@ -472,7 +456,9 @@ static void explain_in_particular(const drawing *of, unsigned number, size_t pos
     case BERXUNDAR_SAME_ID: explain_id(of, position, r); break;
     case BERXUNDAR_TOO_MANY_PORTS: explain_ports(of, position); break;
     case BERXUNDAR_NO_CHILD: explain_ends(of, r); break;
-    case BERXUNDAR_ENTERED_TWICE: explain_entered(of, position); break;
+    case BERXUNDAR_ENTERED_TWICE:
+    case BERXUNDAR_WIRE_AND_MAP:
+    case BERXUNDAR_TWO_MAPS: explain_entered(of, earlier); break;
     case BERXUNDAR_OUTPUT_MAPS: explain_maps(of, position, r); break;
     case BERXUNDAR_WIDTHS_DIFFER: explain_widths(of, r); break;
     default: break;
@@ -494,7 +480,9 @@ static const char *advice(unsigned number)
     case BERXUNDAR_SAME_ID: return "give one of the two another id";
     case BERXUNDAR_TOO_MANY_PORTS: return "draw with fewer components, or with fewer inputs and outputs";
     case BERXUNDAR_NO_CHILD: return "name a child and a port that are there, or remove the record";
-    case BERXUNDAR_ENTERED_TWICE: return "remove one of the two records, or lead one of them to another input";
+    case BERXUNDAR_ENTERED_TWICE: return "remove one of the two connections, or lead one of them to another input";
+    case BERXUNDAR_WIRE_AND_MAP: return "remove the connection or the input map, or lead one of them to another input";
+    case BERXUNDAR_TWO_MAPS: return "remove one of the two input maps, or lead one of them to another input";
     case BERXUNDAR_OUTPUT_MAPS: return "give the composite one output map for each of its outputs, in their order";
     case BERXUNDAR_WIDTHS_DIFFER: return "give both ends the same number of bits, or put a Splitter or a Joiner between them";
     case BERXUNDAR_NO_PATH: return "name the ids on the way down from the root, its own left out; ./berxundar look FILE has the boxes";
@@ -519,13 +507,22 @@ static drawing drawing_in(FILE *to, const uint8_t *bytes, size_t length)
     return of;
 }
 
-void refusal_explain(FILE *to, const char *name, const uint8_t *bytes, size_t length, unsigned number, unsigned position)
+int refusal_names_earlier(unsigned number)
+{
+    return number == BERXUNDAR_ENTERED_TWICE || number == BERXUNDAR_WIRE_AND_MAP || number == BERXUNDAR_TWO_MAPS;
+}
+
+void refusal_explain(FILE *to, const char *name, const uint8_t *bytes, size_t length, unsigned number, unsigned position,
+    unsigned earlier)
 {
     drawing of = drawing_in(to, bytes, length);
-    fprintf(to, "%s: refused %u at %u: %s\n", name, number, position, number < 65536 ? berxundar_words(number) : "no number");
-    if (BERXUNDAR_BAD_RECORD <= number && number <= BERXUNDAR_WIDTHS_DIFFER)
+    fprintf(to, "%s: refused %u at %u", name, number, position);
+    if (refusal_names_earlier(number))
+        fprintf(to, " against %u", earlier);
+    fprintf(to, ": %s\n", number < 65536 ? berxundar_words(number) : "no number");
+    if ((BERXUNDAR_BAD_RECORD <= number && number <= BERXUNDAR_WIDTHS_DIFFER) || refusal_names_earlier(number))
         say_record(&of, position);
-    explain_in_particular(&of, number, position);
+    explain_in_particular(&of, number, position, earlier);
     say_advice(to, number);
 }
 

@@ -11,10 +11,15 @@
 #include <stdio.h>
 
 /*
- * Writes several lines to a stream. `name` is what the file is called in them; `number` and `position` are those of the refusal.
- * Takes any bytes, any number and any position: a record that is not there, or a name that leads nowhere, is said to be so.
+ * Writes several lines to a stream. `name` is what the file is called in them; `number`, `position` and `earlier` are those of the
+ * refusal, `earlier` the earlier record of two that meet. Takes any bytes, any number and any position: a record that is not
+ * there, or a name that leads nowhere, is said to be so.
  */
-void refusal_explain(FILE *to, const char *name, const uint8_t *bytes, size_t length, unsigned number, unsigned position);
+void refusal_explain(FILE *to, const char *name, const uint8_t *bytes, size_t length, unsigned number, unsigned position,
+    unsigned earlier);
+
+/* Whether a number tells of two records that meet, and so names the earlier of them. */
+int refusal_names_earlier(unsigned number);
 
 /*
  * The same of a look along a path of ids, where it is refused at no record: 2, 16, 20, 21. Says how far the path leads, or which

@@ -161,7 +161,8 @@ static int work(const char *path, uint64_t time, char **settings, int count, int
         return 2;
     answer = berxundar_net_load(&net, bytes, (size_t)length);
     if (answer != 0) {
-        refusal_explain(stderr, path, bytes, (size_t)length, berxundar_number(answer), berxundar_position(answer));
+        refusal_explain(stderr, path, bytes, (size_t)length, berxundar_number(answer), berxundar_position(answer),
+            berxundar_earlier(answer, bytes, (size_t)length));
         return 1;
     }
     for (i = 0; i < count && !status; i++)

@@ -2,7 +2,8 @@
  * What the header says beside the calls' own rules: NULL with length 0 is an empty file and a table of no words, so that each
  * call answers as for any short table (2), a load and a look as for an empty file (1), and a component without ports is
  * evaluated; a net of zeros is one of no components, the net of a root alone, which is looked at along no path; a sentence
- * belongs to an answer and to its number. Leaves with 1 at the first other answer.
+ * belongs to an answer and to its number; of two records that meet the first call says 13, and the others what they are. Leaves
+ * with 1 at the first other answer.
  */
 #include "berxundar.h"
 
@@ -18,7 +19,8 @@ static int nothing_lent(void)
     static const uint8_t record[BERXUNDAR_RECORD] = { 1 };
     static uint64_t numbers[256], widths[256];
     uint64_t found[2] = { 0, 1 };
-    return berxundar_judge(NONE) == NUMBER(1) && berxundar_net_load(&net, NONE) == NUMBER(1)
+    return berxundar_judge(NONE) == NUMBER(1) && berxundar_judge_pair(NONE) == (uint64_t)1 << 32
+        && berxundar_earlier(NUMBER(1), NONE) == 0 && berxundar_net_load(&net, NONE) == NUMBER(1)
         && berxundar_load(NONE, SEVEN, NONE) == NUMBER(1) && berxundar_round(SEVEN, NONE, 3) == NUMBER(2)
         && berxundar_round(SEVEN, net.counts, 7, 3) == NUMBER(2) && berxundar_edit(SEVEN, NONE, 3, 3) == NUMBER(2)
         && berxundar_run_until_calm(SEVEN, NONE, 3, 3, NONE) == NUMBER(2)
@@ -92,7 +94,7 @@ static int joined(void)
 static int sentences(void)
 {
     uint32_t a, b;
-    for (a = 0; a <= 22; a++) {
+    for (a = 0; a <= 24; a++) {
         if (berxundar_words(a) != berxundar_words(NUMBER(a) + (a ? 1023 : 0)))
             return 0;
         for (b = 0; b < a; b++)
@@ -102,4 +104,45 @@ static int sentences(void)
     return 1;
 }
 
-int main(void) { return !(zeros() && nothing_lent() && looked_at() && joined() && sentences()); }
+/* Writes a record of small numbers. */
+static void record(uint8_t *at, uint8_t form, uint8_t kind, uint8_t owner, uint8_t a, uint8_t b, uint8_t c, uint8_t id)
+{
+    at[0] = form;
+    at[1] = kind;
+    at[2] = owner;
+    at[4] = a;
+    at[6] = b;
+    at[8] = c;
+    at[12] = id;
+}
+
+/*
+ * A box holds a Not and a Switch: the Switch enters the Not twice (13), once beside a map (22), or two maps enter it (23). The
+ * first call says 13 of all three, a load and a look say what they are, and the second call names the earlier record too.
+ */
+static int met(void)
+{
+    static const uint8_t forms[3][2] = { { 2, 2 }, { 2, 3 }, { 3, 3 } };
+    static const uint32_t numbers[3] = { BERXUNDAR_ENTERED_TWICE, BERXUNDAR_WIRE_AND_MAP, BERXUNDAR_TWO_MAPS };
+    static berxundar_box box;
+    int i;
+    for (i = 0; i < 3; i++) {
+        uint8_t file[6 * BERXUNDAR_RECORD] = { 0 };
+        uint32_t answer = NUMBER(numbers[i]) + 5;
+        record(file, 1, BERXUNDAR_COMPOSITE, 0, 0, 0, 0, 1);
+        record(file + 24, 1, BERXUNDAR_COMPOSITE, 0, 2, 0, 0, 2);
+        record(file + 48, 1, BERXUNDAR_NOT, 1, 1, 1, 0, 3);
+        record(file + 72, 1, BERXUNDAR_SWITCH, 1, 0, 1, 0, 4);
+        record(file + 96, forms[i][0], 0, 1, 1, 0, 0, 0);
+        record(file + 120, forms[i][1], 0, 1, 1, 0, 0, 0);
+        if (berxundar_judge(file, sizeof file) != NUMBER(13) + 5
+            || berxundar_judge_pair(file, sizeof file) != ((uint64_t)answer << 16) + 4
+            || berxundar_net_load(&net, file, sizeof file) != answer
+            || berxundar_net_look(&net, file, sizeof file, NULL, 0, &box) != answer
+            || berxundar_earlier(answer, file, sizeof file) != 4 || berxundar_earlier(NUMBER(2), file, sizeof file) != 0)
+            return 0;
+    }
+    return 1;
+}
+
+int main(void) { return !(zeros() && nothing_lent() && looked_at() && joined() && sentences() && met()); }

@@ -10,7 +10,8 @@ static berxundar_single single;
 static uint32_t changed(const uint8_t *bytes, size_t length)
 {
     uint64_t rounds, evaluations;
-    return berxundar_judge(bytes, length) + berxundar_net_load(&net, bytes, length) + berxundar_net_round(&net, 1)
+    return berxundar_judge(bytes, length) + (uint32_t)(berxundar_judge_pair(bytes, length) >> 16)
+        + berxundar_earlier(1, bytes, length) + berxundar_net_load(&net, bytes, length) + berxundar_net_round(&net, 1)
         + berxundar_net_edit(&net, 0, 1) + berxundar_net_run_until_calm(&net, 1, 2, &rounds, &evaluations)
         + berxundar_single_evaluate(&single, 1);
 }
@@ -30,7 +31,7 @@ static uint32_t asked(const berxundar_net *of)
 int main(void)
 {
     uint32_t answer = changed(NULL, 0) + asked(&net);
-    return berxundar_number(answer) == BERXUNDAR_NOTHING_BEHIND && berxundar_position(answer) == BERXUNDAR_FILE
+    return berxundar_number(answer) == BERXUNDAR_TWO_MAPS && berxundar_position(answer) == BERXUNDAR_FILE
         && net.components[BERXUNDAR_WORD_FIRST_OUTPUT] == BERXUNDAR_CONST && net.wires[BERXUNDAR_WIRE_TO_INPUT] == BERXUNDAR_BITS
         && net.counts[BERXUNDAR_COUNT_STANDING] == BERXUNDAR_SIDE_OUTPUTS && berxundar_words(answer) == NULL;
 }

@@ -46,15 +46,16 @@ int main(void)
             bytes[i] = (uint8_t)below(256);
         for (i = 0; turn % 8 && i + 24 <= length; i += 24)
             draw(bytes + i);
-        for (number = 0; number < 24; number++) {
+        for (number = 0; number < 26; number++) {
             uint32_t path[4];
             size_t ids = below(5);
             for (i = 0; i < ids; i++)
                 path[i] = below(8);
-            refusal_explain(nowhere, "file", length ? bytes : NULL, length, number, below(8) ? below(40) : below(65536));
+            refusal_explain(nowhere, "file", length ? bytes : NULL, length, number, below(8) ? below(40) : below(65536),
+                below(8) ? below(40) : below(65536));
             refusal_explain_look(nowhere, "file", length ? bytes : NULL, length, number, ids ? path : NULL, ids);
         }
-        refusal_explain(nowhere, "file", bytes, length, below(1u << 24) << 8, 0);
+        refusal_explain(nowhere, "file", bytes, length, below(1u << 24) << 8, 0, 0);
         free(bytes);
     }
     return fclose(nowhere) == 0 ? 0 : 2;

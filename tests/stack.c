@@ -57,6 +57,7 @@ static void (*volatile painting)(void) = paint;
 static size_t (*volatile counting)(void) = taken;
 
 static uint32_t judge(void) { return berxundar_judge(bytes, length); }
+static uint32_t judge_pair(void) { return (uint32_t)berxundar_judge_pair(bytes, length); }
 static uint32_t load(void) { return berxundar_net_load(&net, bytes, length); }
 static uint32_t run_round(void) { return berxundar_net_round(&net, 3); }
 static uint32_t run(void) { return berxundar_net_run_until_calm(&net, 4, 5, NULL, NULL); }
@@ -86,8 +87,8 @@ static const struct {
     const char *name;
     uint32_t (*call)(void);
     size_t said;
-} calls[] = { { "judge", judge, 180000 }, { "load", load, 180000 }, { "look at the root", look, 200000 },
-    { "look inside", look_inside, 200000 }, { "round", run_round, 8000 },
+} calls[] = { { "judge", judge, 180000 }, { "judge a pair", judge_pair, 180000 }, { "load", load, 180000 },
+    { "look at the root", look, 200000 }, { "look inside", look_inside, 200000 }, { "round", run_round, 8000 },
     { "run until calm", run, 8000 }, { "edit", edit, 8000 }, { "calm", calm, 8000 }, { "index", index_of, 8000 },
     { "value", value, 8000 }, { "sources", sources, 8000 }, { "targets", targets, 8000 }, { "check", check, 8000 },
     { "evaluate", evaluate, 8000 } };

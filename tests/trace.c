@@ -253,17 +253,49 @@ static void back_all(size_t found_words)
     now.components, lent[COMPONENTS], now.inputs, lent[INPUTS], now.outputs, lent[OUTPUTS], now.wires, lent[WIRES],            \
         now.current, lent[CURRENT], now.following, lent[FOLLOWING], now.standing, lent[STANDING], now.counts, BERXUNDAR_COUNTS
 
+/* ---- The earlier record of two that meet, in the answer of a load or a look, with the file as it was lent to the call. ---- */
+
+/* Where records meet, the second judgement must give the same number and position, or the line says that it does not. */
+static int as_judged(uint32_t answer, const uint8_t *bytes, size_t length)
+{
+    switch (berxundar_number(answer)) {
+    case BERXUNDAR_ENTERED_TWICE:
+    case BERXUNDAR_WIRE_AND_MAP:
+    case BERXUNDAR_TWO_MAPS: return berxundar_judge_pair(bytes, length) >> 16 == answer;
+    default: return 1;
+    }
+}
+
+/* A file that is not refused is not judged again. */
+static unsigned earlier_in(uint32_t answer, const uint8_t *bytes, size_t length)
+{
+    return answer == 0 ? 0 : berxundar_earlier(answer, bytes, length);
+}
+
 /* ---- Commands: each answers 0 where the input ends inside it. ---- */
 
 static int judge(void)
 {
     size_t length;
-    uint32_t answer;
+    uint64_t answer;
     if (!take_file(file, &length))
         return 0;
     lend_all(0, length);
-    answer = berxundar_judge(now.file, length + OVERSTATED);
-    pair("judge", berxundar_number(answer), berxundar_position(answer));
+    answer = berxundar_judge_pair(now.file, length + OVERSTATED);
+    triple("judge", answer >> 32, answer >> 16 & 65535u, answer & 65535u);
+    return 1;
+}
+
+/* Both judgements of a file, as they are given. */
+static int host(void)
+{
+    size_t length;
+    uint32_t first;
+    if (!take_file(file, &length))
+        return 0;
+    lend_all(0, length);
+    first = berxundar_judge(now.file, length + OVERSTATED);
+    pair("host", first, berxundar_judge_pair(now.file, length + OVERSTATED));
     return 1;
 }
 
@@ -276,7 +308,8 @@ static int load(void)
     lend_all(0, length);
     answer = berxundar_load(now.file, length, NOW);
     back_all(0);
-    pair("load", berxundar_number(answer), berxundar_position(answer));
+    triple(as_judged(answer, now.file, length) ? "load" : "load and judge differ", berxundar_number(answer),
+        berxundar_position(answer), earlier_in(answer, now.file, length));
     return 1;
 }
 
@@ -405,6 +438,7 @@ static int take_path(size_t *count, uint32_t *path)
 static int look(void)
 {
     static uint32_t path[PATH];
+    uint8_t *drawing;
     uint64_t *shown, *wide;
     size_t count, i;
     uint32_t answer;
@@ -414,14 +448,16 @@ static int look(void)
     lend_all(2, 0);
     shown = (uint64_t *)lend(15, box.numbers, 8 * lent[NUMBERS]);
     wide = (uint64_t *)lend(16, box.widths, 8 * lent[WIDTHS]);
-    answer = berxundar_look((uint8_t *)lend(17, kept, kept_length), kept_length, NOW, (uint32_t *)lend(18, path, 4 * count),
-        count, shown, lent[NUMBERS], wide, lent[WIDTHS], now.found, 2);
+    drawing = (uint8_t *)lend(17, kept, kept_length);
+    answer = berxundar_look(drawing, kept_length, NOW, (uint32_t *)lend(18, path, 4 * count), count, shown, lent[NUMBERS], wide,
+        lent[WIDTHS], now.found, 2);
     back_all(2);
     back(box.numbers, shown, 8 * lent[NUMBERS]);
     back(box.widths, wide, 8 * lent[WIDTHS]);
-    put_words("look");
+    put_words(as_judged(answer, drawing, kept_length) ? "look" : "look and judge differ");
     put_number(berxundar_number(answer));
     put_number(berxundar_position(answer));
+    put_number(earlier_in(answer, drawing, kept_length));
     put_number(found[0]);
     put_number(found[1]);
     for (i = 0; i < found[0] + found[1] && i < BERXUNDAR_SHOWN; i++) {
@@ -624,6 +660,7 @@ static int answer_one(uint8_t letter)
 {
     switch (letter) {
     case 'J': return judge();
+    case 'H': return host();
     case 'L': return load();
     case 'N': show_net(); return 1;
     case 'P': show_state(); return 1;

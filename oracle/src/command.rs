@@ -27,6 +27,7 @@ pub struct Single {
 #[derive(Clone, Debug)]
 pub enum Command {
     Judge(Vec<u8>),
+    Host(Vec<u8>),
     Load(Vec<u8>),
     Net,
     State,
@@ -54,6 +55,7 @@ impl Command {
     pub fn read<R: Read, W: Write>(from: &mut Channel<R, W>) -> Result<Command, Stop> {
         let command = match from.number::<1>()? as u8 {
             b'J' => Command::Judge(read_file(from)?),
+            b'H' => Command::Host(read_file(from)?),
             b'L' => Command::Load(read_file(from)?),
             b'N' => Command::Net,
             b'P' => Command::State,
@@ -95,6 +97,7 @@ impl Command {
     pub fn write(&self, to: &mut Vec<u8>) {
         match self {
             Command::Judge(file) => write_file(to, b'J', file),
+            Command::Host(file) => write_file(to, b'H', file),
             Command::Load(file) => write_file(to, b'L', file),
             Command::Net => to.push(b'N'),
             Command::State => to.push(b'P'),

@@ -64,11 +64,12 @@ impl<W: Write> Stream<W> {
         commands.into_iter().try_for_each(|command| self.put(command))
     }
 
-    /// The counted answers, but for `N`, `P`, `A` and `D`, which give no number.
+    /// The counted answers, but for `N`, `P`, `A` and `D`, which give no number, and
+    /// `H`, whose number is that of `J`.
     fn statistics(&self) -> String {
         let refusable = |answer: &&String| {
             let word = answer.split(' ').next().unwrap_or("");
-            !["net", "inputs", "components", "counts", "table", "no"].contains(&word)
+            !["net", "inputs", "components", "counts", "table", "no", "host"].contains(&word)
         };
         let counted = self.answers.keys().filter(refusable);
         counted.map(|answer| format!("{answer}: {}\n", self.answers[answer])).collect()

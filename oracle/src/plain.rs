@@ -5,6 +5,7 @@
 
 pub mod calls;
 pub mod drawing;
+pub mod host;
 pub mod judge;
 pub mod kinds;
 pub mod look;

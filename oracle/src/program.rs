@@ -5,10 +5,11 @@
 use crate::command::{Command, Single, FILE_KEPT};
 use crate::engine::Engine;
 use crate::io::{Channel, Stop};
-use crate::plain::calls::{edit_number, index_number, load_number};
+use crate::plain::calls::{edit_number, index_number, load_verdict};
 use crate::plain::calls::{neighbours_number, round_number, value_number};
 use crate::plain::drawing::{records, Drawing, Id};
-use crate::plain::judge::judge;
+use crate::plain::host::{first_answer, second_answer};
+use crate::plain::judge::{judge, words};
 use crate::plain::look::look;
 use crate::plain::single::single_number;
 use crate::primitive::evaluated;
@@ -63,10 +64,8 @@ impl Program {
     /// Does one command and appends its lines.
     pub fn answer(&mut self, command: &Command, lines: &mut String) {
         match command {
-            Command::Judge(file) => {
-                let (number, position) = judge(file);
-                line(lines, "judge", [number, position]);
-            }
+            Command::Judge(file) => line(lines, "judge", words(judge(file))),
+            Command::Host(file) => line(lines, "host", [first_answer(file), second_answer(file)]),
             Command::Load(file) => self.load(file, lines),
             Command::Net => self.net(lines),
             Command::State => self.state(lines),
@@ -108,13 +107,13 @@ impl Program {
     }
 
     fn load(&mut self, file: &[u8], lines: &mut String) {
-        let (number, position) = load_number(&self.tables, file);
-        if number == 0 {
+        let verdict = load_verdict(&self.tables, file);
+        if verdict.is_ok() {
             let mut engine = Engine::of_drawing(&Drawing::new(records(file)));
             engine.write_net(&mut self.tables);
             self.engine = Some(engine);
         }
-        line(lines, "load", [number, position]);
+        line(lines, "load", words(verdict));
     }
 
     fn round(&mut self, time: u64, lines: &mut String) {
@@ -197,14 +196,14 @@ impl Program {
     fn look(&mut self, path: &[Id], lines: &mut String) {
         let plain = match look(&self.tables, &self.kept, path) {
             Ok(plain) => plain,
-            Err((number, position)) => return line(lines, "look", [number, position, 0, 0]),
+            Err(refusal) => return line(lines, "look", refusal.words().into_iter().chain([0, 0])),
         };
         let shown = Engine::look(&Drawing::new(records(&self.kept)), &self.tables, path);
         assert_eq!(shown, plain, "logix shows what the plain coding shows");
         let ports: Vec<_> = shown.inputs.iter().chain(&shown.outputs).collect();
         self.tables.lay(NUMBERS, &ports.iter().map(|port| port.number).collect::<Vec<u64>>());
         self.tables.lay(WIDTHS, &ports.iter().map(|port| port.width).collect::<Vec<u64>>());
-        let head = [0, 0, shown.inputs.len() as u64, shown.outputs.len() as u64];
+        let head = [0, 0, 0, shown.inputs.len() as u64, shown.outputs.len() as u64];
         line(lines, "look", head.into_iter().chain(ports.iter().flat_map(|port| [port.number, port.width])));
     }
 

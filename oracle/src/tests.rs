@@ -1,5 +1,5 @@
-//! Tests: the lamp drawing, the limits, the language, and where logix and the
-//! plain coding can be laid side by side.
+//! Tests: the lamp drawing, the limits, records that meet, the language, and where
+//! logix and the plain coding can be laid side by side.
 
 mod agreement;
 mod differences;
@@ -8,12 +8,13 @@ mod language;
 mod limits;
 mod look;
 mod marked;
+mod meet;
 mod net;
 
 use crate::command::Command;
 use crate::gen::drawing::{blank, file_of};
 use crate::plain::drawing::{Record, COMPONENT, CONNECTION, INPUT_MAP, OUTPUT_MAP};
-use crate::plain::judge::judge;
+use crate::plain::judge::{judge, words};
 use crate::program::Program;
 
 fn component(component_kind: u8, owner: u16, inputs: u16, outputs: u16, id: u32) -> Record {
@@ -50,8 +51,16 @@ fn lamp() -> Vec<Record> {
     ]
 }
 
+/// Number, position and earlier record, all 0 where the drawing is accepted.
+fn told(records: &[Record]) -> (u64, u64, u64) {
+    words(judge(&file_of(records))).into()
+}
+
+/// Number and position of a verdict that tells of no two records.
 fn verdict(records: &[Record]) -> (u64, u64) {
-    judge(&file_of(records))
+    let (number, position, earlier) = told(records);
+    assert_eq!(earlier, 0, "{number} names no earlier record");
+    (number, position)
 }
 
 /// The lines of one command.

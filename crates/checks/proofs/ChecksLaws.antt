@@ -12,9 +12,9 @@ use native.Mathlib.Decide.{decLt}
 use native.Mathlib.Omega.{arith}
 use borrow.Author.Tests.{eqb-false, eq-eqb, ne-eqb, le-leb, lt-leb, lt-ltb, le-ltb, ltb-true, not-true, not-false}
 use lib.Dec.{eqb, leb, ltb}
-use lib.ListN.{length}
+use lib.ListN.{length, getD}
 use types.Run.{OneOf}
-use Rattle.lists.specs.Lists.{from, any}
+use Rattle.lists.specs.Lists.{from, keep, any}
 use denote.Enum.Declared.{tagOf}
 use Rattle.kinds.specs.Kinds.{obeys, primitive, forCustom, unknown}
 use Rattle.kinds.specs.declared.table.Fields.{Fields}
@@ -34,11 +34,11 @@ use Rattle.component.specs.Reading.{idOf, ownerOf, formOf, apart, formBy, said,
 use Rattle.checks.specs.Checks.{EntryAs}
 use Rattle.component.specs.Reading.{given}
 use Rattle.component.specs.Record.{inputsOf, outputsOf, isPrimitive, composite}
-use Rattle.component.specs.Record.{entering}
+use Rattle.component.specs.Record.{entering, enteringAs}
 use Rattle.component.specs.Reading.{hasId, enters}
 use Rattle.component.specs.Drawing.{isComponent, child, deepest, holds, deeper, outMaps, inputsBefore, outputsBefore}
 use Rattle.component.specs.Drawing.{fails3, fails4, fails5, fails6, fails7, fails8, fails9}
-use Rattle.component.specs.Drawing.{fails10, fails11, fails12, fails13, fails14}
+use Rattle.component.specs.Drawing.{fails10, fails11, fails12, fails13, fails14, earlierOf}
 use Rattle.component.proofs.Says.{the-type}
 use Rattle.component.proofs.RecordLaws.{formBy-tag, no-component, refused-is, taken-is, taken-form, taken-owner, unseen-test, unseen-fields, seen-is}
 use Rattle.component.proofs.ScanLaws.{tested}
@@ -429,6 +429,11 @@ module _ (t : Record) (r : Reading) (e : said r ≡ t) where
         let z = taken-is t r e o x h ∙ ap (apart o) k in
         (ap entering z, ap ownerOf z, ap toOf z, ap inputOf z)
 
+-- None is kept where none passes.
+keep-nothing : (xs : List ℕ) → keep (λ x. false) xs ≡ []
+keep-nothing [] = refl
+keep-nothing (x ∷ xs) = keep-nothing xs
+
 -- 13: a record enters no input; it enters one
 module _ (t : Record) (g : Entry) (e : EntryAs g t) where
   pub entering-none : g ≡ NoEntry → entering t ≡ false
@@ -445,11 +450,43 @@ module _ (t : Record) (g : Entry) (e : EntryAs g t) where
   enters-none m k j h = rw (entering-none h)
 
 module _ (s : List ℕ) (p : ℕ) (g : Entry) (e : EntryAs g (recordAt s p)) where
-  pub fails13-other : g ≡ NoEntry → false ≡ fails13 (recordAt s) p
-  fails13-other h = rw (entering-none (recordAt s p) g e h)
+  pub earlier-none : g ≡ NoEntry → p ≡ earlierOf (recordAt s) p
+  earlier-none h = rw (entering-none (recordAt s p) g e h, keep-nothing (from 0 p))
 
-  pub fails13-start : (o d : ℕ) (c : ChildNo) → g ≡ Of o c d
-      → any (tested s (enters o (c .0) d)) (from 0 (p - 0)) ≡ fails13 (recordAt s) p
-  fails13-start o d c h =
+  pub earlier-start : (o d : ℕ) (c : ChildNo) → g ≡ Of o c d
+      → getD (keep (tested s (enters o (c .0) d)) (from 0 (p - 0))) 0 p ≡ earlierOf (recordAt s) p
+  earlier-start o d c h =
       let z = entering-is (recordAt s p) g e o d c h in
       rw (sub-zero p, z .0, z .1, z .2, z .3)
+
+-- One passes where the first that passes is not the end of the search.
+any-first : (f : ℕ → Bool) (q k n : ℕ) → q + k ≡ n → not (eqb (getD (keep f (from q k)) 0 n) n) ≡ any f (from q k)
+any-first f q zero n e = rw (eq-eqb n n refl)
+any-first f q (suc k) n e = by-test (f q) (any-first f (suc q) k n (omega arith))
+  where
+    by-test : (b : Bool) → not (eqb (getD (keep f (from (suc q) k)) 0 n) n) ≡ any f (from (suc q) k)
+        → not (eqb (getD (cond b (q ∷ keep f (from (suc q) k)) (keep f (from (suc q) k))) 0 n) n) ≡ (b || any f (from (suc q) k))
+    by-test true later = rw (ne-eqb q n (λ z. omega arith))
+    by-test false later = later
+
+-- The first that passes is not past the end of the search.
+first-most : (f : ℕ → Bool) (q k n : ℕ) → q + k ≡ n → getD (keep f (from q k)) 0 n ≤ n
+first-most f q zero n e = omega arith
+first-most f q (suc k) n e = by-test (f q) (first-most f (suc q) k n (omega arith))
+  where
+    by-test : (b : Bool) → getD (keep f (from (suc q) k)) 0 n ≤ n
+        → getD (cond b (q ∷ keep f (from (suc q) k)) (keep f (from (suc q) k))) 0 n ≤ n
+    by-test true later = omega arith
+    by-test false later = later
+
+pub earlier-most : (at : ℕ → Record) (p : ℕ) → earlierOf at p ≤ p
+earlier-most at p = first-most (λ q. entering (at p) && enteringAs (at p) (at q)) 0 p p (omega arith)
+
+-- Check 13 is whether there is an earlier record.
+pub fails13-earlier : (at : ℕ → Record) (p x : ℕ) → x ≡ earlierOf at p → not (eqb x p) ≡ fails13 at p
+fails13-earlier at p x e = ap (λ (y : ℕ). not (eqb y p)) e ∙ by-form (entering (at p))
+  where
+    by-form : (b : Bool)
+        → not (eqb (getD (keep (λ q. b && enteringAs (at p) (at q)) (from 0 p)) 0 p) p) ≡ (b && any (λ q. enteringAs (at p) (at q)) (from 0 p))
+    by-form true = any-first (λ q. enteringAs (at p) (at q)) 0 p p (omega arith)
+    by-form false = rw (keep-nothing (from 0 p), eq-eqb p p refl)

@@ -15,7 +15,7 @@ ghost use Rattle.component.specs.Reading.{hasId, enters};
 ghost use Rattle.checks.specs.Checks.{EntryAs};
 ghost use Rattle.component.specs.Drawing.{deepest, holds, deeper, outMaps, inputsBefore, outputsBefore};
 ghost use Rattle.component.specs.Drawing.{fails3, fails4, fails5, fails6, fails7, fails8, fails9};
-ghost use Rattle.component.specs.Drawing.{fails10, fails11, fails12, fails13, fails14};
+ghost use Rattle.component.specs.Drawing.{fails10, fails11, fails12, fails13, fails14, earlierOf};
 use component::ChildNo;
 use component::Reading;
 use component::Says;
@@ -386,21 +386,28 @@ fn same_entry(file: &[u8], q: usize, owner: u16, to: ChildNo, input: u16) -> boo
     (other == owner) & (child.0 == to.0) & (port == input)
 }
 
-// 13: an earlier record of kind 2 or 3 entered the same input.
-fn check13(file: &[u8], p: usize) -> u32
-    ensures { λ r. ⌜ r ≡ given 13 (fails13 (recordAt (now (file .entry))) p) ⌝ }
+// The first record that enters the child's input which the record at p enters, as an earlier one of two that meet; p where there is none.
+pub fn earlier_of(file: &[u8], p: usize) -> usize
+    ensures { λ r. ⌜ r ≡ earlierOf (recordAt (now (file .entry))) p ⌝ }
 {
     let Entry::Of { owner, to, input } = entry_at(file, p) else {
-        return 0;
+        return p;
     };
     let mut q: usize = 0;
     while q < p {
         if same_entry(file, q, owner, to, input) {
-            return 13;
+            return q;
         }
         q += 1;
     }
-    0
+    p
+}
+
+// 13: an earlier record of kind 2 or 3 entered the same input.
+fn check13(file: &[u8], p: usize) -> u32
+    ensures { λ r. ⌜ r ≡ given 13 (fails13 (recordAt (now (file .entry))) p) ⌝ }
+{
+    given(13, earlier_of(file, p) != p)
 }
 
 // How many output maps composite c has.

@@ -9,6 +9,7 @@ use Rattle.component.specs.declared.Verdict.the-variants.{Accepted}
 use Rattle.component.specs.Drawing.{deepest}
 use Rattle.flatten.specs.Descent.{outputBelow, inputsBelow, comesFrom, goesTo}
 use Rattle.flatten.specs.Verdict.{verdict}
+use Rattle.meeting.specs.Meeting.{judgement}
 use Rattle.tables.specs.Tables.{fullSize, endAt, wiresIn, currentList, followingList, standingList}
 use Rattle.load.specs.Load.{drawingTables, loadVerdict, loadTables}
 use Rattle.laying.proofs.FlatWires.{wire}
@@ -24,7 +25,7 @@ unfolding verdict deepest obeys outputBelow inputsBelow comesFrom goesTo
 lamp-accepted = refl
 
 pub lamp-wires : wiresIn lampLoaded ≡ wire (endAt 0 0) (endAt 2 0) ∷ wire (endAt 1 0) (endAt 2 1) ∷ wire (endAt 2 0) (endAt 3 0) ∷ []
-unfolding loadTables loadVerdict drawingTables verdict overlay fullSize deepest obeys outputBelow inputsBelow comesFrom goesTo
+unfolding loadTables loadVerdict drawingTables judgement verdict overlay fullSize deepest obeys outputBelow inputsBelow comesFrom goesTo
 lamp-wires = refl
 
 -- The lists after the load, and the current lists that rounds 1 and 2 leave.
@@ -32,17 +33,17 @@ pub lamp-lists :
     currentList lampLoaded ∷ followingList lampLoaded ∷ standingList lampLoaded
     ∷ currentList (roundTables lampLoaded 0) ∷ currentList (roundTables (roundTables lampLoaded 0) 0) ∷ []
     ≡ (0 ∷ 1 ∷ 2 ∷ 3 ∷ []) ∷ [] ∷ [] ∷ (3 ∷ []) ∷ [] ∷ []
-unfolding loadTables loadVerdict drawingTables verdict overlay fullSize deepest obeys outputBelow inputsBelow comesFrom goesTo roundTables netNumber isNet countsWithin kindsObeyed idsDistinct portsFollow valuesFit constsHeld wiresFit inputsOnce names roundOf leave round visit evaluated send outputsAfter functionOf appendNew strike
+unfolding loadTables loadVerdict drawingTables judgement verdict overlay fullSize deepest obeys outputBelow inputsBelow comesFrom goesTo roundTables netNumber isNet countsWithin kindsObeyed idsDistinct portsFollow valuesFit constsHeld wiresFit inputsOnce names roundOf leave round visit evaluated send outputsAfter functionOf appendNew strike
 lamp-lists = refl
 
 -- Run until calm with a limit of 16: two rounds, 4 + 1 evaluations.
 pub lamp-run : netNumber lampLoaded ∷ run 16 0 lampLoaded .rounds ∷ run 16 0 lampLoaded .evaluations ∷ [] ≡ 0 ∷ 2 ∷ 5 ∷ []
-unfolding loadTables loadVerdict drawingTables verdict overlay fullSize deepest obeys outputBelow inputsBelow comesFrom goesTo roundTables netNumber isNet countsWithin kindsObeyed idsDistinct portsFollow valuesFit constsHeld wiresFit inputsOnce names roundOf leave round visit evaluated send outputsAfter functionOf appendNew strike run calm
+unfolding loadTables loadVerdict drawingTables judgement verdict overlay fullSize deepest obeys outputBelow inputsBelow comesFrom goesTo roundTables netNumber isNet countsWithin kindsObeyed idsDistinct portsFollow valuesFit constsHeld wiresFit inputsOnce names roundOf leave round visit evaluated send outputsAfter functionOf appendNew strike run calm
 lamp-run = refl
 
 -- Switch 0 set after round 2: the current lists of rounds 3 to 7, and of round 8.
 pub lamp-timing :
     currentList (lampSet 0) ∷ currentList (lampSet 1) ∷ currentList (lampSet 2) ∷ currentList (lampSet 3) ∷ currentList (lampSet 4) ∷ currentList (lampSet 5) ∷ []
     ≡ [] ∷ [] ∷ (0 ∷ []) ∷ (0 ∷ 2 ∷ []) ∷ (3 ∷ []) ∷ [] ∷ []
-unfolding loadTables loadVerdict drawingTables verdict overlay fullSize deepest obeys outputBelow inputsBelow comesFrom goesTo roundTables netNumber isNet countsWithin kindsObeyed idsDistinct portsFollow valuesFit constsHeld wiresFit inputsOnce names roundOf leave round visit evaluated send outputsAfter functionOf appendNew strike editTables editNumber editedState portSet
+unfolding loadTables loadVerdict drawingTables judgement verdict overlay fullSize deepest obeys outputBelow inputsBelow comesFrom goesTo roundTables netNumber isNet countsWithin kindsObeyed idsDistinct portsFollow valuesFit constsHeld wiresFit inputsOnce names roundOf leave round visit evaluated send outputsAfter functionOf appendNew strike editTables editNumber editedState portSet
 lamp-timing = refl

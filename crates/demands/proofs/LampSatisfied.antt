@@ -17,6 +17,7 @@ use Rattle.component.specs.Record.{IsBytes, recordAt, recordCount}
 use Rattle.component.specs.Drawing.{deepest}
 use Rattle.flatten.specs.Descent.{flat, outputBelow, inputsBelow, comesFrom, goesTo}
 use Rattle.flatten.specs.Verdict.{verdict}
+use Rattle.meeting.specs.Meeting.{judgement}
 use Rattle.tables.specs.Tables.{Tables, fullSize, currentList, followingList, standingList, named}
 use Rattle.load.specs.Load.{drawingTables, loadVerdict, loadTables}
 use Rattle.net.specs.Net.{countsWithin, kindsObeyed, idsDistinct, portsFollow, valuesFit, constsHeld, wiresFit, inputsOnce, names, isNet, netNumber}
@@ -30,7 +31,7 @@ use Rattle.demands.specs.Demand.{Satisfied}
 use Rattle.demands.proofs.Demand3.{demand3}
 
 lamp-load : loadVerdict lamp sevens ≡ Accepted
-unfolding loadVerdict verdict fullSize deepest obeys outputBelow inputsBelow comesFrom goesTo
+unfolding loadVerdict judgement verdict fullSize deepest obeys outputBelow inputsBelow comesFrom goesTo
 lamp-load = refl
 
 -- The tables after the run.
@@ -45,7 +46,7 @@ lamp-reached b =
 
 -- No list names anything.
 lamp-lists : currentList lampCalm ∷ followingList lampCalm ∷ standingList lampCalm ∷ [] ≡ [] ∷ [] ∷ [] ∷ []
-unfolding loadTables loadVerdict drawingTables verdict overlay fullSize deepest obeys outputBelow inputsBelow comesFrom goesTo roundTables netNumber isNet countsWithin kindsObeyed idsDistinct portsFollow valuesFit constsHeld wiresFit inputsOnce names roundOf leave round visit evaluated send outputsAfter functionOf appendNew strike runTables run calm
+unfolding loadTables loadVerdict drawingTables judgement verdict overlay fullSize deepest obeys outputBelow inputsBelow comesFrom goesTo roundTables netNumber isNet countsWithin kindsObeyed idsDistinct portsFollow valuesFit constsHeld wiresFit inputsOnce names roundOf leave round visit evaluated send outputsAfter functionOf appendNew strike runTables run calm
 lamp-lists = refl
 
 nothing-named : (T : Tables) → currentList T ∷ followingList T ∷ standingList T ∷ [] ≡ [] ∷ [] ∷ [] ∷ [] → (i : ℕ) → named T i ≡ false

@@ -11,8 +11,9 @@ use Rattle.kinds.specs.declared.Kind.the-variants.{And, Or, Nor, Xor, Splitter,
 use Rattle.kinds.specs.Kinds.{numberOf}
 use Rattle.primitive.specs.Evaluate.{evaluateNumber, evaluateOutputs}
 use Rattle.component.specs.Record.{recordAt, recordCount}
-use Rattle.kinds.specs.Given.{spoken}
-use Rattle.flatten.specs.Verdict.{verdict, verdictGives}
+use Rattle.kinds.specs.Given.{spokenPair}
+use Rattle.flatten.specs.Verdict.{verdictGives}
+use Rattle.meeting.specs.Meeting.{judgement}
 use Rattle.laying.specs.Laid.{flatWires}
 use Rattle.component.proofs.Drawings.{lamp, lampTwice}
 use Rattle.tables.specs.Tables.{wireWords}
@@ -36,7 +37,7 @@ evaluating k p xs v o w t =
     ∷ evaluateOutputs f xs vs (replicate o 0) (replicate o w) t
 
 -- The cases (a) to (l), in their order. In (a) to (j) the leading 0 says that the call is not refused; (k) has the words of the
--- lamp drawing's wires, (l) the host's number of the lamp drawing with a second connection into 2.0.
+-- lamp drawing's wires, (l) the host's second number of the lamp drawing with a second connection into 2.0: 13 at 9, against 6.
 abbrev pub marked : List Case
 marked =
     (evaluating And 0 [] 1 1 1 0 gives 0 ∷ 1 ∷ [])
@@ -50,5 +51,5 @@ marked =
     ∷ (evaluating Clock 10 [] 1 1 1 20 gives 0 ∷ 0 ∷ [])
     ∷ (evaluating Clock 1 [] 1 1 1 1 gives 0 ∷ 0 ∷ [])
     ∷ (joined wireWords (flatWires (recordAt lamp) (recordCount lamp)) gives 0 ∷ 0 ∷ 2 ∷ 0 ∷ 1 ∷ 0 ∷ 2 ∷ 1 ∷ 2 ∷ 0 ∷ 3 ∷ 0 ∷ [])
-    ∷ (spoken (verdictGives (verdict lampTwice) []) ∷ [] gives (65536 * 13 + 9) ∷ [])
+    ∷ (spokenPair (verdictGives (judgement lampTwice) []) ∷ [] gives (4294967296 * 13 + 65536 * 9 + 6) ∷ [])
     ∷ []

@@ -7,8 +7,9 @@ use Rattle.primitive.specs.Evaluate.{functionOf, outputsAfter, fitting, evaluat
 use Rattle.component.specs.Drawing.{deepest}
 use Rattle.flatten.specs.Descent.{outputBelow, inputsBelow, comesFrom, goesTo}
 use Rattle.flatten.specs.Verdict.{verdict}
+use Rattle.meeting.specs.Meeting.{judgement}
 use Rattle.demands.proofs.Marked.{Case, marked}
 
 pub marked-hold : map (λ (c : Case). c .computed) marked ≡ map (λ (c : Case). c .wanted) marked
-unfolding evaluateNumber evaluateOutputs outputsAfter functionOf fitting obeys deepest outputBelow inputsBelow comesFrom goesTo verdict
+unfolding evaluateNumber evaluateOutputs outputsAfter functionOf fitting obeys deepest outputBelow inputsBelow comesFrom goesTo verdict judgement
 marked-hold = refl

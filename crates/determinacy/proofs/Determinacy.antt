@@ -7,7 +7,7 @@ use Rattle.kinds.specs.Given.{Given, giving}
 use Rattle.primitive.specs.Evaluate.{evaluateNumber, evaluatedGives}
 use Rattle.primitive.proofs.EvaluateLaws.{evaluatedGives-is}
 use Rattle.flatten.specs.Verdict.{verdictGives}
-use Rattle.flatten.proofs.JudgementLaws.{judges-verdict}
+use Rattle.meeting.proofs.MeetingLaws.{judges-judgement}
 use Rattle.tables.specs.Tables.{answerGives, sources, targets}
 use Rattle.tables.proofs.AnswerLaws.{answerGives-is, changes-determined}
 use Rattle.load.specs.Load.{loadVerdict}
@@ -33,7 +33,7 @@ equation : {A : Type 0} (x : A) → DeterminedAnswer (λ (a : A). a ≡ x)
 equation x a a′ p q = p ∙ sym q
 
 -- For evaluating one component, a load, a round, an edit, a run until calm, and the questions and looks that write lent lists; then for judging, also as
--- the host's call, check 16, calm, the index of an id, a port's value, and a value's methods.
+-- the host's two calls, check 16, calm, the index of an id, a port's value, and a value's methods.
 pub determinacy : Determinacy
 determinacy = (
   λ f xs vs ys ws t. outcome evaluatedGives evaluatedGives-is (λ zs. giving (evaluateNumber f xs vs ys ws) []) _,
@@ -48,7 +48,8 @@ determinacy = (
       let n = p .1 ∙ sym (q .1) in
       let w = p .2 ∙ sym (q .2) in
       (lookGives-is a a′ (p .0 ∙ sym (q .0)), λ i. (n i, w i)),
-  λ file r r′ p q. judges-verdict file r p ∙ sym (judges-verdict file r′ q),
+  λ file r r′ p q. judges-judgement file r p ∙ sym (judges-judgement file r′ q),
+  λ file. equation _,
   λ file. equation _,
   λ T. equation _,
   λ T. answer calmGives calmGives-is _,

@@ -112,12 +112,12 @@ module _ (few : Bool) (ws fs : List ℕ) (lent : Counts → Tables) where
     λ t. changes _ (determinacy .2 t),
     λ i v. changes _ (determinacy .3 i v),
     λ t limit. runs (Runs t limit) (determinacy .4 t limit),
-    asks calmGives _ (determinacy .11),
-    λ id. asks indexGives _ (λ T. determinacy .12 T id),
-    λ side i port. asks valueGives _ (λ T. determinacy .13 T side i port),
+    asks calmGives _ (determinacy .12),
+    λ id. asks indexGives _ (λ T. determinacy .13 T id),
+    λ side i port. asks valueGives _ (λ T. determinacy .14 T side i port),
     λ i. lists _ (λ T ls. determinacy .5 T i ls),
     λ i. lists _ (λ T ls. determinacy .6 T i ls),
-    asks (λ (k : ℕ). giving k []) _ (determinacy .10),
+    asks (λ (k : ℕ). giving k []) _ (determinacy .11),
     λ f xs vs ys us t r s zs zs′ p q.
         let d = determinacy .0 f xs vs ys us t (p .answer) (q .answer) zs zs′ (p .promised) (q .promised) in
         (p .said ∙ ap (λ (z : Evaluated). spoken (evaluatedGives z)) (d .0) ∙ sym (q .said), d .1),

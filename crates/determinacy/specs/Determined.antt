@@ -7,7 +7,8 @@ use Rattle.value.specs.declared.Value.{Value}
 use Rattle.value.specs.declared.Fit.{Fit}
 use Rattle.kinds.specs.declared.table.Fields.{Fields}
 use Rattle.primitive.specs.Evaluate.{Evaluates}
-use Rattle.flatten.specs.Verdict.{Judges, Speaks}
+use Rattle.flatten.specs.Verdict.{Speaks}
+use Rattle.meeting.specs.Meeting.{Judges, SpeaksPair}
 use Rattle.tables.specs.Tables.{Tables}
 use Rattle.load.specs.Load.{Loads}
 use Rattle.net.specs.Net.{Checks}
@@ -40,6 +41,7 @@ Determinacy =
     → Determined (λ (r : Looked) (b : List ℕ × List ℕ). Looks file T path ns ws r (b .0) (b .1)))
     × ((file : List ℕ) → DeterminedAnswer (Judges file))
     × ((file : List ℕ) → DeterminedAnswer (Speaks file))
+    × ((file : List ℕ) → DeterminedAnswer (SpeaksPair file))
     × ((T : Tables) → DeterminedAnswer (Checks T))
     × ((T : Tables) → DeterminedAnswer (AsksCalm T))
     × ((T : Tables) (id : ℕ) → DeterminedAnswer (AsksIndex T id))

@@ -1,6 +1,6 @@
 -- Determinacy of the calls from C: any two outcomes that one promise allows are equal, in what the call says and in everything that is lent to be
 -- written. The tables after a call are those with the counts that the count words then hold. docs/SPECIFICATION.md, "What the contracts owe".
--- (`berxundar_judge` promises `Speaks`, which stands in specs/Determined.)
+-- (`berxundar_judge` promises `Speaks`, `berxundar_judge_pair` `SpeaksPair`: they stand in specs/Determined.)
 -- Assumes nothing.
 use Prim.Native.Nat.{ℕ}
 use mathlib.Core.Path.{_≡_}

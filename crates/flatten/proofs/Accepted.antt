@@ -17,8 +17,9 @@ use lib.ListN.{length, getD, take}
 use lib.Seq.{getD-take}
 use Rattle.lists.specs.Lists.{from, first}
 use Rattle.lists.proofs.MembersLaws.{In, first-none, from0-complete, getD-cases}
+use Rattle.kinds.specs.declared.answers.Refusal.{Refusal}
 use Rattle.component.specs.declared.Record.{Record}
-use Rattle.component.specs.declared.Verdict.the-variants.{Accepted}
+use Rattle.component.specs.declared.Verdict.the-variants.{Accepted, Refused}
 use Rattle.component.specs.Record.{noRecord, recordAt, recordCount}
 use Rattle.flatten.specs.Verdict.{checks, refused, orLater, judged, sized, verdict}
 use Rattle.flatten.specs.Searches.{PassedBefore}
@@ -28,8 +29,11 @@ abbrev pub Check : Type 0
 Check = ℕ × (ℕ → Bool)
 
 -- A refusal is no acceptance.
+pub not-accepted : (r : Refusal) → Refused r ≡ Accepted → ⊥
+not-accepted r e = let z : _≡_ {A = ℕ} 0 1 = cc in omega arith
+
 pub refused-not : (k p : ℕ) → refused k p ≡ Accepted → ⊥
-refused-not k p e = let z : _≡_ {A = ℕ} 0 1 = cc in omega arith
+refused-not k p e = not-accepted _ e
 
 -- Where the judgement is "accepted", no record fails any of the checks.
 pub judged-passes : (n : ℕ) (ks : List Check) → judged n ks ≡ Accepted

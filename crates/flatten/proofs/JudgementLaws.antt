@@ -23,7 +23,7 @@ use Rattle.component.specs.Record.{recordAt}
 use Rattle.component.specs.Reading.{given}
 use Rattle.checks.specs.Checks.{failsBy}
 use Rattle.checks.proofs.ChecksLaws.{given-number, given-failed, given-passed}
-use Rattle.flatten.specs.Verdict.{checks, refused, orLater, judged, sized, verdict, verdictGives, Judges}
+use Rattle.flatten.specs.Verdict.{checks, refused, orLater, judged, sized, verdict, verdictGives}
 use Rattle.flatten.specs.Searches.{failsAt, PassedBefore}
 use Rattle.flatten.proofs.Accepted.{Check, refused-not, noCheck}
 
@@ -57,7 +57,7 @@ module _ (s : List ℕ) (n k : ℕ) where
     search-none l = ap (λ (y : Option ℕ). orLater k y Accepted) (first-none (failsAt (recordAt s) n k) q n x inv l)
 
 -- Checks numbered from m on: the one at place j has number m + j, and F says what fails it, if F says that of each.
-number-at : (cs : List Check) (m j : ℕ) → map (λ (c : Check). c .0) cs ≡ from m (length cs) → j < length cs
+pub number-at : (cs : List Check) (m j : ℕ) → map (λ (c : Check). c .0) cs ≡ from m (length cs) → j < length cs
     → getD cs j noCheck .0 ≡ m + j
 number-at [] m j e h = absurd (omega arith)
 number-at (c ∷ cs) m zero e h = let z : c .0 ≡ m = cc in omega arith
@@ -135,56 +135,52 @@ module _ (s : List ℕ) (b : Bool) (e : b ≡ sized s) where
   pub unsized : not b ≡ true → sized s ≡ true → ⊥
   unsized h z = false≢true (sym (not-true b h) ∙ e ∙ z)
 
-  pub verdict-sized : not b ≡ true → Judges s (refused 1 0)
+  pub verdict-sized : not b ≡ true → refused 1 0 ≡ verdict s
   unfolding verdict
   verdict-sized h = rw (← e, not-true b h)
 
-  pub verdict-judged : (v : Verdict) → not b ≡ false → v ≡ judged (length s / 24) (checks (recordAt s) (length s / 24)) → Judges s v
+  pub verdict-judged : (v : Verdict) → not b ≡ false → v ≡ judged (length s / 24) (checks (recordAt s) (length s / 24)) → v ≡ verdict s
   unfolding verdict
-  verdict-judged v h d =
-      let q : v ≡ verdict s = d ∙ rw (← e, not-false b h) in
-      ap (λ (x : Verdict). verdictGives x []) q
+  verdict-judged v h d = d ∙ rw (← e, not-false b h)
 
--- Verdicts that give the same are the same, so what `judge` promises is the verdict.
+-- Verdicts that give the same are the same.
 pub verdictGives-is : (a b : Verdict) → verdictGives a [] ≡ verdictGives b [] → a ≡ b
 verdictGives-is Accepted Accepted e = refl
 verdictGives-is Accepted (Refused r) e = absurd (done-declined [] r e)
 verdictGives-is (Refused r) Accepted e = absurd (done-declined [] r (sym e))
 verdictGives-is (Refused r) (Refused s) e = ap Refused (declined-refusal r s e)
 
-pub judges-verdict : (s : List ℕ) (v : Verdict) → Judges s v → v ≡ verdict s
-judges-verdict s v e = verdictGives-is v (verdict s) e
-
--- A refusal's number is at most 15, and its position is below 1,024.
+-- A refusal's number is at most 15, its position is below 1,024, and it names no earlier record.
 judged-bound : (n : ℕ) (cs : List Check) (r : Refusal) → every (λ (c : Check). ltb (c .0) 16) cs ≡ true → judged n cs ≡ Refused r
-    → (r .number < 16) × (r .position < n)
+    → (r .number < 16) × (r .position < n) × (r .earlier ≡ 0)
 judged-bound n [] r h e = let z : _≡_ {A = ℕ} 0 1 = cc in absurd (omega arith)
 judged-bound n (c ∷ cs) r h e =
     by-find (first (c .1) (from 0 n)) refl e
     (judged-bound n cs r (and-right (ltb (c .0) 16) (every (λ (x : Check). ltb (x .0) 16) cs) h))
   where
     by-find : (x : Option ℕ) → first (c .1) (from 0 n) ≡ x → orLater (c .0) x (judged n cs) ≡ Refused r
-        → (judged n cs ≡ Refused r → (r .number < 16) × (r .position < n)) → (r .number < 16) × (r .position < n)
+        → (judged n cs ≡ Refused r → (r .number < 16) × (r .position < n) × (r .earlier ≡ 0))
+        → (r .number < 16) × (r .position < n) × (r .earlier ≡ 0)
     by-find (some p) u d later =
-        let z : record { number = c .0; position = p } ≡ r = cc in
+        let z : record { number = c .0; position = p; earlier = 0 } ≡ r = cc in
         let y : c .0 ≡ r .number = ap (λ (x : Refusal). x .number) z in
         let w : p ≡ r .position = ap (λ (x : Refusal). x .position) z in
         let l : c .0 < 16 = ltb-true (c .0) 16 (and-left (ltb (c .0) 16) (every (λ (x : Check). ltb (x .0) 16) cs) h) in
-        (omega arith, omega (arith, first-below (c .1) 0 n p u))
+        (omega arith, omega (arith, first-below (c .1) 0 n p u), sym (ap (λ (x : Refusal). x .earlier) z))
     by-find none u d later = later d
 
-pub verdict-bound : (s : List ℕ) (r : Refusal) → verdict s ≡ Refused r → (r .number < 16) × (r .position < 1024)
+pub verdict-bound : (s : List ℕ) (r : Refusal) → verdict s ≡ Refused r → (r .number < 16) × (r .position < 1024) × (r .earlier ≡ 0)
 unfolding verdict
 verdict-bound s r e = by-size (sized s) refl e
   where
     by-size : (b : Bool) → b ≡ sized s
         → cond b (judged (length s / 24) (checks (recordAt s) (length s / 24))) (refused 1 0) ≡ Refused r
-        → (r .number < 16) × (r .position < 1024)
+        → (r .number < 16) × (r .position < 1024) × (r .earlier ≡ 0)
     by-size true h d =
         let z = judged-bound (length s / 24) (checks (recordAt s) (length s / 24)) r refl d in
-        (z .0, omega (arith, z .1, sized-most s true h refl))
+        (z .0, omega (arith, z .1, sized-most s true h refl), z .2)
     by-size false h d =
-        let z : record { number = 1; position = 0 } ≡ r = cc in
+        let z : record { number = 1; position = 0; earlier = 0 } ≡ r = cc in
         let y : 1 ≡ r .number = ap (λ (x : Refusal). x .number) z in
         let w : 0 ≡ r .position = ap (λ (x : Refusal). x .position) z in
-        (omega arith, omega arith)
+        (omega arith, omega arith, sym (ap (λ (x : Refusal). x .earlier) z))

@@ -1,4 +1,5 @@
--- The judgement of a file's bytes. docs/SPECIFICATION.md, "Numbers given back" and the host's call.
+-- The verdict on a file's bytes. docs/SPECIFICATION.md, "Numbers given back" and the host's first call. Two records that meet are 13 here, whatever
+-- they are; meeting/specs/Meeting has the judgement, which says what they are.
 use mathlib.Core.Path.{_≡_}
 use Prim.Native.Nat.{ℕ, _%_}
 use mathlib.Core.Bool.{Bool, cond, not, _&&_}
@@ -23,7 +24,7 @@ checks at n =
 
 -- Refused with number k at position p.
 abbrev pub refused : ℕ → ℕ → Verdict
-refused k p = Refused (record { number = k; position = p })
+refused k p = Refused (record { number = k; position = p; earlier = 0 })
 
 -- Refused by check k at the position found, or else what the later checks say.
 abbrev pub orLater : ℕ → Option ℕ → Verdict → Verdict
@@ -39,7 +40,7 @@ judged n (k ∷ ks) = orLater (k .0) (first (k .1) (from 0 n)) (judged n ks)
 abbrev pub sized : List ℕ → Bool
 sized file = not (eqb (length file) 0) && eqb (length file % 24) 0 && leb (recordCount file) 1024
 
--- What a file's bytes are judged to be; check 2 is not made.
+-- The verdict on a file's bytes; check 2 is not made.
 unfoldable pub verdict : List ℕ → Verdict
 verdict file = cond (sized file) (judged (recordCount file) (checks (recordAt file) (recordCount file))) (refused 1 0)
 
@@ -48,10 +49,6 @@ abbrev pub verdictGives : Verdict → List ℕ → Given
 verdictGives Accepted xs = done xs
 verdictGives (Refused r) xs = declined r
 
--- The promise of `judge`: its answer r gives what the file is judged to be.
-abbrev pub Judges : List ℕ → Verdict → Type 0
-Judges file r = verdictGives r [] ≡ verdictGives (verdict file) []
-
--- The promise of the host's call.
+-- The promise of the host's first call, which "goes on answering 13".
 abbrev pub Speaks : List ℕ → ℕ → Type 0
 Speaks file r = r ≡ spoken (verdictGives (verdict file) [])

@@ -1,4 +1,4 @@
-// The judgement of a file's bytes. Rule: docs/SPECIFICATION.md, "Numbers given back". Check 2 is not made: no table is lent.
+// The verdict on a file's bytes. Rule: docs/SPECIFICATION.md, "Numbers given back". Check 2 is not made: no table is lent.
 ghost use mathlib.Core.Path.{_≡_};
 ghost use Prim.Native.Nat.{_≤_, _<_};
 ghost use lib.ListN.{length};
@@ -8,7 +8,7 @@ ghost use Rattle.component.specs.Record.{recordAt, recordCount};
 ghost use Rattle.index.specs.Index.{IsIndex};
 ghost use Rattle.component.specs.Reading.{given};
 ghost use Rattle.component.specs.declared.Verdict.the-variants.{Accepted};
-ghost use Rattle.flatten.specs.Verdict.{checks, orLater, judged, sized, Judges};
+ghost use Rattle.flatten.specs.Verdict.{checks, orLater, judged, sized, verdict};
 ghost use Rattle.flatten.specs.Searches.{failsAt, PassedBefore};
 use crate::widths::check15;
 use checks::check;
@@ -43,6 +43,7 @@ fn check_records(file: &[u8], index: &[u16], k: u32) -> Verdict
             return Verdict::Refused(Refusal {
                 number,
                 position: p as u32,
+                earlier: 0,
             });
         }
         p += 1;
@@ -74,11 +75,11 @@ pub fn is_sized(file: &[u8]) -> bool
     (length != 0) & (length % 24 == 0) & (length / 24 <= 1024)
 }
 
-// What a file's bytes are judged to be; the lent index, of 82,432 words, is filled where the file is of a size that check 1 passes.
-// `judge` calls it, and crate load, which has the wires laid with the same index.
-pub fn judge_indexed(file: &[u8], index: &mut [u16]) -> Verdict
+// The verdict on a file's bytes, 13 for any two records that meet; the lent index, of 82,432 words, is filled where the file is of a
+// size that check 1 passes. `verdict` calls it, and crate meeting, which says of two records that meet what they are.
+pub fn verdict_indexed(file: &[u8], index: &mut [u16]) -> Verdict
     requires { ⌜ length (now index) ≡ 82432 ⌝ }
-    ensures { λ r. ⌜ Judges (now (file .entry)) r ⌝ }
+    ensures { λ r. ⌜ r ≡ verdict (now (file .entry)) ⌝ }
     ensures { λ _. ⌜ (sized (now (file .entry)) ≡ true → IsIndex (now (file .entry)) (now (index .exit))) ⌝ }
 {
     if !is_sized(file) {
@@ -88,10 +89,10 @@ pub fn judge_indexed(file: &[u8], index: &mut [u16]) -> Verdict
     judge_records(file, index)
 }
 
-// What a file's bytes are judged to be.
-pub fn judge(file: &[u8]) -> Verdict
-    ensures { λ r. ⌜ Judges (now (file .entry)) r ⌝ }
+// The verdict on a file's bytes, for the host's first call.
+pub fn verdict(file: &[u8]) -> Verdict
+    ensures { λ r. ⌜ r ≡ verdict (now (file .entry)) ⌝ }
 {
     let mut index = [0u16; 82432];
-    judge_indexed(file, &mut index)
+    verdict_indexed(file, &mut index)
 }

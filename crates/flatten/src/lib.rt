@@ -7,8 +7,8 @@ mod widths;
 pub use descent::list_targets;
 pub use descent::source_of;
 pub use judgement::is_sized;
-pub use judgement::judge;
-pub use judgement::judge_indexed;
+pub use judgement::verdict;
+pub use judgement::verdict_indexed;
 pub use targets::target_at;
 
 // A port of a component of a drawing, by the component's number.

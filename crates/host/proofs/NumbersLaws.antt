@@ -14,8 +14,9 @@ use Rattle.kinds.specs.Given.{Given, giving, spoken}
 use Rattle.primitive.specs.Evaluate.{fitting, evaluateNumber}
 use Rattle.component.specs.declared.Verdict.{Verdict}
 use Rattle.component.specs.declared.Verdict.the-variants.{Accepted, Refused as Judged}
-use Rattle.flatten.specs.Verdict.{sized, refused, verdict, verdictGives}
-use Rattle.flatten.proofs.JudgementLaws.{verdict-bound}
+use Rattle.flatten.specs.Verdict.{sized, refused, verdictGives}
+use Rattle.meeting.specs.Meeting.{judgement}
+use Rattle.meeting.proofs.MeetingLaws.{judgement-small}
 use Rattle.tables.specs.Tables.{Tables, fullSize}
 use Rattle.load.specs.Load.{loadVerdict}
 use Rattle.words.proofs.PlainLaws.{refusal-small, Plain, giving-plain, plain-as}
@@ -39,9 +40,9 @@ abbrev pub spokenOf : Verdict → ℕ
 spokenOf v = spoken (verdictGives v [])
 
 -- A load's number and position fit the answer.
-spoken-small : (file : List ℕ) (v : Verdict) → verdict file ≡ v → spokenOf v < 4294967296
+spoken-small : (file : List ℕ) (v : Verdict) → judgement file ≡ v → spokenOf v < 4294967296
 spoken-small file Accepted e = omega arith
-spoken-small file (Judged r) e = let b = verdict-bound file r e in omega arith
+spoken-small file (Judged r) e = let b = judgement-small file r e in omega (arith, b .number, b .position)
 
 pub cond-small : (b : Bool) (x y : Verdict) → spokenOf x < 4294967296 → spokenOf y < 4294967296 → spokenOf (cond b x y) < 4294967296
 cond-small true x y h k = h
@@ -50,8 +51,8 @@ cond-small false x y h k = k
 pub load-verdict-small : (file : List ℕ) (T : Tables) → spokenOf (loadVerdict file T) < 4294967296
 unfolding loadVerdict
 load-verdict-small file T =
-    cond-small (sized file) (cond (fullSize T) (verdict file) (refused 2 0)) (refused 1 0)
-    (cond-small (fullSize T) (verdict file) (refused 2 0) (spoken-small file (verdict file) refl) (omega arith)) (omega arith)
+    cond-small (sized file) (cond (fullSize T) (judgement file) (refused 2 0)) (refused 1 0)
+    (cond-small (fullSize T) (judgement file) (refused 2 0) (spoken-small file (judgement file) refl) (omega arith)) (omega arith)
 
 pub by-verdict : (v : Verdict) (xs : List ℕ) → spoken (verdictGives v xs) ≡ spokenOf v
 by-verdict Accepted xs = refl

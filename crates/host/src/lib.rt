@@ -9,5 +9,6 @@ mod looking;
 
 pub use evaluate::berxundar_evaluate;
 pub use judge::berxundar_judge;
+pub use judge::berxundar_judge_pair;
 pub use loading::berxundar_load;
 pub use looking::berxundar_look;

@@ -24,7 +24,7 @@ done-declined xs r e =
     omega arith
 
 refusalOf : Given → Refusal
-refusalOf g = record { number = g .number; position = g .position }
+refusalOf g = record { number = g .number; position = g .position; earlier = g .earlier }
 
 pub declined-refusal : (r s : Refusal) → declined r ≡ declined s → r ≡ s
 unfolding refusalOf

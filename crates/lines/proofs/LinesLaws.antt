@@ -1,23 +1,26 @@
 -- Laws of parts that are put one after the other, and of loops that put a line for each number.
 -- Assumes nothing.
-use mathlib.Core.Path.{_≡_, sym, ap, subst, _∙_}
-use mathlib.Core.List.{List, [], _++_, append-assoc}
+use mathlib.Core.Path.{_≡_, refl, sym, ap, subst, _∙_}
+use mathlib.Core.Bool.{Bool, true, false, _||_}
+use mathlib.Core.List.{List, [], _∷_, _++_, append-assoc}
 use Prim.Native.Nat.{ℕ, _+_, _-_, _≤_, _<_}
 use native.Mathlib.Nat.{sub-zero}
 use native.Mathlib.Decide.{decLt}
 use native.Mathlib.Omega.{arith}
 use lib.ListN.{length, List·getD-eq-default}
 use lib.Seq.{length-sets}
-use Rattle.lists.specs.Lists.{from, joined}
+use lib.Dec.{eqb}
+use Rattle.lists.specs.Lists.{from, joined, has}
 use Rattle.lists.proofs.ListsLaws.{from-end, joined-step}
 use Rattle.kinds.specs.Kinds.{numbered, seenAs, kindOf}
 use Rattle.kinds.specs.declared.Kind.{Kind}
 use Rattle.kinds.specs.declared.Kind.the-variants.{Composite}
 use Rattle.kinds.specs.declared.Seen.{Seen}
 use Rattle.kinds.specs.declared.Seen.the-variants.{Known, Kept, Unknown}
-use Rattle.text.specs.Text.{written, placeAfter}
+use Rattle.kinds.specs.declared.answers.Refusal.{Refusal}
+use Rattle.text.specs.Text.{written, placeAfter, numeral}
 use Rattle.text.proofs.TextLaws.{put-both, ToCome, begun, put-piece, ended}
-use Rattle.lines.specs.Lines.{nameOf, Puts}
+use Rattle.lines.specs.Lines.{ascii, nameOf, againstText, Puts}
 
 module _ {t mid u xs ys : List ℕ} {at b m : ℕ} where
   -- Two parts, one after the other.
@@ -60,6 +63,26 @@ module _ (f : ℕ → List ℕ) (q n : ℕ) {t bs out : List ℕ} {at next : ℕ
 -- What a function of crate text leaves.
 pub put : (bs : List ℕ) {t u : List ℕ} {at m : ℕ} → (m ≡ placeAfter t at (length bs)) × (u ≡ written t at bs) → Puts t at bs u m
 put bs e = record { place = e .0; buffer = e .1 }
+
+-- A number that tells of two records that meet, by the three tests of it; the earlier record is put, or nothing.
+module _ (x : Refusal) where
+  abbrev meets : Bool
+  meets = (eqb (x .number) 13 || eqb (x .number) 22) || eqb (x .number) 23
+
+  meets-has : has (x .number) (13 ∷ 22 ∷ 23 ∷ []) ≡ meets
+  meets-has = by-tests (eqb (x .number) 13) (eqb (x .number) 22) (eqb (x .number) 23)
+    where
+      by-tests : (a b c : Bool) → (a || (b || (c || false))) ≡ ((a || b) || c)
+      by-tests true b c = refl
+      by-tests false true c = refl
+      by-tests false false true = refl
+      by-tests false false false = refl
+
+  pub against-named : meets ≡ true → ascii " against " ++ numeral (x .earlier) ≡ againstText x
+  against-named h = rw (meets-has ∙ h)
+
+  pub against-none : meets ≡ false → [] ≡ againstText x
+  against-none h = rw (meets-has ∙ h)
 
 -- A word of more than 8 bits is no kind.
 pub no-kind : (k : ℕ) → 256 ≤ k → Unknown ≡ seenAs k

@@ -8,9 +8,10 @@ use mathlib.Core.Path.{_≡_}
 use Prim.Native.Nat.{ℕ}
 use Prim.Native.Char.{code}
 use Prim.Native.String.{String, [] as none, _∷_ as _and_}
+use mathlib.Core.Bool.{cond}
 use mathlib.Core.List.{List, [], _∷_, _++_}
 use lib.ListN.{length}
-use Rattle.lists.specs.Lists.{from, joined}
+use Rattle.lists.specs.Lists.{from, joined, has}
 use Rattle.kinds.specs.declared.Kind.{Kind}
 use Rattle.kinds.specs.declared.Kind.the-variants.{Composite, And, Or, Not, Nand, Nor, Xor, Switch, Input, Output, Splitter, Joiner, Clock, Const}
 use Rattle.kinds.specs.declared.answers.Refusal.{Refusal}
@@ -65,9 +66,13 @@ wiresText T = ascii "wires " ++ numeral (T .counts .wires) ++ ascii "\n" ++ join
 abbrev pub roundLine : ℕ → List ℕ → List ℕ
 roundLine r xs = ascii "round " ++ numeral r ++ ascii " next" ++ spaced xs ++ ascii "\n"
 
--- A refused file: what and where.
+-- The earlier record of two that meet: "`against` for these three numbers only".
+abbrev pub againstText : Refusal → List ℕ
+againstText x = cond (has (x .number) (13 ∷ 22 ∷ 23 ∷ [])) (ascii " against " ++ numeral (x .earlier)) []
+
+-- A refused file: what, where, and against which record.
 abbrev pub refusedLine : Refusal → List ℕ
-refusedLine x = ascii "refused " ++ numeral (x .number) ++ ascii " at " ++ numeral (x .position) ++ ascii "\n"
+refusedLine x = ascii "refused " ++ numeral (x .number) ++ ascii " at " ++ numeral (x .position) ++ againstText x ++ ascii "\n"
 
 -- What the function of a part promises: u is the buffer t with the bytes bs from a place on, and m is the place after them. What has
 -- no room is left out.

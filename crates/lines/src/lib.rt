@@ -7,7 +7,7 @@ ghost use Rattle.kinds.specs.Kinds.{seenAs, kindOf};
 ghost use Rattle.tables.specs.Tables.{tablesOf, countsOf};
 ghost use Rattle.tables.specs.Words.{fieldsIn, idIn};
 ghost use Rattle.text.specs.Text.{numeral};
-ghost use Rattle.lines.specs.Lines.{nameOf, componentLine, componentsText, wireLine, wiresText, roundLine, refusedLine, Puts};
+ghost use Rattle.lines.specs.Lines.{nameOf, componentLine, componentsText, wireLine, wiresText, roundLine, againstText, refusedLine, Puts};
 use kinds::Kind;
 use kinds::Refusal;
 use kinds::Seen;
@@ -153,12 +153,26 @@ pub fn put_round(out: &mut [u8], at: usize, round: u64, current: &[u16], count: 
     text::put(out, listed, b'\n')
 }
 
-// The line of a refused file: what and where.
+// The earlier record of two that meet; nothing where the number tells of no meeting.
+fn put_against(out: &mut [u8], at: usize, refusal: Refusal) -> usize
+    ensures { λ r. ⌜ Puts (now (out .entry)) at (againstText refusal) (now (out .exit)) r ⌝ }
+{
+    let number = refusal.number;
+    if (number == 13) | (number == 22) | (number == 23) {
+        let named = text::put_bytes(out, at, b" against ");
+        return text::put_number(out, named, refusal.earlier as u64);
+    }
+    text::put_bytes(out, at, b"")
+}
+
+// The line of a refused file: what, where, and against which record.
 pub fn put_refused(out: &mut [u8], at: usize, refusal: Refusal) -> usize
     ensures { λ r. ⌜ Puts (now (out .entry)) at (refusedLine refusal) (now (out .exit)) r ⌝ }
 {
     let named = text::put_bytes(out, at, b"refused ");
     let numbered = text::put_number(out, named, refusal.number as u64);
     let parted = text::put_bytes(out, numbered, b" at ");
-    put_ended(out, parted, refusal.position as u64, b'\n')
+    let placed = text::put_number(out, parted, refusal.position as u64);
+    let told = put_against(out, placed, refusal);
+    text::put(out, told, b'\n')
 }

@@ -10,7 +10,7 @@ use native.Mathlib.Omega.{arith}
 use borrow.Author.Tests.{ltb-false}
 use lib.ListN.{length, length-append}
 use lib.Dec.{ltb}
-use Rattle.lists.specs.Lists.{from, joined}
+use Rattle.lists.specs.Lists.{from, joined, has}
 use Rattle.lists.proofs.ListsLaws.{every-from}
 use Rattle.lists.proofs.TestsLaws.{and-left}
 use Rattle.lists.proofs.MembersLaws.{In}
@@ -18,6 +18,7 @@ use Rattle.value.specs.Value.{below}
 use Rattle.value.proofs.ValueLaws.{below-lt}
 use Rattle.kinds.specs.declared.Kind.{Kind}
 use Rattle.kinds.specs.declared.Kind.the-variants.{Composite, And, Or, Not, Nand, Nor, Xor, Switch, Input, Output, Splitter, Joiner, Clock, Const}
+use Rattle.kinds.specs.declared.answers.Refusal.{Refusal}
 use Rattle.kinds.specs.Kinds.{kindOf}
 use Rattle.component.specs.Record.{IsBytes}
 use Rattle.component.specs.declared.Verdict.{Verdict}
@@ -33,7 +34,7 @@ use Rattle.simulator.specs.Calls.{roundTables}
 use Rattle.simulator.proofs.Kept.{roundTables-net}
 use Rattle.rounds.proofs.Sound.{net-sound, net-within, wire-in}
 use Rattle.text.specs.Text.{placeAfter, numeralOf, numeral, spaced}
-use Rattle.lines.specs.Lines.{nameOf, componentLine, wireLine, componentsText, wiresText, roundLine}
+use Rattle.lines.specs.Lines.{ascii, nameOf, componentLine, wireLine, componentsText, wiresText, roundLine, againstText}
 use Rattle.running.specs.Running.{ending, roundLines}
 use Rattle.listing.specs.Listing.{fresh, listedText, listing}
 use Rattle.listing.proofs.LoadedLaws.{loaded-number}
@@ -191,6 +192,13 @@ rounds-few (suc k) r T z h =
     by-calm true xs l = omega arith
     by-calm false xs l = l
 
+against-few : (x : Refusal) → length (againstText x) ≤ 9 + length (numeral (x .earlier))
+against-few x = by-number (has (x .number) (13 ∷ 22 ∷ 23 ∷ []))
+  where
+    by-number : (b : Bool) → length (cond b (ascii " against " ++ numeral (x .earlier)) []) ≤ 9 + length (numeral (x .earlier))
+    by-number true = simp length-append (omega arith)
+    by-number false = omega arith
+
 -- Every listing.
 pub listing-few : (file : List ℕ) → IsBytes file → length (listing file) ≤ 65536
 unfolding listing
@@ -208,6 +216,8 @@ listing-few file bytes = by-verdict (loadVerdict file fresh) refl
     by-verdict (Refused x) e =
         let a = numeral-most (x .number) in
         let b = numeral-most (x .position) in
+        let d = against-few x in
+        let f = numeral-most (x .earlier) in
         simp length-append (omega arith)
 
 -- So a buffer of that size holds all of it: nothing is left out.

@@ -19,6 +19,8 @@ use Rattle.component.specs.Record.{recordAt, recordCount}
 use Rattle.flatten.specs.Verdict.{sized, refused, verdict}
 use Rattle.flatten.proofs.Accepted.{refused-not, accepted-passed}
 use Rattle.flatten.proofs.WireTheorems.{accepted-primitives-bound, accepted-inputs-bound}
+use Rattle.meeting.specs.Meeting.{judgement}
+use Rattle.meeting.proofs.MeetingLaws.{judgement-accepted}
 use Rattle.tables.specs.declared.Answer.the-variants.{Done, Refused as Declined}
 use Rattle.tables.specs.declared.Counts.{Counts}
 use Rattle.tables.specs.Tables.{Tables, tablesOf, fullSize, wireWords}
@@ -119,9 +121,9 @@ pub load-passed : (file : List ℕ) (T : Tables) → loadVerdict file T ≡ Acce
 unfolding loadVerdict
 load-passed file T accepted = by-size (sized file) (fullSize T) refl accepted
   where
-    by-size : (b c : Bool) → fullSize T ≡ c → cond b (cond c (verdict file) (refused 2 0)) (refused 1 0) ≡ Accepted
+    by-size : (b c : Bool) → fullSize T ≡ c → cond b (cond c (judgement file) (refused 2 0)) (refused 1 0) ≡ Accepted
         → IsLoad file T
-    by-size true true s e = record { full = s; judged = e }
+    by-size true true s e = record { full = s; judged = judgement-accepted file e }
     by-size true false s e = absurd (refused-not 2 0 e)
     by-size false c s e = absurd (refused-not 1 0 e)
 
@@ -139,7 +141,7 @@ module _ (s cs is os ws cur fol std : List ℕ) where
     unfolding loadVerdict
     judge-short e r d m = rw (sz, e m, d)
 
-    pub judge-file : ((m : Counts) → fullSize (lent m) ≡ true) → (v : Verdict) → v ≡ verdict s → (m : Counts)
+    pub judge-file : ((m : Counts) → fullSize (lent m) ≡ true) → (v : Verdict) → v ≡ judgement s → (m : Counts)
         → v ≡ loadVerdict s (lent m)
     unfolding loadVerdict
     judge-file full v e m = rw (sz, full m, e)

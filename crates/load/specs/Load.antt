@@ -10,7 +10,8 @@ use Rattle.component.specs.declared.Verdict.{Verdict}
 use Rattle.component.specs.declared.Verdict.the-variants.{Accepted, Refused}
 use Rattle.component.specs.Record.{recordAt, recordCount, fieldsOf}
 use Rattle.component.specs.Drawing.{inputsBefore, outputsBefore}
-use Rattle.flatten.specs.Verdict.{sized, refused, verdict, verdictGives}
+use Rattle.flatten.specs.Verdict.{sized, refused, verdictGives}
+use Rattle.meeting.specs.Meeting.{judgement}
 use Rattle.tables.specs.declared.Answer.{Answer}
 use Rattle.tables.specs.Tables.{Tables, wireWords, countsOf, tablesOf, fullSize, answerGives, Changes}
 use Rattle.laying.specs.Laid.{primitives, primitiveWords, flatWires, standingAtLoad}
@@ -27,7 +28,7 @@ drawingTables at n T =
 
 -- The verdict of a load: check 2 stands between 1 and 3.
 unfoldable pub loadVerdict : List ℕ → Tables → Verdict
-loadVerdict file T = cond (sized file) (cond (fullSize T) (verdict file) (refused 2 0)) (refused 1 0)
+loadVerdict file T = cond (sized file) (cond (fullSize T) (judgement file) (refused 2 0)) (refused 1 0)
 
 -- The tables after a load, counts included: a refusal changes none.
 abbrev pub tablesBy : Verdict → Tables → Tables → Tables

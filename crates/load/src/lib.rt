@@ -93,7 +93,7 @@ pub fn judge_load(
     ) {
         return Verdict::Refused(refused_by(2));
     }
-    flatten::judge_indexed(file, index)
+    meeting::judge_indexed(file, index)
 }
 
 // Loads a drawing file into the tables: judges the load, and writes the tables of an accepted drawing. Counts are not handed in: a

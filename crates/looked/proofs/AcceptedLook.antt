@@ -23,7 +23,7 @@ use Rattle.component.specs.Record.{recordAt, recordCount, ownedAs}
 use Rattle.component.specs.Reading.{formOf, ownerOf, idOf}
 use Rattle.component.specs.Drawing.{deepest}
 use Rattle.flatten.specs.Verdict.{sized, refused}
-use Rattle.flatten.proofs.Accepted.{Passed, refused-not, accepted-passed}
+use Rattle.flatten.proofs.Accepted.{Passed, not-accepted, refused-not, accepted-passed}
 use Rattle.flatten.proofs.DescentLeads.{source-sound}
 use Rattle.tables.specs.Tables.{Tables}
 use Rattle.load.specs.Load.{loadVerdict}
@@ -46,7 +46,7 @@ look-as-load file T path ns ws h k r e =
 
 -- Accepted after both: each has passed.
 andThen-passed : (v : Verdict) (k : ℕ) → andThen v k ≡ Accepted → (v ≡ Accepted) × (k ≡ 0)
-andThen-passed (Refused r) k e = absurd (refused-not (r .number) (r .position) e)
+andThen-passed (Refused r) k e = absurd (not-accepted r e)
 andThen-passed Accepted k e = by-number (eqb k 0) refl e
   where
     by-number : (b : Bool) → eqb k 0 ≡ b → cond b Accepted (Refused (refusedBy k)) ≡ Accepted → (Accepted ≡ Accepted) × (k ≡ 0)

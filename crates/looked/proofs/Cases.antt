@@ -14,6 +14,7 @@ use Rattle.component.specs.Drawing.{deepest}
 use Rattle.component.proofs.Drawings.{lamp, lampTwice}
 use Rattle.flatten.specs.Descent.{outputBelow, inputsBelow, comesFrom, goesTo}
 use Rattle.flatten.specs.Verdict.{verdict, verdictGives}
+use Rattle.meeting.specs.Meeting.{judgement}
 use Rattle.tables.specs.Tables.{Tables, fullSize}
 use Rattle.load.specs.Load.{drawingTables, loadVerdict, loadTables}
 use Rattle.net.specs.Net.{countsWithin, kindsObeyed, idsDistinct, portsFollow, valuesFit, constsHeld, wiresFit, inputsOnce, names, isNet, netNumber}
@@ -54,8 +55,12 @@ lampCalm = roundTables (roundTables lampLoaded 0) 0
 abbrev ports : ℕ → ℕ → List ℕ → List ℕ → Seen
 ports i o ns ws = record { given = done (i ∷ o ∷ []); numbers = ns; widths = ws }
 
+abbrev refusedAgainst : ℕ → ℕ → ℕ → Seen
+refusedAgainst k p q =
+    record { given = declined (record { number = k; position = p; earlier = q }); numbers = 7 ∷ 7 ∷ 7 ∷ []; widths = 7 ∷ 7 ∷ 7 ∷ [] }
+
 abbrev refusedAs : ℕ → ℕ → Seen
-refusedAs k p = record { given = declined (record { number = k; position = p }); numbers = 7 ∷ 7 ∷ 7 ∷ []; widths = 7 ∷ 7 ∷ 7 ∷ [] }
+refusedAs k p = refusedAgainst k p 0
 
 -- What each look shows, or the number and position of its refusal.
 pub looks-hold :
@@ -81,7 +86,7 @@ pub looks-hold :
     × (looking boxed lampLoaded (20 ∷ []) ≡ refusedAs 20 0)
     × (looking boxedOnce lampLoaded (20 ∷ []) ≡ refusedAs 20 0)
     -- A file that a load refuses.
-    × (looking lampTwice lampLoaded (3 ∷ []) ≡ refusedAs 13 9)
+    × (looking lampTwice lampLoaded (3 ∷ []) ≡ refusedAgainst 13 9 6)
     -- A list of 255 words, either one; also with a file that a load refuses.
     × (lookingBy 255 256 lamp lampLoaded (3 ∷ []) ≡ refusedAs 2 0)
     × (lookingBy 256 255 lampTwice lampLoaded (3 ∷ []) ≡ refusedAs 2 0)
@@ -90,5 +95,5 @@ pub looks-hold :
     -- An empty file, also with short lists.
     × (looking [] lampLoaded [] ≡ refusedAs 1 0)
     × (lookingBy 255 255 [] lampLoaded [] ≡ refusedAs 1 0)
-unfolding loadTables loadVerdict drawingTables verdict overlay fullSize deepest obeys outputBelow inputsBelow comesFrom goesTo roundTables netNumber isNet countsWithin kindsObeyed idsDistinct portsFollow valuesFit constsHeld wiresFit inputsOnce names roundOf leave round visit evaluated send outputsAfter functionOf appendNew strike editTables editNumber editedState portSet matched dangling shown lookNumber lookVerdict
+unfolding loadTables loadVerdict drawingTables judgement verdict overlay fullSize deepest obeys outputBelow inputsBelow comesFrom goesTo roundTables netNumber isNet countsWithin kindsObeyed idsDistinct portsFollow valuesFit constsHeld wiresFit inputsOnce names roundOf leave round visit evaluated send outputsAfter functionOf appendNew strike editTables editNumber editedState portSet matched dangling shown lookNumber lookVerdict
 looks-hold = (refl, refl, refl, refl, refl, refl, refl, refl, refl, refl, refl, refl, refl, refl, refl, refl, refl, refl, refl)

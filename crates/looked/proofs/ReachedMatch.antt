@@ -16,6 +16,7 @@ use Rattle.flatten.proofs.Accepted.{accepted-sized}
 use Rattle.tables.specs.Tables.{Tables, wireWords}
 use Rattle.tables.proofs.SameLaws.{SameWiring}
 use Rattle.laying.specs.Laid.{primitives, primitiveWords, flatWires}
+use Rattle.meeting.proofs.MeetingLaws.{accepted-judgement}
 use Rattle.load.specs.Load.{drawingTables, loadVerdict, loadTables}
 use Rattle.load.proofs.LoadLaws.{load-passed}
 use Rattle.loaded.proofs.LoadNet.{load-loaded}
@@ -75,7 +76,7 @@ look-reached file ran t T r =
             le-ltb (length ns) 256 h,
             le-ltb (length ws) 256 k,
             netNumber-full T z,
-            judged,
+            accepted-judgement file judged,
             netNumber-isNet T z,
             m,
           ),

@@ -139,7 +139,7 @@ module _ (f : Fields) (xs vs ys ws : List ℕ) where
 
   -- The outcome of a refusal: the outputs are as they were.
   module _ (n : ℕ) (e : n ≡ evaluateNumber f xs vs ys ws) (h : n ≡ 0 → ⊥) where
-    pub refused-answer : evaluatedGives (Refused (record { number = n; position = 0 })) ≡ giving (evaluateNumber f xs vs ys ws) []
+    pub refused-answer : evaluatedGives (Refused (record { number = n; position = 0; earlier = 0 })) ≡ giving (evaluateNumber f xs vs ys ws) []
     refused-answer = rw (← e, ne-eqb n 0 h)
 
     pub refused-outputs : (t : ℕ) → ys ≡ evaluateOutputs f xs vs ys ws t

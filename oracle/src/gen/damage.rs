@@ -5,11 +5,11 @@
 use super::drawing::{blank, file_of};
 use super::random::Random;
 use crate::plain::drawing::{Drawing, Port, Record, COMPONENT, CONNECTION, INPUT_MAP, OUTPUT_MAP};
-use crate::plain::judge::judge;
+use crate::plain::judge::{judge, CONNECTION_AND_MAP, RECORDS_MAX, TWO_CONNECTIONS, TWO_MAPS};
 use crate::plain::kinds::PERIOD_MAX;
 
 /// The numbers that damage aims at, those that are often missed more than once.
-const AIMS: [u64; 19] = [1, 3, 4, 5, 5, 6, 7, 8, 9, 10, 11, 11, 12, 13, 13, 14, 15, 15, 15];
+const AIMS: [u64; 22] = [1, 3, 4, 5, 5, 6, 7, 8, 9, 10, 11, 11, 12, 13, 14, 15, 15, 15, 22, 22, 23, 23];
 
 /// A damaged file, with one fault or two.
 pub fn damaged(random: &mut Random, mut records: Vec<Record>) -> Vec<u8> {
@@ -38,7 +38,7 @@ fn damage(random: &mut Random, records: &mut Vec<Record>, aim: u64) {
         10 => repeat_id(random, records),
         11 => too_many_ports(random, records),
         12 => damage_place(random, records),
-        13 => enter_twice(random, records),
+        TWO_CONNECTIONS | CONNECTION_AND_MAP | TWO_MAPS => meetings(random, records, aim),
         14 => damage_outputs(random, records),
         15 => damage_width(random, records),
         _ => {}
@@ -228,28 +228,77 @@ fn damage_place(random: &mut Random, records: &mut Vec<Record>) {
     *field = if random.once_in(8) { 65_535 } else { field.saturating_add(more) };
 }
 
-/// Aims at 13: an input is entered again, from the same place or another.
-fn enter_twice(random: &mut Random, records: &mut Vec<Record>) {
-    let entering = positions(records, |record| record.kind == CONNECTION || record.kind == INPUT_MAP);
-    if entering.is_empty() || records.len() >= 1_024 {
+/// Aims at 13, 22 or 23: two records that meet; now and then more of any kinds, of
+/// which the first in file order decides.
+fn meetings(random: &mut Random, records: &mut Vec<Record>, aim: u64) {
+    meet(random, records, aim);
+    for _ in 0..random.pick(&[0, 0, 1, 3]) {
+        let other =
+            random.pick(&[TWO_CONNECTIONS, CONNECTION_AND_MAP, CONNECTION_AND_MAP, TWO_MAPS, TWO_MAPS]);
+        meet(random, records, other);
+    }
+}
+
+/// An input that is entered is entered again, now and then twice.
+fn meet(random: &mut Random, records: &mut Vec<Record>, aim: u64) {
+    let (entered, entering) = match (aim, random.below(2)) {
+        (TWO_CONNECTIONS, _) => (CONNECTION, CONNECTION),
+        (TWO_MAPS, _) => (INPUT_MAP, INPUT_MAP),
+        (_, 0) => (CONNECTION, INPUT_MAP),
+        _ => (INPUT_MAP, CONNECTION),
+    };
+    let entered = positions(records, |record| record.kind == entered);
+    if entered.is_empty() {
         return;
     }
-    let at = random.pick(&entering);
-    let mut copy = records[at];
-    let same_list = positions(records, |record| record.kind == copy.kind && record.owner == copy.owner);
-    let other = records[random.pick(&same_list)];
-    if random.once_in(2) {
-        (copy.a, copy.b) = (other.a, other.b);
+    let entered = records[random.pick(&entered)];
+    for _ in 0..random.pick(&[1, 1, 1, 2]) {
+        enter(random, records, &entered, entering);
     }
-    if copy.kind == CONNECTION && random.once_in(3) {
-        let maps = positions(records, |record| record.kind == INPUT_MAP && record.owner == copy.owner);
-        if !maps.is_empty() {
-            let map = random.pick(&maps);
-            (records[map].c, records[map].d) = (copy.c, copy.d);
-            return;
-        }
+}
+
+/// Puts in a record of a kind that enters the input of another record, from the same
+/// place or any, before or behind it; or leads one to it that is there.
+fn enter(random: &mut Random, records: &mut Vec<Record>, entered: &Record, kind: u8) {
+    let (owner, c, d) = (entered.owner, entered.c, entered.d);
+    let list = positions(records, |record| (record.kind, record.owner) == (kind, owner));
+    let others: Vec<usize> =
+        list.iter().copied().filter(|at| (records[*at].c, records[*at].d) != (c, d)).collect();
+    let full = records.len() >= RECORDS_MAX;
+    if !others.is_empty() && (full || random.once_in(4)) {
+        let moved = random.pick(&others);
+        (records[moved].c, records[moved].d) = (c, d);
+        return;
     }
-    records.insert(random.pick(&same_list) + 1, copy);
+    let origins = origins(records, kind, owner);
+    if full || origins.is_empty() {
+        return;
+    }
+    let (a, b) = match entered.kind == kind && random.once_in(3) {
+        true => (entered.a, entered.b),
+        false => random.pick(&origins),
+    };
+    let first = records.iter().position(|record| (record.kind, record.owner) >= (kind, owner));
+    let first = first.unwrap_or(records.len()) as u64;
+    let place = random.between(first, first + list.len() as u64) as usize;
+    records.insert(place, Record { owner, a, b, c, d, ..blank(kind) });
+}
+
+/// What a record of a kind may lead from below an owner, as its A and B: the owner's
+/// inputs, or the outputs of its children.
+fn origins(records: &[Record], kind: u8, owner: u16) -> Vec<(u16, u16)> {
+    let drawing = Drawing::new(records.to_vec());
+    let Some(holder) = drawing.component(owner as usize) else {
+        return vec![];
+    };
+    if kind == INPUT_MAP {
+        return (0..holder.a).map(|input| (input, 0)).collect();
+    }
+    let children = drawing.children[owner as usize].iter().enumerate();
+    let outputs = |(child, number): (usize, &usize)| {
+        (0..records[*number].b).map(move |output| (child as u16, output)).collect::<Vec<_>>()
+    };
+    children.flat_map(outputs).collect()
 }
 
 /// Aims at 14: an output map more or less, or another number of outputs.
@@ -294,7 +343,7 @@ fn damage_width(random: &mut Random, records: &mut [Record]) {
 /// where the drawing is damaged already.
 fn unequal_sources(records: &[Record]) -> Vec<(usize, u16, u16)> {
     let mut found = vec![];
-    if judge(&file_of(records)) != (0, 0) {
+    if judge(&file_of(records)).is_err() {
         return found;
     }
     let drawing = Drawing::new(records.to_vec());

@@ -7,8 +7,14 @@ use super::Stream;
 use crate::command::Command;
 use std::io::{Result, Write};
 
+/// A file to judge, one in four by the host's two calls as well.
 pub fn one<W: Write>(random: &mut Random, stream: &mut Stream<W>) -> Result<()> {
-    stream.put(Command::Judge(any_file(random)))
+    let file = any_file(random);
+    stream.put(Command::Judge(file.clone()))?;
+    if random.once_in(4) {
+        stream.put(Command::Host(file))?;
+    }
+    Ok(())
 }
 
 /// Three in ten accepted, six damaged, one noise.

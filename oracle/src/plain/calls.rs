@@ -1,22 +1,22 @@
 //! The numbers of loads, rounds, edits and questions: "2, 16, 17, 18, 19 in that
 //! order, as far as each applies". Those of looks are in `look`.
 
-use super::judge::{check_1, judge_records};
+use super::judge::{check_1, judge_records, Refusal, Verdict};
 use super::kinds::fits;
 use super::net::{entries, is_net, Entry};
 use crate::tables::{Tables, ANSWER, FULL_WORDS, WIRES};
 
-/// A load: checks 1, 2, 3 to 15. Number and position.
-pub fn load_number(tables: &Tables, file: &[u8]) -> (u64, u64) {
-    load_number_with(file, table_short(tables))
+/// A load: checks 1, 2, 3 to 15.
+pub fn load_verdict(tables: &Tables, file: &[u8]) -> Verdict {
+    load_verdict_with(file, table_short(tables))
 }
 
 /// The same, where it is known whether check 2 fails.
-pub fn load_number_with(file: &[u8], short: bool) -> (u64, u64) {
+pub fn load_verdict_with(file: &[u8], short: bool) -> Verdict {
     if check_1(file) {
-        (1, 0)
+        Err(Refusal::of(1))
     } else if short {
-        (2, 0)
+        Err(Refusal::of(2))
     } else {
         judge_records(file)
     }

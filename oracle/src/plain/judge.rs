@@ -2,18 +2,63 @@
 //!
 //! Each `check_n` says whether the record at a position fails check n. It may
 //! lean on the checks before n having passed over all records, and on check n
-//! itself having passed at every earlier record.
+//! itself having passed at every earlier record. The check of 13 has three
+//! numbers and tells of two records, so it has a form of its own.
 
 use super::drawing::{records, Drawing, Record};
 use super::drawing::{COMPONENT, CONNECTION, DEPTH_MAX, INPUT_MAP, OUTPUT_MAP, RECORD_BYTES};
+use std::collections::HashMap;
 
 pub const RECORDS_MAX: usize = 1_024;
 pub const COMPONENTS_MAX: usize = 256;
 pub const SIDE_MAX: usize = 1_024;
 
+/// The numbers of two records that meet: "13 stays for two connections", "22
+/// connection and map, 23 two maps".
+pub const TWO_CONNECTIONS: u64 = 13;
+pub const CONNECTION_AND_MAP: u64 = 22;
+pub const TWO_MAPS: u64 = 23;
+/// All three.
+pub const MEETINGS: [u64; 3] = [TWO_CONNECTIONS, CONNECTION_AND_MAP, TWO_MAPS];
+
+/// Why a file, or a call that is lent one, is refused.
+#[derive(Clone, Copy, Debug, PartialEq)]
+pub struct Refusal {
+    pub number: u64,
+    /// The record that is refused; 0 where the number is about none.
+    pub position: u64,
+    /// "The answer also names the earlier record (0 for other numbers)".
+    pub earlier: u64,
+}
+
+impl Refusal {
+    /// A refusal that is about no record.
+    pub fn of(number: u64) -> Refusal {
+        Refusal::at(number, 0)
+    }
+
+    /// A refusal that is about one record.
+    pub fn at(number: u64, position: usize) -> Refusal {
+        Refusal { number, position: position as u64, earlier: 0 }
+    }
+
+    /// Number, position and earlier record, as a line has them.
+    pub fn words(&self) -> [u64; 3] {
+        [self.number, self.position, self.earlier]
+    }
+}
+
+/// Accepted, or refused.
+pub type Verdict = Result<(), Refusal>;
+
+/// A verdict's three numbers, all 0 where it is accepted.
+pub fn words(verdict: Verdict) -> [u64; 3] {
+    verdict.map_or_else(|refusal| refusal.words(), |()| [0, 0, 0])
+}
+
 type Check = fn(&Drawing, usize) -> bool;
 
-const CHECKS: [(u64, Check); 13] = [
+const CHECKS_3_TO_12: [(u64, Check); 10] = [
     (3, check_3),
     (4, check_4),
     (5, check_5),
@@ -24,15 +69,14 @@ const CHECKS: [(u64, Check); 13] = [
     (10, check_10),
     (11, check_11),
     (12, check_12),
-    (13, check_13),
-    (14, check_14),
-    (15, check_15),
 ];
 
-/// Number and position, check 2 not made.
-pub fn judge(file: &[u8]) -> (u64, u64) {
+const CHECKS_14_AND_15: [(u64, Check); 2] = [(14, check_14), (15, check_15)];
+
+/// The verdict on a file, check 2 not made.
+pub fn judge(file: &[u8]) -> Verdict {
     if check_1(file) {
-        return (1, 0);
+        return Err(Refusal::of(1));
     }
     judge_records(file)
 }
@@ -42,16 +86,22 @@ pub fn check_1(file: &[u8]) -> bool {
     file.is_empty() || !file.len().is_multiple_of(RECORD_BYTES) || file.len() / RECORD_BYTES > RECORDS_MAX
 }
 
-/// Checks 3 to 15, "each over all records in file order before the next begins".
-pub fn judge_records(file: &[u8]) -> (u64, u64) {
+/// Checks 3 to 15, "each over all records in file order before the next begins";
+/// 22 and 23 are "both made in the place of 13".
+pub fn judge_records(file: &[u8]) -> Verdict {
     let drawing = Drawing::new(records(file));
-    for (number, fails) in CHECKS {
-        let positions = 0..drawing.records.len();
-        if let Some(position) = positions.into_iter().find(|at| fails(&drawing, *at)) {
-            return (number, position as u64);
+    each_over_all(&drawing, &CHECKS_3_TO_12)?;
+    check_meetings(&drawing)?;
+    each_over_all(&drawing, &CHECKS_14_AND_15)
+}
+
+fn each_over_all(drawing: &Drawing, checks: &[(u64, Check)]) -> Verdict {
+    for (number, fails) in checks {
+        if let Some(position) = (0..drawing.records.len()).find(|at| fails(drawing, *at)) {
+            return Err(Refusal::at(*number, position));
         }
     }
-    (0, 0)
+    Ok(())
 }
 
 /// Check 3: record kind not 1-4; D not 0 in kind 1; in kinds 2-4 byte 1, id or
@@ -175,13 +225,26 @@ fn has_input(drawing: &Drawing, owner: u16, child: u16, port: u16) -> bool {
     component.is_some_and(|number| port < drawing.records[number].a)
 }
 
-/// Check 13: a kind 2 or 3 record enters a child's input that an earlier one entered.
-fn check_13(drawing: &Drawing, at: usize) -> bool {
-    let enters = |record: &Record| record.kind == CONNECTION || record.kind == INPUT_MAP;
-    let record = &drawing.records[at];
-    let place = (record.owner, record.c, record.d);
-    let same = |earlier: &Record| enters(earlier) && (earlier.owner, earlier.c, earlier.d) == place;
-    enters(record) && drawing.records[..at].iter().any(same)
+/// Checks 13, 22 and 23, which are one: "a kind 2 or 3 record enters a child's input
+/// that an earlier one entered". The first such record in file order decides, whatever
+/// the two are.
+fn check_meetings(drawing: &Drawing) -> Verdict {
+    let mut entered_by = HashMap::new();
+    for (position, record) in drawing.records.iter().enumerate() {
+        if record.kind != CONNECTION && record.kind != INPUT_MAP {
+            continue;
+        }
+        let input = (record.owner, record.c, record.d);
+        if let Some(earlier) = entered_by.insert(input, position) {
+            let number = match [drawing.records[earlier].kind, record.kind] {
+                [CONNECTION, CONNECTION] => TWO_CONNECTIONS,
+                [INPUT_MAP, INPUT_MAP] => TWO_MAPS,
+                _ => CONNECTION_AND_MAP,
+            };
+            return Err(Refusal { earlier: earlier as u64, ..Refusal::at(number, position) });
+        }
+    }
+    Ok(())
 }
 
 /// Check 14: composite's output maps differ in number from its outputs.

@@ -3,8 +3,9 @@
 //! "Technicians at the gate want the port values of a composite, named by the path
 //! of ids below the root (empty: the root itself)".
 
-use super::calls::{lent_short, load_number_with, table_short};
+use super::calls::{lent_short, load_verdict_with, table_short};
 use super::drawing::{records, Drawing, Id, Port, Record, COMPONENT, CONNECTION};
+use super::judge::Refusal;
 use super::net::{entries, is_net};
 use super::single::PortValue;
 use crate::tables::{Tables, COMPONENTS, INPUTS, NUMBERS, OUTPUTS, WIDTHS, WIRES};
@@ -16,19 +17,16 @@ pub struct Shown {
     pub outputs: Vec<PortValue>,
 }
 
-/// What is shown, or the number and the position of the refusal.
-pub fn look(tables: &Tables, file: &[u8], path: &[Id]) -> Result<Shown, (u64, u64)> {
+/// What is shown, or why the look is refused.
+pub fn look(tables: &Tables, file: &[u8], path: &[Id]) -> Result<Shown, Refusal> {
     let short = table_short(tables) || lent_short(tables, NUMBERS) || lent_short(tables, WIDTHS);
-    let refused = load_number_with(file, short);
-    if refused != (0, 0) {
-        return Err(refused);
-    }
+    load_verdict_with(file, short)?;
     if !is_net(tables) {
-        return Err((16, 0));
+        return Err(Refusal::of(16));
     }
     let drawing = Drawing::new(records(file));
-    let component = named(&drawing, path).filter(|_| matches(&drawing, tables)).ok_or((20, 0))?;
-    shown(&drawing, tables, component).ok_or((21, 0))
+    let component = named(&drawing, path).filter(|_| matches(&drawing, tables)).ok_or(Refusal::of(20))?;
+    shown(&drawing, tables, component).ok_or(Refusal::of(21))
 }
 
 /// The component that the path leads to: each id is that of a component with the

@@ -7,38 +7,66 @@ use crate::gen::drawing::{any_profile, drawing, file_of, running_profile};
 use crate::gen::judge::any_file;
 use crate::gen::random::Random;
 use crate::gen::rounds::step;
-use crate::plain::drawing::{records, Drawing, Record};
-use crate::plain::judge::judge;
+use crate::plain::drawing::{records, Drawing, Record, CONNECTION, INPUT_MAP};
+use crate::plain::judge::{judge, words, MEETINGS};
 use crate::plain::look::wire_words;
 use crate::plain::net::{broken, is_net};
 use crate::program::Program;
 use crate::tables::{Tables, COMPONENTS, FULL_WORDS, INPUTS, OUTPUTS, WIRES};
+use std::collections::HashSet;
 use std::panic::{catch_unwind, AssertUnwindSafe};
 
-/// Whether logix's `build` panics on an input that is entered twice.
-fn build_panics(file: &[u8]) -> bool {
-    let drawing = Drawing::new(records(file));
-    catch_unwind(AssertUnwindSafe(|| nested(&drawing, 0))).is_err()
+/// What logix's `build` says where it panics.
+fn build_panic(drawing: &Drawing) -> Option<String> {
+    let panic = catch_unwind(AssertUnwindSafe(|| nested(drawing, 0))).err()?;
+    Some(panic.downcast_ref::<String>().expect("it says why").clone())
 }
 
+/// What `build` says of an input that is entered twice, at the later of the two records.
+fn two_entries(drawing: &Drawing, later: &Record) -> String {
+    let id = drawing.records[later.owner as usize].id;
+    let from = match later.kind {
+        CONNECTION => format!("[{}; {}]", later.a, later.b),
+        _ => format!("input {}", later.a),
+    };
+    format!("[{id}] Input {} of comp {} has two entries (one from {from})", later.d, later.c)
+}
+
+/// How many records enter an input that an earlier one has entered.
+fn later_entries(drawing: &Drawing) -> usize {
+    let mut entered = HashSet::new();
+    let entering = drawing.records.iter().filter(|record| [CONNECTION, INPUT_MAP].contains(&record.kind));
+    entering.filter(|record| !entered.insert((record.owner, record.c, record.d))).count()
+}
+
+/// `build` goes composite by composite, inner ones first, so with one meeting alone it
+/// panics at the very record that is refused; with several, at one of them.
 #[test]
-fn build_panics_exactly_where_13_is_given() {
+fn build_panics_exactly_where_13_22_or_23_is_given() {
     let mut random = Random::new(13);
-    let (mut twice, mut once) = (0, 0);
-    while twice < 40 || once < 400 {
+    let (mut met, mut alone, mut once) = ([0; 3], [0; 3], 0);
+    for _ in 0..3_000 {
         let file = any_file(&mut random);
-        match judge(&file).0 {
-            13 => {
-                assert!(build_panics(&file));
-                twice += 1;
+        let drawing = Drawing::new(records(&file));
+        let [number, position, _] = words(judge(&file));
+        match MEETINGS.iter().position(|meeting| *meeting == number) {
+            Some(at) => {
+                let said = build_panic(&drawing).expect("a panic");
+                assert!(said.contains(" has two entries (one from "), "{said}");
+                met[at] += 1;
+                if later_entries(&drawing) == 1 {
+                    assert_eq!(said, two_entries(&drawing, &drawing.records[position as usize]));
+                    alone[at] += 1;
+                }
             }
-            0 | 14 | 15 => {
-                assert!(!build_panics(&file));
+            None if [0, 14, 15].contains(&number) => {
+                assert_eq!(build_panic(&drawing), None);
                 once += 1;
             }
-            _ => {}
+            None => {}
         }
     }
+    assert!(met.iter().chain(&alone).all(|files| *files > 20) && once > 400, "{met:?} {alone:?} {once}");
 }
 
 #[test]
@@ -162,7 +190,11 @@ fn any_bytes_get_an_answer() {
                 file[at] = random.pick(&[0, 1, 2, 3, 4, 255]);
             }
         }
-        let (number, position) = judge(&file);
-        assert!(number <= 15 && number != 2 && position < 1_024);
+        let [number, position, earlier] = words(judge(&file));
+        assert!(position < 1_024);
+        match MEETINGS.contains(&number) {
+            true => assert!(0 < earlier && earlier < position),
+            false => assert!(number <= 15 && number != 2 && earlier == 0),
+        }
     }
 }

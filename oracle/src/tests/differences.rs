@@ -1,7 +1,7 @@
 //! What logix does with the smallest inputs of docs/DIFFERENCES.md that it does
 //! not take as the plain coding does.
 
-use super::{component, connection, input_map, lamp, output_map, verdict};
+use super::{component, connection, input_map, lamp, output_map, told, verdict};
 use crate::engine::{nested, Engine};
 use crate::gen::drawing::file_of;
 use crate::plain::drawing::{Drawing, Id, Record};
@@ -49,6 +49,22 @@ fn an_input_map_of_an_input_that_is_not_there_leads_nowhere() {
     assert!(!panics(&records));
 }
 
+/// The smallest drawings in which records meet, four records each.
+#[test]
+fn two_entries_of_one_input_are_a_panic() {
+    let not = component(3, 0, 1, 1, 2);
+    let (wire, map) = (connection(0, (0, 0), (0, 0)), input_map(0, 0, (0, 0)));
+    for (number, records) in [
+        (13, [root(), not, wire, wire]),
+        (22, [component(0, 0, 1, 0, 1), not, wire, map]),
+        (23, [component(0, 0, 1, 0, 1), not, map, map]),
+    ] {
+        assert_eq!(told(&records), (number, 3, 2));
+        assert!(panics(&records));
+        assert!(!panics(&records[..3]));
+    }
+}
+
 #[test]
 fn too_many_output_maps_are_taken_and_never_asked_for() {
     assert_eq!(verdict(&boxed(1)), (0, 0));
@@ -85,7 +101,7 @@ fn first_port(component: &mut logix::primitive::PrimitiveComponent) -> &mut Data
 fn look_number(records: &[Record], path: &[Id]) -> u64 {
     let mut tables = Tables::new();
     Engine::of_drawing(&Drawing::new(records.to_vec())).write_net(&mut tables);
-    look(&tables, &file_of(records), path).map_or_else(|(number, _)| number, |_| 0)
+    look(&tables, &file_of(records), path).map_or_else(|refusal| refusal.number, |_| 0)
 }
 
 #[test]

@@ -1,6 +1,6 @@
 //! The lamp drawing and its cases.
 
-use super::{answer, connection, lamp, verdict};
+use super::{answer, connection, lamp, told};
 use crate::command::Command;
 use crate::gen::drawing::file_of;
 use crate::program::Program;
@@ -22,7 +22,7 @@ calm
 
 fn loaded_lamp() -> Program {
     let mut program = Program::new();
-    assert_eq!(answer(&mut program, Command::Load(file_of(&lamp()))), "load 0 0\n");
+    assert_eq!(answer(&mut program, Command::Load(file_of(&lamp()))), "load 0 0 0\n");
     program
 }
 
@@ -97,8 +97,8 @@ fn run_until_calm_gives_rounds_and_evaluations() {
 }
 
 #[test]
-fn a_second_entry_as_record_9_gives_13_at_9() {
+fn a_second_entry_as_record_9_gives_13_at_9_against_6() {
     let mut records = lamp();
     records.insert(9, connection(0, (1, 0), (2, 0)));
-    assert_eq!(verdict(&records), (13, 9));
+    assert_eq!(told(&records), (13, 9, 6), "(l)");
 }

@@ -1,6 +1,6 @@
 //! The command language: bad commands, counts, and what is lent.
 
-use super::{answer, lamp};
+use super::{answer, input_map, lamp};
 use crate::command::Command;
 use crate::gen::drawing::file_of;
 use crate::plain::drawing::Id;
@@ -19,6 +19,7 @@ fn bad_commands_end_the_program() {
     assert_eq!(printed(b"Q"), "bad command\n");
     assert_eq!(printed(b"CR\0\0\0"), "calm 0 1\nbad command\n");
     assert_eq!(printed(b"J\x05\0\0\0abc"), "bad command\n");
+    assert_eq!(printed(b"H\x05\0\0\0abc"), "bad command\n");
     assert_eq!(printed(b"CQC"), "calm 0 1\nbad command\n");
     let mut evaluate = vec![b'X', 7, 0, 0, 1, 0, 0, 0];
     evaluate.extend([0; 16]);
@@ -39,10 +40,34 @@ fn the_first_tables_are_an_empty_net_of_sevens() {
 
 #[test]
 fn a_long_file_is_read_to_its_end() {
-    let mut input = b"J\x40\x9c\0\0".to_vec();
-    input.extend(vec![1; 40_000]);
-    input.push(b'C');
-    assert_eq!(printed(&input), "judge 1 0\ncalm 0 1\n");
+    for (letter, line) in [(b'J', "judge 1 0 0"), (b'L', "load 1 0 0"), (b'H', "host 65536 4294967296")] {
+        let mut input = vec![letter, 0x40, 0x9c, 0, 0];
+        input.extend(vec![1; 40_000]);
+        input.push(b'C');
+        assert_eq!(printed(&input), format!("{line}\ncalm 0 1\n"));
+    }
+}
+
+#[test]
+fn the_earlier_record_stands_behind_the_position() {
+    let mut records = lamp();
+    records.insert(11, input_map(3, 1, (0, 0)));
+    let file = file_of(&records);
+    let mut bytes = vec![];
+    for command in [
+        Command::Judge(file.clone()),
+        Command::Load(file.clone()),
+        Command::Host(file.clone()),
+        Command::Keep(file),
+        Command::Look { path: vec![Id(3)] },
+        Command::Host(file_of(&lamp())),
+        Command::Host(vec![]),
+    ] {
+        command.write(&mut bytes);
+    }
+    let lines = "judge 23 11 9\nload 23 11 9\nhost 851979 98784968713\nlook 23 11 9 0 0\n\
+                 host 0 0\nhost 65536 4294967296\n";
+    assert_eq!(printed(&bytes), lines);
 }
 
 #[test]
@@ -67,9 +92,9 @@ fn a_short_table_is_2_before_16_and_after_1() {
         answer(&mut program, Command::Lend { table, words: 255 });
         assert_eq!(answer(&mut program, Command::Round { time: 0 }), "round 2 0\n");
         assert_eq!(answer(&mut program, Command::Sources { index: 0 }), "sources 2\n");
-        assert_eq!(answer(&mut program, Command::Load(vec![])), "load 1 0\n");
-        assert_eq!(answer(&mut program, Command::Load(vec![0; 24])), "load 2 0\n");
-        assert_eq!(answer(&mut program, Command::Judge(vec![0; 24])), "judge 3 0\n");
+        assert_eq!(answer(&mut program, Command::Load(vec![])), "load 1 0 0\n");
+        assert_eq!(answer(&mut program, Command::Load(vec![0; 24])), "load 2 0 0\n");
+        assert_eq!(answer(&mut program, Command::Judge(vec![0; 24])), "judge 3 0 0\n");
         answer(&mut program, Command::Lend { table, words: 65_535 });
     }
     assert_eq!(answer(&mut program, Command::Round { time: 0 }), "round 16 0\n");
@@ -171,13 +196,13 @@ fn of_a_long_file_30000_bytes_are_kept() {
     let mut input = b"F\x40\x9c\0\0".to_vec();
     input.extend(vec![1; 40_000]);
     input.extend(b"B\0\0C");
-    assert_eq!(printed(&input), "look 1 0 0 0\ncalm 0 1\n");
+    assert_eq!(printed(&input), "look 1 0 0 0 0\ncalm 0 1\n");
 }
 
 #[test]
 fn a_path_has_at_most_256_ids() {
     let path = |ids: u16| [&b"B"[..], &ids.to_le_bytes(), &vec![0; 4 * ids as usize], b"C"].concat();
-    assert_eq!(printed(&path(256)), "look 1 0 0 0\ncalm 0 1\n");
+    assert_eq!(printed(&path(256)), "look 1 0 0 0 0\ncalm 0 1\n");
     assert_eq!(printed(&path(257)), "bad command\n");
     assert_eq!(printed(b"B\x02\0\0\0\0\0"), "bad command\n");
     assert_eq!(printed(b"Y\x08\0\0\x01\0"), "bad command\n");
@@ -191,6 +216,7 @@ fn commands_are_read_as_written() {
     let mut bytes = vec![];
     let commands = [
         Command::Judge(vec![1, 2, 3]),
+        Command::Host(vec![1, 2, 3, 4]),
         Command::Round { time: u64::MAX - 3 },
         Command::Edit { index: 513, number: 1 << 63 },
         Command::Run { time: 5, limit: 258 },
@@ -208,7 +234,8 @@ fn commands_are_read_as_written() {
     for command in &commands {
         command.write(&mut bytes);
     }
-    let lines = "judge 1 0\nround 0 0\nedit 17 0\nrun 0 1 0\nindex 17 0\nvalue 17 0 0\n\
-                 look 2 0 0 0\nno table\nnet 0 0 0 0\n";
+    let lines =
+        "judge 1 0 0\nhost 65536 4294967296\nround 0 0\nedit 17 0\nrun 0 1 0\nindex 17 0\nvalue 17 0 0\n\
+                 look 2 0 0 0 0\nno table\nnet 0 0 0 0\n";
     assert_eq!(printed(&bytes), lines);
 }

@@ -1,8 +1,8 @@
 //! The boundaries of the checks.
 
-use super::{component, connection, input_map, lamp, output_map, verdict};
+use super::{component, connection, input_map, lamp, output_map, told, verdict};
 use crate::plain::drawing::Record;
-use crate::plain::judge::judge;
+use crate::plain::judge::{judge, Refusal};
 use crate::plain::kinds::PERIOD_MAX;
 
 /// A root and so many copies of a component below it, with ids of their own.
@@ -24,9 +24,9 @@ fn with_records(count: usize) -> Vec<Record> {
 
 #[test]
 fn a_file_has_1_to_1024_records() {
-    assert_eq!(judge(&[]), (1, 0));
-    assert_eq!(judge(&[1; 23]), (1, 0));
-    assert_eq!(judge(&[1; 25]), (1, 0));
+    for file in [&[1; 0][..], &[1; 23], &[1; 25]] {
+        assert_eq!(judge(file), Err(Refusal::of(1)));
+    }
     assert_eq!(verdict(&with_records(1_024)), (0, 0));
     assert_eq!(verdict(&with_records(1_025)), (1, 0));
 }
@@ -174,13 +174,19 @@ fn a_wire_has_one_width() {
 }
 
 #[test]
-fn a_map_and_a_connection_may_not_enter_one_input() {
-    let records = [
-        component(0, 0, 1, 0, 0),
-        component(7, 0, 0, 1, 1),
-        component(3, 0, 1, 1, 2),
-        connection(0, (0, 0), (1, 0)),
-        input_map(0, 0, (1, 0)),
-    ];
-    assert_eq!(verdict(&records), (13, 4));
+fn records_that_meet_may_be_the_first_and_the_last() {
+    let last = |count: usize, lines: &[Record]| {
+        let mut records = with_records(count);
+        records[0].a = 1;
+        records.extend(lines);
+        told(&records)
+    };
+    let (again, unlike) = (connection(0, (16, 0), (0, 0)), connection(0, (0, 0), (15, 44)));
+    let (beside, open) = (input_map(0, 0, (0, 0)), input_map(0, 0, (15, 63)));
+    assert_eq!(last(1_023, &[again]), (13, 1_023, 18));
+    assert_eq!(last(1_023, &[unlike]), (13, 1_023, 1_022));
+    assert_eq!(last(1_023, &[beside]), (22, 1_023, 18));
+    assert_eq!(last(1_022, &[open, open]), (23, 1_023, 1_022));
+    assert_eq!(last(1_022, &[open, beside]), (22, 1_023, 18));
+    assert_eq!(last(1_023, &[again, again]), (1, 0, 0), "a record too many");
 }

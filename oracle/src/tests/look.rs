@@ -9,6 +9,7 @@ use crate::gen::look::path_to;
 use crate::gen::random::Random;
 use crate::gen::tables::change_values;
 use crate::plain::drawing::{Drawing, Id, Record, COMPONENT};
+use crate::plain::judge::Refusal;
 use crate::plain::look::look;
 use crate::program::Program;
 use crate::tables::{INPUTS, NUMBERS, WIDTHS, WIRES};
@@ -19,7 +20,7 @@ use std::panic::{catch_unwind, AssertUnwindSafe};
 fn loaded(records: &[Record]) -> Program {
     let mut program = Program::new();
     let file = file_of(records);
-    assert_eq!(answer(&mut program, Command::Load(file.clone())), "load 0 0\n");
+    assert_eq!(answer(&mut program, Command::Load(file.clone())), "load 0 0 0\n");
     assert_eq!(answer(&mut program, Command::Keep(file)), "");
     program
 }
@@ -37,18 +38,18 @@ fn write(program: &mut Program, table: usize, place: u16, word: u64) {
 #[test]
 fn the_lamps_box_shows_its_nor() {
     let mut program = loaded(&lamp());
-    assert_eq!(looked(&mut program, &[3]), "look 0 0 2 1 0 1 0 1 0 1");
+    assert_eq!(looked(&mut program, &[3]), "look 0 0 0 2 1 0 1 0 1 0 1");
     answer(&mut program, Command::Run { time: 0, limit: 16 });
-    assert_eq!(looked(&mut program, &[3]), "look 0 0 2 1 0 1 0 1 1 1");
+    assert_eq!(looked(&mut program, &[3]), "look 0 0 0 2 1 0 1 0 1 1 1");
     answer(&mut program, Command::Edit { index: 1, number: 1 });
     for _ in 0..4 {
         answer(&mut program, Command::Run { time: 0, limit: 16 });
     }
-    assert_eq!(looked(&mut program, &[3]), "look 0 0 2 1 0 1 1 1 0 1");
-    assert_eq!(looked(&mut program, &[3, 4]), "look 0 0 2 1 0 1 1 1 0 1");
-    assert_eq!(looked(&mut program, &[2]), "look 0 0 0 1 1 1");
-    assert_eq!(looked(&mut program, &[5]), "look 0 0 1 1 0 1 0 1");
-    assert_eq!(looked(&mut program, &[]), "look 0 0 0 0");
+    assert_eq!(looked(&mut program, &[3]), "look 0 0 0 2 1 0 1 1 1 0 1");
+    assert_eq!(looked(&mut program, &[3, 4]), "look 0 0 0 2 1 0 1 1 1 0 1");
+    assert_eq!(looked(&mut program, &[2]), "look 0 0 0 0 1 1 1");
+    assert_eq!(looked(&mut program, &[5]), "look 0 0 0 1 1 0 1 0 1");
+    assert_eq!(looked(&mut program, &[]), "look 0 0 0 0 0");
 }
 
 #[test]
@@ -57,7 +58,7 @@ fn a_path_goes_by_ids_below_the_root() {
     for path in
         [&[100][..], &[100, 3], &[4], &[3, 3], &[3, 4, 4], &[3, 4, 100], &[5, 3], &[0], &[6], &[3; 256]]
     {
-        assert_eq!(looked(&mut program, path), "look 20 0 0 0", "{path:?}");
+        assert_eq!(looked(&mut program, path), "look 20 0 0 0 0", "{path:?}");
     }
 }
 
@@ -82,9 +83,9 @@ fn an_input_shows_what_its_maps_reach_last() {
     for (order, last) in [([0, 1, 2], 1), ([1, 0, 2], 0), ([2, 0, 1], 1), ([1, 2, 0], 0)] {
         let mut program = loaded(&fanned_out(order));
         write(&mut program, INPUTS, last, 1);
-        assert_eq!(looked(&mut program, &[11]), "look 0 0 1 1 1 1 0 1", "{order:?}");
-        assert_eq!(looked(&mut program, &[11, 13]), "look 21 0 0 0");
-        assert_eq!(looked(&mut program, &[11, 13, 14]).split(' ').nth(5), Some(["0", "1"][last as usize]));
+        assert_eq!(looked(&mut program, &[11]), "look 0 0 0 1 1 1 1 0 1", "{order:?}");
+        assert_eq!(looked(&mut program, &[11, 13]), "look 21 0 0 0 0");
+        assert_eq!(looked(&mut program, &[11, 13, 14]).split(' ').nth(6), Some(["0", "1"][last as usize]));
     }
 }
 
@@ -107,26 +108,26 @@ fn the_answer_is_laid_over_the_lists() {
 fn the_checks_come_in_their_order() {
     let dangling = [component(0, 0, 1, 0, 10), component(3, 0, 1, 1, 11)];
     let mut program = loaded(&dangling);
-    assert_eq!(looked(&mut program, &[]), "look 21 0 0 0");
-    assert_eq!(looked(&mut program, &[11]), "look 0 0 1 1 0 1 0 1");
+    assert_eq!(looked(&mut program, &[]), "look 21 0 0 0 0");
+    assert_eq!(looked(&mut program, &[11]), "look 0 0 0 1 1 0 1 0 1");
     let shorter = [dangling[0], component(3, 0, 1, 1, 12)];
     answer(&mut program, Command::Keep(file_of(&shorter)));
-    assert_eq!(looked(&mut program, &[]), "look 20 0 0 0", "20 before 21");
+    assert_eq!(looked(&mut program, &[]), "look 20 0 0 0 0", "20 before 21");
     write(&mut program, INPUTS, 0, 2);
-    assert_eq!(looked(&mut program, &[]), "look 16 0 0 0", "16 before 20");
+    assert_eq!(looked(&mut program, &[]), "look 16 0 0 0 0", "16 before 20");
     answer(&mut program, Command::Keep(file_of(&[dangling[0], component(3, 0, 2, 1, 12)])));
-    assert_eq!(looked(&mut program, &[]), "look 9 1 0 0", "9 before 16");
+    assert_eq!(looked(&mut program, &[]), "look 9 1 0 0 0", "9 before 16");
     for table in [0, 3, 6, NUMBERS, WIDTHS] {
         answer(&mut program, Command::Lend { table: table as u8, words: 255 });
-        assert_eq!(looked(&mut program, &[]), "look 2 0 0 0", "2 before 9");
+        assert_eq!(looked(&mut program, &[]), "look 2 0 0 0 0", "2 before 9");
         answer(&mut program, Command::Keep(vec![0; 25]));
-        assert_eq!(looked(&mut program, &[]), "look 1 0 0 0", "1 before 2");
+        assert_eq!(looked(&mut program, &[]), "look 1 0 0 0 0", "1 before 2");
         answer(&mut program, Command::Keep(vec![0; 24]));
         answer(&mut program, Command::Lend { table: table as u8, words: 65_535 });
-        assert_eq!(looked(&mut program, &[]), "look 3 0 0 0");
+        assert_eq!(looked(&mut program, &[]), "look 3 0 0 0 0");
     }
     answer(&mut program, Command::Lend { table: 7, words: 0 });
-    assert_eq!(looked(&mut program, &[]), "look 3 0 0 0", "the list of sources is not lent to a look");
+    assert_eq!(looked(&mut program, &[]), "look 3 0 0 0 0", "the list of sources is not lent to a look");
 }
 
 #[test]
@@ -138,35 +139,35 @@ fn only_components_and_wires_must_match() {
         answer(&mut program, Command::Keep(file_of(&records)));
         looked(&mut program, &[3])
     };
-    let shown = "look 0 0 2 1 0 1 0 1 0 1";
+    let shown = "look 0 0 0 2 1 0 1 0 1 0 1";
     assert_eq!(other(|records| records[0].id = 7), shown, "another id of the root");
     assert_eq!(other(|records| records.insert(6, component(0, 0, 0, 0, 9))), shown, "an empty box more");
-    assert_eq!(other(|records| records[3].id = 7), "look 20 0 0 0", "no box of id 3");
-    assert_eq!(other(|records| records[4].id = 7), "look 20 0 0 0", "another Nor");
-    assert_eq!(other(|records| records[4].component_kind = 1), "look 20 0 0 0", "an And for the Nor");
-    assert_eq!(other(|records| drop(records.drain(8..9))), "look 20 0 0 0", "a connection less");
-    assert_eq!(other(|records| records.swap(6, 7)), "look 20 0 0 0", "wires in another order");
+    assert_eq!(other(|records| records[3].id = 7), "look 20 0 0 0 0", "no box of id 3");
+    assert_eq!(other(|records| records[4].id = 7), "look 20 0 0 0 0", "another Nor");
+    assert_eq!(other(|records| records[4].component_kind = 1), "look 20 0 0 0 0", "an And for the Nor");
+    assert_eq!(other(|records| drop(records.drain(8..9))), "look 20 0 0 0 0", "a connection less");
+    assert_eq!(other(|records| records.swap(6, 7)), "look 20 0 0 0 0", "wires in another order");
     assert_eq!(
         other(|records| records.insert(6, component(7, 0, 0, 1, 9))),
-        "look 20 0 0 0",
+        "look 20 0 0 0 0",
         "a Switch more"
     );
     assert_eq!(other(|_| ()), shown);
     for (table, place, word) in [(0, 1, 9), (0, 16, 2), (WIRES, 0, 1)] {
         let mut program = loaded(&lamp());
         write(&mut program, table, place, word);
-        assert_eq!(looked(&mut program, &[3]), "look 20 0 0 0", "{table} {place}");
+        assert_eq!(looked(&mut program, &[3]), "look 20 0 0 0 0", "{table} {place}");
     }
 }
 
 #[test]
 fn an_empty_net_is_that_of_a_root_alone() {
     let mut program = Program::new();
-    assert_eq!(looked(&mut program, &[]), "look 1 0 0 0", "no file is kept at the start");
+    assert_eq!(looked(&mut program, &[]), "look 1 0 0 0 0", "no file is kept at the start");
     answer(&mut program, Command::Keep(file_of(&[component(0, 0, 0, 0, 1)])));
-    assert_eq!(looked(&mut program, &[]), "look 0 0 0 0");
+    assert_eq!(looked(&mut program, &[]), "look 0 0 0 0 0");
     answer(&mut program, Command::Keep(file_of(&[component(0, 0, 1, 0, 1)])));
-    assert_eq!(looked(&mut program, &[]), "look 21 0 0 0");
+    assert_eq!(looked(&mut program, &[]), "look 21 0 0 0 0");
 }
 
 /// Values of their own at every port, which fit.
@@ -205,7 +206,7 @@ fn logix_shows_what_the_plain_coding_shows() {
                     wide += shown.inputs.iter().chain(&shown.outputs).any(|port| port.width > 1) as u32;
                 }
                 Err(refused) => {
-                    assert_eq!(refused, (21, 0));
+                    assert_eq!(refused, Refusal::of(21));
                     assert!(plain.records[number].is_composite());
                     dangling += 1;
                 }

@@ -1,62 +1,12 @@
--- `check13`: the invariant: whether one of the records to come enters the input is the answer.
+-- `check13`: there is an earlier record.
 -- Assumes nothing.
-use mathlib.Core.Path.{_≡_}
-use Prim.Native.Nat.{_-_}
-use Rattle.lists.specs.Lists.{from, any}
-use Rattle.component.specs.Record.{recordAt}
-use Rattle.component.specs.Reading.{enters}
-use Rattle.component.specs.Drawing.{fails13}
-use Rattle.checks.proofs.ChecksLaws.{given-fails, given-passes, fails13-other, fails13-start}
-use Rattle.component.proofs.ScanLaws.{tested, scan-any-here, scan-any-next, scan-any-none}
+use Rattle.checks.proofs.ChecksLaws.{given-by, fails13-earlier}
 use borrow.Author.Needs.{needs}
 use Rattle.checks.proofs.check13.Statement.{statement}
 use Rattle.checks.proofs.check13.Tie as tie
 
-abbrev Inv-loop : tie.InvT-loop
-Inv-loop file p owner to input q₀ q =
-    any (tested file (enters owner (to .0) input)) (from q (p - q)) ≡ fails13 (recordAt file) p
-
-abbrev μ-loop : tie.MeasureT-loop
-μ-loop file p owner to input q₀ q = p - q
-
-returns : tie.Need-returns Inv-loop μ-loop
-returns c = search (given-passes, fails13-other)
-
-loop-holds : tie.Need-loop-holds Inv-loop μ-loop
-loop-holds c = search (fails13-start)
-
-returns-2 : tie.Need-returns-2 Inv-loop μ-loop
-returns-2 c =
-    let b = c .before .before .before .before .before in
-    let k = b .owner .given .0 in
-    search (given-fails, scan-any-here (b .before .before .before .before .args .file .now) (enters (k .0) (k .1 .0 .0) (k .1 .1 .0)))
-
-loop-again : tie.Need-loop-again Inv-loop μ-loop
-loop-again c =
-    let b = c .before .before .before .before .before in
-    let k = b .owner .given .0 in
-    search (scan-any-next (b .before .before .before .before .args .file .now) (enters (k .0) (k .1 .0 .0) (k .1 .1 .0)))
-
-returns-3 : tie.Need-returns-3 Inv-loop μ-loop
-returns-3 c =
-    let b = c .before .before .before in
-    let k = b .owner .given .0 in
-    search (given-passes, scan-any-none (b .before .before .before .before .args .file .now) (enters (k .0) (k .1 .0 .0) (k .1 .1 .0)))
+returns : tie.Need-returns
+returns c = search (given-by, fails13-earlier)
 
 pub check13-spec : {M : Type 1} → statement M
-check13-spec =
-    tie.close
-    (tie.spec
-    Inv-loop
-    μ-loop
-    (λ c κs. search needs)
-    (λ c. search needs)
-    (λ c. search needs)
-    returns
-    loop-holds
-    (λ c κs. search needs)
-    returns-2
-    (λ c. search needs)
-    (λ c. search needs)
-    loop-again
-    returns-3)
+check13-spec = tie.close (tie.spec (λ c κs. search needs) (λ c κs. search needs) returns)

@@ -2,8 +2,8 @@
 -- Assumes nothing.
 use mathlib.Core.Path.{sym, _∙_}
 use borrow.Author.Tests.{not-true, not-false}
-use Rattle.flatten.proofs.Accepted.{refused-not}
-use Rattle.flatten.proofs.JudgementLaws.{judges-verdict}
+use Rattle.flatten.proofs.Accepted.{not-accepted}
+use Rattle.meeting.proofs.MeetingLaws.{judges-judgement}
 use Rattle.load.proofs.LoadLaws.{judge-unsized, judge-short, judge-file}
 use borrow.Author.Needs.{needs}
 use Rattle.load.proofs.judge_load.Statement.{statement}
@@ -16,7 +16,7 @@ returns c =
       judge-unsized (a .file .now) (a .components .now) (a .inputs .now) (a .outputs .now) (a .wires .now) (a .current .now)
           (a .following .now) (a .standing .now)
           (sym (b .before .is-sized .ensures) ∙ not-true _ (b .if1 .taken)) _ (c .refused-by .ensures),
-      λ y. absurd (refused-not _ _ y),
+      λ y. absurd (not-accepted _ y),
     )
 
 returns-2 : tie.Need-returns-2
@@ -28,7 +28,7 @@ returns-2 c =
           (a .following .now) (a .standing .now)
           (sym (d .before .is-sized .ensures) ∙ not-false _ (d .if1 .left))
           (λ m. sym (b .before .full-size .ensures m) ∙ not-true _ (b .if2 .taken)) _ (c .refused-by2 .ensures),
-      λ y. absurd (refused-not _ _ y),
+      λ y. absurd (not-accepted _ y),
     )
 
 returns-3 : tie.Need-returns-3
@@ -40,7 +40,7 @@ returns-3 c =
     let z = sym (d .before .is-sized .ensures) ∙ not-false _ (d .if1 .left) in (
       judge-file (a .file .now) (a .components .now) (a .inputs .now) (a .outputs .now) (a .wires .now) (a .current .now)
           (a .following .now) (a .standing .now) z
-          (λ m. sym (e .before .full-size .ensures m) ∙ not-false _ (e .if2 .left)) _ (judges-verdict _ _ (j .judge-indexed .ensures .0)),
+          (λ m. sym (e .before .full-size .ensures m) ∙ not-false _ (e .if2 .left)) _ (judges-judgement _ _ (j .judge-indexed .ensures .0)),
       λ y. j .judge-indexed .ensures .1 z,
     )
 

@@ -3,7 +3,7 @@
 use Rattle.tables.specs.declared.Counts.{Counts}
 use Rattle.tables.specs.Tables.{Tables, tablesOf}
 use borrow.Author.Needs.{needs}
-use Rattle.flatten.proofs.Accepted.{refused-not}
+use Rattle.flatten.proofs.Accepted.{not-accepted}
 use Rattle.look.proofs.LookLaws.{own-lists, own-load}
 use Rattle.look.proofs.looking.judge_look.Statement.{statement}
 use Rattle.look.proofs.looking.judge_look.Tie as tie
@@ -20,7 +20,7 @@ returns c =
     let s = b .before .before .before .before .before .before .before .before .before .before .before .before .before in
     let a = s .args in (
       λ m. own-lists (a .file .now) (came s m) (a .numbers .now) (a .widths .now) _ (b .before .is-sized .ensures) (b .if1 .taken) _ (c .refused-by .ensures),
-      λ y. absurd (refused-not _ _ y),
+      λ y. absurd (not-accepted _ y),
     )
 
 returns-2 : tie.Need-returns-2

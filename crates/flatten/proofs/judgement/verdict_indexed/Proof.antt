@@ -1,9 +1,9 @@
--- `judge_indexed`: check 1, then the index holds what the later checks ask of it.
+-- `verdict_indexed`: check 1, then the index holds what the later checks ask of it.
 -- Assumes nothing.
 use Rattle.flatten.proofs.JudgementLaws.{sized-most, unsized, verdict-sized, verdict-judged}
 use borrow.Author.Needs.{needs}
-use Rattle.flatten.proofs.judgement.judge_indexed.Statement.{statement}
-use Rattle.flatten.proofs.judgement.judge_indexed.Tie as tie
+use Rattle.flatten.proofs.judgement.verdict_indexed.Statement.{statement}
+use Rattle.flatten.proofs.judgement.verdict_indexed.Tie as tie
 
 returns : tie.Need-returns
 returns c = (rw (c .refused-by .ensures) (search (verdict-sized)), λ z. absurd (search (unsized)))
@@ -17,8 +17,8 @@ judge-records-requires c κs = (c .before .before .before .fill-index .ensures, 
 returns-2 : tie.Need-returns-2
 returns-2 c = (search (verdict-judged), λ z. c .before .before .before .before .fill-index .ensures)
 
-pub judge-indexed-spec : {M : Type 1} → statement M
-judge-indexed-spec =
+pub verdict-indexed-spec : {M : Type 1} → statement M
+verdict-indexed-spec =
     tie.close
     (tie.spec
     (λ c κs. search needs)

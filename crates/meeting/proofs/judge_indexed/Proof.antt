@@ -1,0 +1,18 @@
+-- `judge_indexed`: the verdict, and what it is against.
+-- Assumes nothing.
+use Rattle.meeting.proofs.MeetingLaws.{judgement-judges}
+use borrow.Author.Needs.{needs}
+use Rattle.meeting.proofs.judge_indexed.Statement.{statement}
+use Rattle.meeting.proofs.judge_indexed.Tie as tie
+
+returns : tie.Need-returns
+returns c = (search (judgement-judges), λ z. c .before .before .before .verdict-indexed .ensures .1 z)
+
+pub judge-indexed-spec : {M : Type 1} → statement M
+judge-indexed-spec =
+    tie.close
+    (tie.spec
+    (λ c κs. search needs)
+    (λ c κs. search needs)
+    (λ c. search needs)
+    returns)

@@ -1,0 +1,2 @@
+pub mod SplitHolds
+pub mod MetHold
