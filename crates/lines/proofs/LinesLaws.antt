@@ -7,20 +7,15 @@ use Prim.Native.Nat.{ℕ, _+_, _-_, _≤_, _<_}
 use native.Mathlib.Nat.{sub-zero}
 use native.Mathlib.Decide.{decLt}
 use native.Mathlib.Omega.{arith}
-use lib.ListN.{length, List·getD-eq-default}
+use lib.ListN.{length}
 use lib.Seq.{length-sets}
 use lib.Dec.{eqb}
 use Rattle.lists.specs.Lists.{from, joined, has}
 use Rattle.lists.proofs.ListsLaws.{from-end, joined-step}
-use Rattle.kinds.specs.Kinds.{numbered, seenAs, kindOf}
-use Rattle.kinds.specs.declared.Kind.{Kind}
-use Rattle.kinds.specs.declared.Kind.the-variants.{Composite}
-use Rattle.kinds.specs.declared.Seen.{Seen}
-use Rattle.kinds.specs.declared.Seen.the-variants.{Known, Kept, Unknown}
 use Rattle.kinds.specs.declared.answers.Refusal.{Refusal}
-use Rattle.text.specs.Text.{written, placeAfter, numeral}
+use Rattle.text.specs.Text.{numeral, ascii, Puts}
 use Rattle.text.proofs.TextLaws.{put-both, ToCome, begun, put-piece, ended}
-use Rattle.lines.specs.Lines.{ascii, nameOf, againstText, Puts}
+use Rattle.lines.specs.Lines.{againstText}
 
 module _ {t mid u xs ys : List ℕ} {at b m : ℕ} where
   -- Two parts, one after the other.
@@ -60,10 +55,6 @@ module _ (f : ℕ → List ℕ) (q n : ℕ) {t bs out : List ℕ} {at next : ℕ
       let r = ended t bs out (joined f (from q (n - q))) at next so-far (ap (joined f) (from-end q n h)) in
       record { place = r .0; buffer = r .1 }
 
--- What a function of crate text leaves.
-pub put : (bs : List ℕ) {t u : List ℕ} {at m : ℕ} → (m ≡ placeAfter t at (length bs)) × (u ≡ written t at bs) → Puts t at bs u m
-put bs e = record { place = e .0; buffer = e .1 }
-
 -- A number that tells of two records that meet, by the three tests of it; the earlier record is put, or nothing.
 module _ (x : Refusal) where
   abbrev meets : Bool
@@ -83,18 +74,3 @@ module _ (x : Refusal) where
 
   pub against-none : meets ≡ false → [] ≡ againstText x
   against-none h = rw (meets-has ∙ h)
-
--- A word of more than 8 bits is no kind.
-pub no-kind : (k : ℕ) → 256 ≤ k → Unknown ≡ seenAs k
-no-kind k h = sym (List·getD-eq-default numbered Unknown {n = k} (omega arith))
-
--- A number's name is that of the kind that is read; a number that is no kind has none.
-module _ {t u : List ℕ} {at m : ℕ} (n : ℕ) (s : Seen) (e : s ≡ seenAs n) where
-  pub named-known : (k : Kind) → s ≡ Known k → Puts t at (nameOf k) u m → Puts t at (nameOf (kindOf n)) u m
-  named-known k q p = rw (sym e ∙ q) p
-
-  pub named-kept : s ≡ Kept → Puts t at (nameOf Composite) u m → Puts t at (nameOf (kindOf n)) u m
-  named-kept q p = rw (sym e ∙ q) p
-
-  pub named-unknown : s ≡ Unknown → Puts t at (nameOf Composite) u m → Puts t at (nameOf (kindOf n)) u m
-  named-unknown q p = rw (sym e ∙ q) p

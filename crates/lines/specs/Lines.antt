@@ -1,46 +1,16 @@
 -- The lines of the listing, byte for byte. docs/SPECIFICATION.md, "The lamp drawing and marked cases".
---   ascii s          a text's bytes
---   nameOf k         the name of a kind
 --   componentsText, wiresText, roundLine, refusedLine   the parts of the listing
---   Puts t at bs u m   u is the buffer t with the bytes bs from a place on, and m is the place after them
 -- Assumes nothing.
-use mathlib.Core.Path.{_≡_}
 use Prim.Native.Nat.{ℕ}
-use Prim.Native.Char.{code}
-use Prim.Native.String.{String, [] as none, _∷_ as _and_}
 use mathlib.Core.Bool.{cond}
 use mathlib.Core.List.{List, [], _∷_, _++_}
-use lib.ListN.{length}
 use Rattle.lists.specs.Lists.{from, joined, has}
-use Rattle.kinds.specs.declared.Kind.{Kind}
-use Rattle.kinds.specs.declared.Kind.the-variants.{Composite, And, Or, Not, Nand, Nor, Xor, Switch, Input, Output, Splitter, Joiner, Clock, Const}
 use Rattle.kinds.specs.declared.answers.Refusal.{Refusal}
 use Rattle.kinds.specs.Kinds.{kindOf}
 use Rattle.tables.specs.declared.Wire.{Wire}
 use Rattle.tables.specs.Tables.{Tables, fieldsAt, idAt, wireAt, indexes}
-use Rattle.text.specs.Text.{written, placeAfter, numeral, spaced}
-
--- A text's bytes.
-abbrev pub ascii : String → List ℕ
-ascii none = []
-ascii (c and s) = code c ∷ ascii s
-
--- The name of a kind. A composite is never listed.
-abbrev pub nameOf : Kind → List ℕ
-nameOf Composite = []
-nameOf And = ascii "And"
-nameOf Or = ascii "Or"
-nameOf Not = ascii "Not"
-nameOf Nand = ascii "Nand"
-nameOf Nor = ascii "Nor"
-nameOf Xor = ascii "Xor"
-nameOf Switch = ascii "Switch"
-nameOf Input = ascii "Input"
-nameOf Output = ascii "Output"
-nameOf Splitter = ascii "Splitter"
-nameOf Joiner = ascii "Joiner"
-nameOf Clock = ascii "Clock"
-nameOf Const = ascii "Const"
+use Rattle.text.specs.Text.{numeral, spaced, ascii}
+use Rattle.names.specs.Names.{nameOf}
 
 -- A component: its index, the name of its kind's number and its id.
 unfoldable pub componentLine : ℕ → ℕ → ℕ → List ℕ
@@ -73,9 +43,3 @@ againstText x = cond (has (x .number) (13 ∷ 22 ∷ 23 ∷ [])) (ascii " agains
 -- A refused file: what, where, and against which record.
 abbrev pub refusedLine : Refusal → List ℕ
 refusedLine x = ascii "refused " ++ numeral (x .number) ++ ascii " at " ++ numeral (x .position) ++ againstText x ++ ascii "\n"
-
--- What the function of a part promises: u is the buffer t with the bytes bs from a place on, and m is the place after them. What has
--- no room is left out.
-pub record Puts (t : List ℕ) (at : ℕ) (bs u : List ℕ) (m : ℕ) : Type 0 where
-  pub place : m ≡ placeAfter t at (length bs)
-  pub buffer : u ≡ written t at bs

@@ -33,8 +33,9 @@ use Rattle.rounds.specs.Round.{calm}
 use Rattle.simulator.specs.Calls.{roundTables}
 use Rattle.simulator.proofs.Kept.{roundTables-net}
 use Rattle.rounds.proofs.Sound.{net-sound, net-within, wire-in}
-use Rattle.text.specs.Text.{placeAfter, numeralOf, numeral, spaced}
-use Rattle.lines.specs.Lines.{ascii, nameOf, componentLine, wireLine, componentsText, wiresText, roundLine, againstText}
+use Rattle.text.specs.Text.{placeAfter, numeralOf, numeral, spaced, ascii}
+use Rattle.names.specs.Names.{nameOf}
+use Rattle.lines.specs.Lines.{componentLine, wireLine, componentsText, wiresText, roundLine, againstText}
 use Rattle.running.specs.Running.{ending, roundLines}
 use Rattle.listing.specs.Listing.{fresh, listedText, listing}
 use Rattle.listing.proofs.LoadedLaws.{loaded-number}

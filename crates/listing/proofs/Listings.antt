@@ -16,8 +16,8 @@ use Rattle.net.specs.Net.{countsWithin, kindsObeyed, idsDistinct, portsFollow, 
 use Rattle.rounds.specs.Round.{leave, evaluated, send, visit, round, calm, roundOf}
 use Rattle.simulator.specs.Calls.{roundTables}
 use Rattle.component.proofs.Drawings.{recordBytes, componentBytes, connectionBytes, lamp, lampTwice}
-use Rattle.text.specs.Text.{numeral}
-use Rattle.lines.specs.Lines.{ascii, componentLine, wireLine}
+use Rattle.text.specs.Text.{numeral, ascii}
+use Rattle.lines.specs.Lines.{componentLine, wireLine}
 use Rattle.running.specs.Running.{roundLines}
 use Rattle.listing.specs.Listing.{listing}
 

@@ -22,7 +22,8 @@ use Rattle.net.specs.Net.{netNumber}
 use Rattle.net.proofs.NetLaws.{netNumber-0}
 use Rattle.loaded.proofs.LoadTheorems.{accepted-net, accepted-fullSize}
 use Rattle.simulator.proofs.CallsLaws.{counted}
-use Rattle.lines.specs.Lines.{componentsText, wiresText, refusedLine, Puts}
+use Rattle.text.specs.Text.{Puts}
+use Rattle.lines.specs.Lines.{componentsText, wiresText, refusedLine}
 use Rattle.running.specs.Running.{roundLines}
 use Rattle.listing.specs.Listing.{fresh, listedText, listing}
 

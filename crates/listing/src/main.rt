@@ -1,6 +1,6 @@
 // The listing program: reads a drawing from standard input and writes its listing.
 // Rule: docs/SPECIFICATION.md, "The lamp drawing and marked cases".
-ghost use Rattle.lines.specs.Lines.{Puts};
+ghost use Rattle.text.specs.Text.{Puts};
 ghost use Rattle.listing.specs.Listing.{listing};
 use libc::STDIN_FILENO;
 use tables::Answer;

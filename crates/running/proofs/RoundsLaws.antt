@@ -23,7 +23,8 @@ use Rattle.questions.proofs.AnswersLaws.{calmGives-is}
 use Rattle.simulator.proofs.CallsLaws.{counted}
 use Rattle.simulator.proofs.Kept.{roundTables-net}
 use Rattle.text.proofs.TextLaws.{ToCome, begun, put-piece}
-use Rattle.lines.specs.Lines.{roundLine, Puts}
+use Rattle.text.specs.Text.{Puts}
+use Rattle.lines.specs.Lines.{roundLine}
 use Rattle.running.specs.Running.{ending, roundLines}
 use Rattle.running.specs.Made.{RoundMade, calmOf}
 

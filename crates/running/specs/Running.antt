@@ -8,7 +8,8 @@ use mathlib.Core.List.{List, _++_}
 use Rattle.tables.specs.Tables.{Tables, currentList}
 use Rattle.rounds.specs.Round.{calm}
 use Rattle.simulator.specs.Calls.{roundTables}
-use Rattle.lines.specs.Lines.{ascii, roundLine}
+use Rattle.text.specs.Text.{ascii}
+use Rattle.lines.specs.Lines.{roundLine}
 
 -- How the rounds end.
 abbrev pub ending : Bool → List ℕ

@@ -4,7 +4,7 @@ ghost use Prim.Native.Nat.{_≤_};
 ghost use lib.ListN.{length};
 ghost use Rattle.tables.specs.Tables.{tablesOf, countsAfter};
 ghost use Rattle.net.specs.Net.{netNumber};
-ghost use Rattle.lines.specs.Lines.{Puts};
+ghost use Rattle.text.specs.Text.{Puts};
 ghost use Rattle.running.specs.Running.{ending, roundLines};
 ghost use Rattle.running.specs.Made.{RoundMade, calmOf};
 use questions::Calm;

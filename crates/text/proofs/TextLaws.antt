@@ -7,7 +7,7 @@ use native.Mathlib.Decide.{decLt}
 use native.Mathlib.Omega.{arith}
 use lib.ListN.{length, getD, set, drop, length-append}
 use lib.Seq.{length-sets, set-out, drop-cons, drop-length}
-use Rattle.text.specs.Text.{written, placeAfter, numeral, spaced}
+use Rattle.text.specs.Text.{written, placeAfter, numeral, spaced, Puts}
 
 -- A place at or past the end: the next place is the end, and a byte there is left out.
 pub min-past : (a k : ℕ) → k ≤ a → k ≡ min (a + 1) k
@@ -114,3 +114,7 @@ pub ended-spaced : (t out ns : List ℕ) (at i next : ℕ) → i ≤ length ns �
     → (next ≡ placeAfter t at (length (spaced ns))) × (out ≡ written t at (spaced ns))
 ended-spaced t out ns at i next a b h =
     ended t (spaced ns) out (spaced (drop i ns)) at next h (ap spaced (none-left ns i a b))
+
+-- What a function of this crate leaves, as the promise of a part.
+pub put : (bs : List ℕ) {t u : List ℕ} {at m : ℕ} → (m ≡ placeAfter t at (length bs)) × (u ≡ written t at bs) → Puts t at bs u m
+put bs e = record { place = e .0; buffer = e .1 }

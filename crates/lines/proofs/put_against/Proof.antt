@@ -1,9 +1,9 @@
 -- `put_against`: the word and the earlier record, or nothing.
 -- Assumes nothing.
 use mathlib.Core.List.{[]}
-use Rattle.text.specs.Text.{numeral}
-use Rattle.lines.specs.Lines.{ascii}
-use Rattle.lines.proofs.LinesLaws.{put, both, named-as, against-named, against-none}
+use Rattle.text.specs.Text.{numeral, ascii}
+use Rattle.text.proofs.TextLaws.{put}
+use Rattle.lines.proofs.LinesLaws.{both, named-as, against-named, against-none}
 use borrow.Author.Needs.{needs}
 use Rattle.lines.proofs.put_against.Statement.{statement}
 use Rattle.lines.proofs.put_against.Tie as tie

@@ -4,7 +4,8 @@ use mathlib.Core.Path.{sym}
 use mathlib.Core.List.{[], _∷_}
 use Rattle.text.specs.Text.{numeral}
 use Rattle.lines.specs.Lines.{componentLine}
-use Rattle.lines.proofs.LinesLaws.{put, both, both-ended}
+use Rattle.text.proofs.TextLaws.{put}
+use Rattle.lines.proofs.LinesLaws.{both, both-ended}
 use borrow.Author.Needs.{needs}
 use Rattle.lines.proofs.put_component.Statement.{statement}
 use Rattle.lines.proofs.put_component.Tie as tie

@@ -2,7 +2,8 @@
 -- Assumes nothing.
 use mathlib.Core.List.{[], _∷_}
 use Rattle.text.specs.Text.{numeral}
-use Rattle.lines.proofs.LinesLaws.{put, both}
+use Rattle.text.proofs.TextLaws.{put}
+use Rattle.lines.proofs.LinesLaws.{both}
 use borrow.Author.Needs.{needs}
 use Rattle.lines.proofs.put_ended.Statement.{statement}
 use Rattle.lines.proofs.put_ended.Tie as tie

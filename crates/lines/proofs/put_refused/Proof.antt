@@ -1,9 +1,9 @@
 -- `put_refused`: the words and the numbers.
 -- Assumes nothing.
 use mathlib.Core.List.{[], _∷_}
-use Rattle.text.specs.Text.{numeral}
-use Rattle.lines.specs.Lines.{ascii}
-use Rattle.lines.proofs.LinesLaws.{put, both}
+use Rattle.text.specs.Text.{numeral, ascii}
+use Rattle.text.proofs.TextLaws.{put}
+use Rattle.lines.proofs.LinesLaws.{both}
 use borrow.Author.Needs.{needs}
 use Rattle.lines.proofs.put_refused.Statement.{statement}
 use Rattle.lines.proofs.put_refused.Tie as tie

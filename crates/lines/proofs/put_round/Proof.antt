@@ -4,9 +4,9 @@ use mathlib.Core.Path.{sym}
 use lib.ListN.{take}
 use lib.Seq.{length-take-le}
 use mathlib.Core.List.{[], _∷_}
-use Rattle.text.specs.Text.{numeral, spaced}
-use Rattle.lines.specs.Lines.{ascii}
-use Rattle.lines.proofs.LinesLaws.{put, both}
+use Rattle.text.specs.Text.{numeral, spaced, ascii}
+use Rattle.text.proofs.TextLaws.{put}
+use Rattle.lines.proofs.LinesLaws.{both}
 use borrow.Author.Needs.{needs}
 use Rattle.lines.proofs.put_round.Statement.{statement}
 use Rattle.lines.proofs.put_round.Tie as tie

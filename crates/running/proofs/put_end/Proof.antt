@@ -1,7 +1,7 @@
 -- `put_end`: each ending.
 -- Assumes nothing.
-use Rattle.lines.specs.Lines.{ascii}
-use Rattle.lines.proofs.LinesLaws.{put}
+use Rattle.text.specs.Text.{ascii}
+use Rattle.text.proofs.TextLaws.{put}
 use borrow.Author.Needs.{needs}
 use Rattle.running.proofs.put_end.Statement.{statement}
 use Rattle.running.proofs.put_end.Tie as tie

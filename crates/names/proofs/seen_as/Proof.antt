@@ -1,9 +1,9 @@
 -- `seen_as`: a word of more than 8 bits is no kind.
 -- Assumes nothing.
-use Rattle.lines.proofs.LinesLaws.{no-kind}
+use Rattle.names.proofs.NamesLaws.{no-kind}
 use borrow.Author.Needs.{needs}
-use Rattle.lines.proofs.seen_as.Statement.{statement}
-use Rattle.lines.proofs.seen_as.Tie as tie
+use Rattle.names.proofs.seen_as.Statement.{statement}
+use Rattle.names.proofs.seen_as.Tie as tie
 
 returns-2 : tie.Need-returns-2
 returns-2 c = search (no-kind)

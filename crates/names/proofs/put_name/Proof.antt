@@ -1,11 +1,11 @@
 -- `put_name`: each kind has its name.
 -- Assumes nothing.
 use mathlib.Core.List.{[]}
-use Rattle.lines.specs.Lines.{ascii}
-use Rattle.lines.proofs.LinesLaws.{put}
+use Rattle.text.specs.Text.{ascii}
+use Rattle.text.proofs.TextLaws.{put}
 use borrow.Author.Needs.{needs}
-use Rattle.lines.proofs.put_name.Statement.{statement}
-use Rattle.lines.proofs.put_name.Tie as tie
+use Rattle.names.proofs.put_name.Statement.{statement}
+use Rattle.names.proofs.put_name.Tie as tie
 
 returns : tie.Need-returns
 returns c = rw (c .before .before .before .before .before .enum-told .given .1) (put [] (c .before .before .put-bytes .ensures))

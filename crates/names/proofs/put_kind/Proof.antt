@@ -1,9 +1,9 @@
 -- `put_kind`: the name of the kind that is read, or none.
 -- Assumes nothing.
-use Rattle.lines.proofs.LinesLaws.{named-known, named-kept, named-unknown}
+use Rattle.names.proofs.NamesLaws.{named-known, named-kept, named-unknown}
 use borrow.Author.Needs.{needs}
-use Rattle.lines.proofs.put_kind.Statement.{statement}
-use Rattle.lines.proofs.put_kind.Tie as tie
+use Rattle.names.proofs.put_kind.Statement.{statement}
+use Rattle.names.proofs.put_kind.Tie as tie
 
 returns : tie.Need-returns
 returns c = search (named-known)
