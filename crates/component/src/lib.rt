@@ -10,6 +10,7 @@ pub use reader::deepest;
 pub use reader::fields_at;
 pub use reader::given;
 pub use reader::is_primitive_at;
+pub use reader::is_sized;
 pub use reader::record_at;
 
 // A child, counted below one owner.

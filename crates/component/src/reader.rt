@@ -1,10 +1,11 @@
-// Reading a record: it is taken apart, or refused with the number 3. Rule: docs/SPECIFICATION.md, "The drawing file".
+// Reading a record: it is taken apart, or refused with the number 3; and the size of a file, check 1. Rule:
+// docs/SPECIFICATION.md, "The drawing file".
 ghost use mathlib.Core.Path.{_≡_};
 ghost use Prim.Native.Nat.{_+_, _*_, _≤_, _<_};
 ghost use lib.ListN.{length};
 ghost use mathlib.Core.Bool.{true};
 ghost use lib.Dec.{eqb};
-ghost use Rattle.component.specs.Record.{le16, le32, le64, numbersIn, wellFormed, recordAt};
+ghost use Rattle.component.specs.Record.{le16, le32, le64, numbersIn, wellFormed, recordAt, sized};
 ghost use Rattle.component.specs.Reading.{recordIn};
 ghost use Rattle.component.specs.Record.{fieldsOf, isPrimitive};
 ghost use Rattle.component.specs.Reading.{apart, said, number, given, StandsAs};
@@ -199,4 +200,12 @@ pub fn deepest() -> u8
     ensures { λ r. ⌜ r ≡ deepest ⌝ }
 {
     16
+}
+
+// Not 1: the file is not empty, a multiple of 24, and of at most 1,024 records.
+pub fn is_sized(file: &[u8]) -> bool
+    ensures { λ r. ⌜ r ≡ sized (now (file .entry)) ⌝ }
+{
+    let length = file.len();
+    (length != 0) & (length % 24 == 0) & (length / 24 <= 1024)
 }

@@ -20,8 +20,8 @@ use Rattle.lists.proofs.MembersLaws.{In, first-none, from0-complete, getD-cases
 use Rattle.kinds.specs.declared.answers.Refusal.{Refusal}
 use Rattle.component.specs.declared.Record.{Record}
 use Rattle.component.specs.declared.Verdict.the-variants.{Accepted, Refused}
-use Rattle.component.specs.Record.{noRecord, recordAt, recordCount}
-use Rattle.flatten.specs.Verdict.{checks, refused, orLater, judged, sized, verdict}
+use Rattle.component.specs.Record.{noRecord, recordAt, recordCount, sized}
+use Rattle.flatten.specs.Verdict.{checks, refused, orLater, judged, verdict}
 use Rattle.flatten.specs.Searches.{PassedBefore}
 
 -- A check: its number, and the positions that fail it.

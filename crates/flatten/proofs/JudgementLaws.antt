@@ -19,11 +19,11 @@ use Rattle.kinds.specs.declared.answers.Refusal.{Refusal}
 use Rattle.kinds.proofs.GivenLaws.{done-declined, declined-refusal}
 use Rattle.component.specs.declared.Verdict.{Verdict}
 use Rattle.component.specs.declared.Verdict.the-variants.{Accepted, Refused}
-use Rattle.component.specs.Record.{recordAt}
+use Rattle.component.specs.Record.{recordAt, sized}
 use Rattle.component.specs.Reading.{given}
 use Rattle.checks.specs.Checks.{failsBy}
 use Rattle.checks.proofs.ChecksLaws.{given-number, given-failed, given-passed}
-use Rattle.flatten.specs.Verdict.{checks, refused, orLater, judged, sized, verdict, verdictGives}
+use Rattle.flatten.specs.Verdict.{checks, refused, orLater, judged, verdict, verdictGives}
 use Rattle.flatten.specs.Searches.{failsAt, PassedBefore}
 use Rattle.flatten.proofs.Accepted.{Check, refused-not, noCheck}
 

@@ -19,11 +19,11 @@ use Rattle.lists.proofs.MembersLaws.{In, from0-sound}
 use Rattle.component.specs.declared.Record.{Record}
 use Rattle.component.specs.declared.Verdict.{Verdict}
 use Rattle.component.specs.declared.Verdict.the-variants.{Accepted}
-use Rattle.component.specs.Record.{recordAt, recordCount}
+use Rattle.component.specs.Record.{recordAt, recordCount, sized}
 use Rattle.component.specs.Reading.{formOf}
 use Rattle.component.specs.Drawing.{isComponent, fails3, fails4, fails5}
 use Rattle.flatten.specs.Descent.{comesFrom, wiresAt, fails15}
-use Rattle.flatten.specs.Verdict.{checks, refused, orLater, judged, sized, verdict}
+use Rattle.flatten.specs.Verdict.{checks, refused, orLater, judged, verdict}
 use Rattle.flatten.proofs.Accepted.{Check, judged-passes, passed-before}
 use Rattle.flatten.proofs.JudgementLaws.{judged-append}
 use Rattle.flatten.proofs.Components.{primitive-component}

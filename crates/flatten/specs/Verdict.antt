@@ -1,18 +1,16 @@
 -- The verdict on a file's bytes. docs/SPECIFICATION.md, "Numbers given back" and the host's first call. Two records that meet are 13 here, whatever
 -- they are; meeting/specs/Meeting has the judgement, which says what they are.
 use mathlib.Core.Path.{_≡_}
-use Prim.Native.Nat.{ℕ, _%_}
-use mathlib.Core.Bool.{Bool, cond, not, _&&_}
+use Prim.Native.Nat.{ℕ}
+use mathlib.Core.Bool.{Bool, cond}
 use mathlib.Core.List.{List, [], _∷_}
 use mathlib.Core.Option.{Option, none, some}
-use lib.ListN.{length}
-use lib.Dec.{eqb, leb}
 use Rattle.lists.specs.Lists.{from, first}
 use Rattle.kinds.specs.Given.{Given, done, declined, spoken}
 use Rattle.component.specs.declared.Record.{Record}
 use Rattle.component.specs.declared.Verdict.{Verdict}
 use Rattle.component.specs.declared.Verdict.the-variants.{Accepted, Refused}
-use Rattle.component.specs.Record.{recordAt, recordCount}
+use Rattle.component.specs.Record.{recordAt, recordCount, sized}
 use Rattle.component.specs.Drawing.{fails3, fails4, fails5, fails6, fails7, fails8, fails9, fails10, fails11, fails12, fails13, fails14}
 use Rattle.flatten.specs.Descent.{fails15}
 
@@ -35,10 +33,6 @@ orLater k none later = later
 abbrev pub judged : ℕ → List (ℕ × (ℕ → Bool)) → Verdict
 judged n [] = Accepted
 judged n (k ∷ ks) = orLater (k .0) (first (k .1) (from 0 n)) (judged n ks)
-
--- Not 1: the file is not empty, a multiple of 24, and of at most 1,024 records.
-abbrev pub sized : List ℕ → Bool
-sized file = not (eqb (length file) 0) && eqb (length file % 24) 0 && leb (recordCount file) 1024
 
 -- The verdict on a file's bytes; check 2 is not made.
 unfoldable pub verdict : List ℕ → Verdict

@@ -4,15 +4,16 @@ ghost use Prim.Native.Nat.{_≤_, _<_};
 ghost use lib.ListN.{length};
 ghost use mathlib.Core.Bool.{true};
 ghost use Rattle.lists.specs.Lists.{from, first};
-ghost use Rattle.component.specs.Record.{recordAt, recordCount};
+ghost use Rattle.component.specs.Record.{recordAt, recordCount, sized};
 ghost use Rattle.index.specs.Index.{IsIndex};
 ghost use Rattle.component.specs.Reading.{given};
 ghost use Rattle.component.specs.declared.Verdict.the-variants.{Accepted};
-ghost use Rattle.flatten.specs.Verdict.{checks, orLater, judged, sized, verdict};
+ghost use Rattle.flatten.specs.Verdict.{checks, orLater, judged, verdict};
 ghost use Rattle.flatten.specs.Searches.{failsAt, PassedBefore};
 use crate::widths::check15;
 use checks::check;
 use component::Verdict;
+use component::is_sized;
 use index::fill_index;
 use kinds::Refusal;
 use kinds::refused_by;
@@ -65,14 +66,6 @@ fn judge_records(file: &[u8], index: &[u16]) -> Verdict
         k += 1;
     }
     Verdict::Accepted
-}
-
-// Not 1: the file is not empty, a multiple of 24, and of at most 1,024 records.
-pub fn is_sized(file: &[u8]) -> bool
-    ensures { λ r. ⌜ r ≡ sized (now (file .entry)) ⌝ }
-{
-    let length = file.len();
-    (length != 0) & (length % 24 == 0) & (length / 24 <= 1024)
 }
 
 // The verdict on a file's bytes, 13 for any two records that meet; the lent index, of 82,432 words, is filled where the file is of a

@@ -6,7 +6,6 @@ mod widths;
 
 pub use descent::list_targets;
 pub use descent::source_of;
-pub use judgement::is_sized;
 pub use judgement::verdict;
 pub use judgement::verdict_indexed;
 pub use targets::target_at;

@@ -8,7 +8,7 @@ use lib.ListN.{length}
 use borrow.Author.Tests.{lt-ltb, le-ltb}
 use Rattle.lists.specs.Lists.{overlay}
 use Rattle.kinds.specs.Given.{refusedBy, spoken}
-use Rattle.flatten.specs.Verdict.{sized}
+use Rattle.component.specs.Record.{sized}
 use Rattle.tables.specs.declared.Counts.{Counts}
 use Rattle.tables.specs.declared.Answer.{Answer}
 use Rattle.tables.specs.declared.Answer.the-variants.{Refused}

@@ -11,8 +11,8 @@ use Rattle.lists.specs.Lists.{overlay, refusal, _if_}
 use Rattle.kinds.specs.Given.{Given, refusedBy, spoken}
 use Rattle.component.specs.declared.Verdict.{Verdict}
 use Rattle.component.specs.declared.Verdict.the-variants.{Accepted, Refused as Judged}
-use Rattle.component.specs.Record.{recordAt, recordCount}
-use Rattle.flatten.specs.Verdict.{sized, refused, verdictGives}
+use Rattle.component.specs.Record.{recordAt, recordCount, sized}
+use Rattle.flatten.specs.Verdict.{refused, verdictGives}
 use Rattle.tables.specs.declared.Counts.{Counts}
 use Rattle.tables.specs.Tables.{Tables}
 use Rattle.load.specs.Load.{loadVerdict}

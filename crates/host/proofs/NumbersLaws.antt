@@ -14,7 +14,8 @@ use Rattle.kinds.specs.Given.{Given, giving, spoken}
 use Rattle.primitive.specs.Evaluate.{fitting, evaluateNumber}
 use Rattle.component.specs.declared.Verdict.{Verdict}
 use Rattle.component.specs.declared.Verdict.the-variants.{Accepted, Refused as Judged}
-use Rattle.flatten.specs.Verdict.{sized, refused, verdictGives}
+use Rattle.component.specs.Record.{sized}
+use Rattle.flatten.specs.Verdict.{refused, verdictGives}
 use Rattle.meeting.specs.Meeting.{judgement}
 use Rattle.meeting.proofs.MeetingLaws.{judgement-small}
 use Rattle.tables.specs.Tables.{Tables, fullSize}

@@ -1,6 +1,6 @@
 // A load, called from C.
 ghost use mathlib.Core.Bool.{_&&_};
-ghost use Rattle.flatten.specs.Verdict.{sized};
+ghost use Rattle.component.specs.Record.{sized};
 ghost use Rattle.tables.specs.Tables.{tablesOf};
 ghost use Rattle.load.specs.Load.{Loads};
 ghost use Rattle.words.specs.Said.{short, CallChanges};
@@ -27,7 +27,7 @@ pub extern "C" fn berxundar_load(
         ⌜ CallChanges (Loads (now (file .entry))) (sized (now (file .entry)) && short (now (counts .entry)) 7) (now (counts .entry))
         (now (counts .exit)) lent left r ⌝ }
 {
-    if !flatten::is_sized(file) {
+    if !component::is_sized(file) {
         return 65536;
     }
     if counts.len() < 7 {

@@ -5,7 +5,7 @@ ghost use Prim.Native.Nat.{_<_, _≤_};
 ghost use lib.ListN.{length};
 ghost use Rattle.lists.specs.Lists.{overlay};
 ghost use Rattle.kinds.specs.Given.{spoken};
-ghost use Rattle.flatten.specs.Verdict.{sized};
+ghost use Rattle.component.specs.Record.{sized};
 ghost use Rattle.tables.specs.Tables.{tablesOf};
 ghost use Rattle.look.specs.Look.{lookGives, Looks};
 ghost use Rattle.words.specs.Words.{valuesIn};
@@ -54,7 +54,7 @@ pub extern "C" fn berxundar_look(
         (sized (now (file .entry)) && (short (now (counts .entry)) 7 || short (now (found .entry)) 2)) (now (counts .entry))
         (now (numbers .entry)) (now (numbers .exit)) (now (widths .entry)) (now (widths .exit)) (now (found .entry)) (now (found .exit)) lent r ⌝ }
 {
-    if !flatten::is_sized(file) {
+    if !component::is_sized(file) {
         return 65536;
     }
     if (counts.len() < 7) | (found.len() < 2) {

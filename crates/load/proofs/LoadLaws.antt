@@ -15,8 +15,8 @@ use Rattle.kinds.specs.declared.answers.Refusal.{Refusal}
 use Rattle.kinds.specs.Given.{refusedBy}
 use Rattle.component.specs.declared.Verdict.{Verdict}
 use Rattle.component.specs.declared.Verdict.the-variants.{Accepted, Refused}
-use Rattle.component.specs.Record.{recordAt, recordCount}
-use Rattle.flatten.specs.Verdict.{sized, refused, verdict}
+use Rattle.component.specs.Record.{recordAt, recordCount, sized}
+use Rattle.flatten.specs.Verdict.{refused, verdict}
 use Rattle.flatten.proofs.Accepted.{refused-not, accepted-passed}
 use Rattle.flatten.proofs.WireTheorems.{accepted-primitives-bound, accepted-inputs-bound}
 use Rattle.meeting.specs.Meeting.{judgement}

@@ -8,9 +8,9 @@ use Rattle.primitive.specs.Evaluate.{starting}
 use Rattle.component.specs.declared.Record.{Record}
 use Rattle.component.specs.declared.Verdict.{Verdict}
 use Rattle.component.specs.declared.Verdict.the-variants.{Accepted, Refused}
-use Rattle.component.specs.Record.{recordAt, recordCount, fieldsOf}
+use Rattle.component.specs.Record.{recordAt, recordCount, fieldsOf, sized}
 use Rattle.component.specs.Drawing.{inputsBefore, outputsBefore}
-use Rattle.flatten.specs.Verdict.{sized, refused, verdictGives}
+use Rattle.flatten.specs.Verdict.{refused, verdictGives}
 use Rattle.meeting.specs.Meeting.{judgement}
 use Rattle.tables.specs.declared.Answer.{Answer}
 use Rattle.tables.specs.Tables.{Tables, wireWords, countsOf, tablesOf, fullSize, answerGives, Changes}

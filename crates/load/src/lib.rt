@@ -79,7 +79,7 @@ pub fn judge_load(
         (now (following .entry)) (now (standing .entry)) m)) ⌝ }
     ensures { λ r. ⌜ (r ≡ Accepted → IsIndex (now (file .entry)) (now (index .exit))) ⌝ }
 {
-    if !flatten::is_sized(file) {
+    if !component::is_sized(file) {
         return Verdict::Refused(refused_by(1));
     }
     if !tables::full_size(

@@ -15,8 +15,8 @@ use Rattle.kinds.specs.Given.{refusedBy}
 use Rattle.component.specs.declared.Record.{Record}
 use Rattle.component.specs.declared.Verdict.{Verdict}
 use Rattle.component.specs.declared.Verdict.the-variants.{Accepted, Refused}
-use Rattle.component.specs.Record.{recordAt, recordCount, inputsOf, outputsOf}
-use Rattle.flatten.specs.Verdict.{sized, refused, verdict}
+use Rattle.component.specs.Record.{recordAt, recordCount, inputsOf, outputsOf, sized}
+use Rattle.flatten.specs.Verdict.{refused, verdict}
 use Rattle.flatten.proofs.Accepted.{refused-not, accepted-sized}
 use Rattle.load.specs.Load.{loadVerdict}
 use Rattle.load.proofs.LoadLaws.{load-passed}

@@ -12,9 +12,9 @@ use Rattle.kinds.specs.Given.{Given, done, declined, refusedBy}
 use Rattle.component.specs.declared.Record.{Record}
 use Rattle.component.specs.declared.Verdict.{Verdict}
 use Rattle.component.specs.declared.Verdict.the-variants.{Accepted, Refused}
-use Rattle.component.specs.Record.{recordAt, recordCount, inputsOf, outputsOf}
+use Rattle.component.specs.Record.{recordAt, recordCount, inputsOf, outputsOf, sized}
 use Rattle.flatten.specs.Descent.{flat}
-use Rattle.flatten.specs.Verdict.{sized, refused, verdictGives}
+use Rattle.flatten.specs.Verdict.{refused, verdictGives}
 use Rattle.tables.specs.Tables.{Tables}
 use Rattle.load.specs.Load.{loadVerdict}
 use Rattle.net.specs.Net.{isNet}

@@ -41,7 +41,7 @@ fn judge_look(
         (now (following .entry)) (now (standing .entry)) m) (now (numbers .entry)) (now (widths .entry))) ⌝ }
     ensures { λ r. ⌜ (r ≡ Accepted → IsIndex (now (file .entry)) (now (index .exit))) ⌝ }
 {
-    if flatten::is_sized(file) & ((numbers.len() < PORTS) | (widths.len() < PORTS)) {
+    if component::is_sized(file) & ((numbers.len() < PORTS) | (widths.len() < PORTS)) {
         return Verdict::Refused(refused_by(2));
     }
     load::judge_load(

@@ -19,10 +19,10 @@ use Rattle.kinds.specs.Given.{refusedBy}
 use Rattle.component.specs.declared.Record.{Record}
 use Rattle.component.specs.declared.Verdict.{Verdict}
 use Rattle.component.specs.declared.Verdict.the-variants.{Accepted, Refused}
-use Rattle.component.specs.Record.{recordAt, recordCount, ownedAs}
+use Rattle.component.specs.Record.{recordAt, recordCount, ownedAs, sized}
 use Rattle.component.specs.Reading.{formOf, ownerOf, idOf}
 use Rattle.component.specs.Drawing.{deepest}
-use Rattle.flatten.specs.Verdict.{sized, refused}
+use Rattle.flatten.specs.Verdict.{refused}
 use Rattle.flatten.proofs.Accepted.{Passed, not-accepted, refused-not, accepted-passed}
 use Rattle.flatten.proofs.DescentLeads.{source-sound}
 use Rattle.tables.specs.Tables.{Tables}

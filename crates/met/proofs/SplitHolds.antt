@@ -21,10 +21,10 @@ use Rattle.kinds.specs.declared.answers.Refusal.{Refusal}
 use Rattle.component.specs.declared.Record.{Record}
 use Rattle.component.specs.declared.Verdict.{Verdict}
 use Rattle.component.specs.declared.Verdict.the-variants.{Accepted, Refused}
-use Rattle.component.specs.Record.{recordAt, recordCount, toOf, inputOf, entering, enteringAs}
+use Rattle.component.specs.Record.{recordAt, recordCount, toOf, inputOf, entering, enteringAs, sized}
 use Rattle.component.specs.Reading.{formOf, ownerOf}
 use Rattle.component.specs.Drawing.{fails4, fails13, earlierOf}
-use Rattle.flatten.specs.Verdict.{orLater, judged, checks, sized, refused, verdict}
+use Rattle.flatten.specs.Verdict.{orLater, judged, checks, refused, verdict}
 use Rattle.flatten.specs.Searches.{PassedBefore}
 use Rattle.flatten.proofs.Accepted.{Check, noCheck, not-accepted, passed-check}
 use Rattle.flatten.proofs.JudgementLaws.{number-at, verdict-bound}
