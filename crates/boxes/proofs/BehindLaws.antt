@@ -8,6 +8,7 @@ use mathlib.Core.List.{List, [], _∷_, map}
 use lib.ListN.{length}
 use lib.Dec.{eqb}
 use Rattle.lists.specs.Lists.{from, any}
+use Rattle.lists.proofs.MembersLaws.{length-nil}
 use Rattle.component.specs.declared.Record.{Record}
 use Rattle.component.specs.declared.Verdict.the-variants.{Accepted}
 use Rattle.component.specs.Record.{recordAt, recordCount, inputsOf}
@@ -47,11 +48,7 @@ module _ (s : List ℕ) (accepted : verdict s ≡ Accepted) (m c i : ℕ) (depth
 
     pub behind-empty : k ≡ 0 → (z : Pin) → z ≡ lastOf z (behind (recordAt s) (recordCount s) c i)
     behind-empty e z =
-        ap (lastOf z) (sym (no-entry goals (sym (listed-count t goals u k listed) ∙ e))) ∙ ap (lastOf z) is-behind
-      where
-        no-entry : (xs : List Pin) → length xs ≡ 0 → xs ≡ []
-        no-entry [] h = refl
-        no-entry (x ∷ xs) h = absurd (omega (arith, h))
+        ap (lastOf z) (sym (length-nil goals (sym (listed-count t goals u k listed) ∙ e))) ∙ ap (lastOf z) is-behind
 
     pub behind-within : (k ≡ 0 → ⊥) → targetPlace (k - 1 + 1) ≤ length u
     behind-within ne = omega (arith, listed-count t goals u k listed, listed-length t goals u k listed, behind-room, full)

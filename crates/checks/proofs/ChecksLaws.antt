@@ -15,6 +15,7 @@ use lib.Dec.{eqb, leb, ltb}
 use lib.ListN.{length, getD}
 use types.Run.{OneOf}
 use Rattle.lists.specs.Lists.{from, keep, any}
+use Rattle.lists.proofs.ListsLaws.{keep-nothing, keep-any, keep-most}
 use denote.Enum.Declared.{tagOf}
 use Rattle.kinds.specs.Kinds.{obeys, primitive, forCustom, unknown}
 use Rattle.kinds.specs.declared.table.Fields.{Fields}
@@ -429,11 +430,6 @@ module _ (t : Record) (r : Reading) (e : said r ≡ t) where
         let z = taken-is t r e o x h ∙ ap (apart o) k in
         (ap entering z, ap ownerOf z, ap toOf z, ap inputOf z)
 
--- None is kept where none passes.
-keep-nothing : (xs : List ℕ) → keep (λ x. false) xs ≡ []
-keep-nothing [] = refl
-keep-nothing (x ∷ xs) = keep-nothing xs
-
 -- 13: a record enters no input; it enters one
 module _ (t : Record) (g : Entry) (e : EntryAs g t) where
   pub entering-none : g ≡ NoEntry → entering t ≡ false
@@ -459,28 +455,9 @@ module _ (s : List ℕ) (p : ℕ) (g : Entry) (e : EntryAs g (recordAt s p)) whe
       let z = entering-is (recordAt s p) g e o d c h in
       rw (sub-zero p, z .0, z .1, z .2, z .3)
 
--- One passes where the first that passes is not the end of the search.
-any-first : (f : ℕ → Bool) (q k n : ℕ) → q + k ≡ n → not (eqb (getD (keep f (from q k)) 0 n) n) ≡ any f (from q k)
-any-first f q zero n e = rw (eq-eqb n n refl)
-any-first f q (suc k) n e = by-test (f q) (any-first f (suc q) k n (omega arith))
-  where
-    by-test : (b : Bool) → not (eqb (getD (keep f (from (suc q) k)) 0 n) n) ≡ any f (from (suc q) k)
-        → not (eqb (getD (cond b (q ∷ keep f (from (suc q) k)) (keep f (from (suc q) k))) 0 n) n) ≡ (b || any f (from (suc q) k))
-    by-test true later = rw (ne-eqb q n (λ z. omega arith))
-    by-test false later = later
-
--- The first that passes is not past the end of the search.
-first-most : (f : ℕ → Bool) (q k n : ℕ) → q + k ≡ n → getD (keep f (from q k)) 0 n ≤ n
-first-most f q zero n e = omega arith
-first-most f q (suc k) n e = by-test (f q) (first-most f (suc q) k n (omega arith))
-  where
-    by-test : (b : Bool) → getD (keep f (from (suc q) k)) 0 n ≤ n
-        → getD (cond b (q ∷ keep f (from (suc q) k)) (keep f (from (suc q) k))) 0 n ≤ n
-    by-test true later = omega arith
-    by-test false later = later
-
+-- An earlier record stands before.
 pub earlier-most : (at : ℕ → Record) (p : ℕ) → earlierOf at p ≤ p
-earlier-most at p = first-most (λ q. entering (at p) && enteringAs (at p) (at q)) 0 p p (omega arith)
+earlier-most at p = keep-most (λ q. entering (at p) && enteringAs (at p) (at q)) 0 p p (omega arith)
 
 -- Check 13 is whether there is an earlier record.
 pub fails13-earlier : (at : ℕ → Record) (p x : ℕ) → x ≡ earlierOf at p → not (eqb x p) ≡ fails13 at p
@@ -488,5 +465,5 @@ fails13-earlier at p x e = ap (λ (y : ℕ). not (eqb y p)) e ∙ by-form (enter
   where
     by-form : (b : Bool)
         → not (eqb (getD (keep (λ q. b && enteringAs (at p) (at q)) (from 0 p)) 0 p) p) ≡ (b && any (λ q. enteringAs (at p) (at q)) (from 0 p))
-    by-form true = any-first (λ q. enteringAs (at p) (at q)) 0 p p (omega arith)
+    by-form true = keep-any (λ q. enteringAs (at p) (at q)) 0 p p (omega arith)
     by-form false = rw (keep-nothing (from 0 p), eq-eqb p p refl)

@@ -4,15 +4,15 @@
 -- Not here: tests of two parts (TestsLaws); laws of length, getD, take, drop and _++_ (lib.ListN, lib.Seq).
 -- Assumes nothing.
 use mathlib.Core.Path.{_≡_, refl, sym, ap, _∙_}
-use mathlib.Core.Bool.{Bool, true, false, cond}
+use mathlib.Core.Bool.{Bool, true, false, cond, not, _||_}
 use mathlib.Core.List.{List, [], _∷_, _++_, append-nil}
 use mathlib.Core.Option.{Option, none, some}
 use Prim.Native.Nat.{ℕ, zero, suc, _+_, _-_, _≤_, _<_}
 use native.Mathlib.Numerals.{add-one}
 use native.Mathlib.Decide.{decLt}
 use native.Mathlib.Omega.{arith}
-use borrow.Author.Tests.{leb-true}
-use lib.Dec.{leb}
+use borrow.Author.Tests.{eq-eqb, ne-eqb, leb-true}
+use lib.Dec.{eqb, leb}
 use lib.ListN.{length, getD, replicate, length-replicate, getD-replicate, List·getD-eq-default}
 use lib.Seq.{getD-append-seam}
 use Rattle.lists.proofs.TestsLaws.{and-left, and-right}
@@ -220,3 +220,27 @@ replicate-zero n x = by-place (decLt x n)
     by-place : Dec (x < n) → _≡_ {A = ℕ} (getD (replicate n 0) x 0) 0
     by-place (yes h) = getD-replicate n x 0 0 h
     by-place (no h) = List·getD-eq-default (replicate n 0) 0 (omega (arith, length-replicate {A = ℕ} n 0))
+
+-- None is kept where none passes.
+pub keep-nothing : (xs : List ℕ) → keep (λ x. false) xs ≡ []
+keep-nothing [] = refl
+keep-nothing (x ∷ xs) = keep-nothing xs
+
+-- The first of q, .. that passes, or n behind them: it is n where none passes, and never past n.
+pub keep-any : (f : ℕ → Bool) (q k n : ℕ) → q + k ≡ n → not (eqb (getD (keep f (from q k)) 0 n) n) ≡ any f (from q k)
+keep-any f q zero n e = rw (eq-eqb n n refl)
+keep-any f q (suc k) n e = by-test (f q) (keep-any f (suc q) k n (omega arith))
+  where
+    by-test : (b : Bool) → not (eqb (getD (keep f (from (suc q) k)) 0 n) n) ≡ any f (from (suc q) k)
+        → not (eqb (getD (cond b (q ∷ keep f (from (suc q) k)) (keep f (from (suc q) k))) 0 n) n) ≡ (b || any f (from (suc q) k))
+    by-test true later = rw (ne-eqb q n (λ z. omega arith))
+    by-test false later = later
+
+pub keep-most : (f : ℕ → Bool) (q k n : ℕ) → q + k ≡ n → getD (keep f (from q k)) 0 n ≤ n
+keep-most f q zero n e = omega arith
+keep-most f q (suc k) n e = by-test (f q) (keep-most f (suc q) k n (omega arith))
+  where
+    by-test : (b : Bool) → getD (keep f (from (suc q) k)) 0 n ≤ n
+        → getD (cond b (q ∷ keep f (from (suc q) k)) (keep f (from (suc q) k))) 0 n ≤ n
+    by-test true later = omega arith
+    by-test false later = later

@@ -90,6 +90,16 @@ module _ {A : Type 0} where
       by-test false h = h
 
   -- Where a test finds nothing, no member passes it.
+  -- The first that passes stands among those that pass, where one does.
+  pub keep-first : (f : A → Bool) (xs : List A) (d : A) → any f xs ≡ true → In (getD (keep f xs) 0 d) (keep f xs)
+  keep-first f [] d e = absurd (false≢true e)
+  keep-first f (x ∷ xs) d e = by-test (f x) (λ u. keep-first f xs d u) e
+    where
+      by-test : (b : Bool) → (any f xs ≡ true → In (getD (keep f xs) 0 d) (keep f xs)) → (b || any f xs) ≡ true
+          → In (getD (cond b (x ∷ keep f xs) (keep f xs)) 0 d) (cond b (x ∷ keep f xs) (keep f xs))
+      by-test true later u = inl refl
+      by-test false later u = later u
+
   pub any-none : (f : A → Bool) (a : A) (xs : List A) → any f xs ≡ false → In a xs → f a ≡ false
   any-none f a [] e h = absurd h
   any-none f a (x ∷ xs) e (inl u) = ap f u ∙ or-left (f x) (any f xs) e
@@ -197,6 +207,10 @@ module _ {A : Type 0} where
       omega (arith, without-length x ys i)
 
   -- Sums and lengths.
+
+  pub length-nil : (xs : List A) → length xs ≡ 0 → xs ≡ []
+  length-nil [] e = refl
+  length-nil (x ∷ xs) e = absurd (omega (arith, e))
 
   pub keep-length : (f : A → Bool) (xs : List A) → length (keep f xs) ≤ length xs
   keep-length f [] = omega arith

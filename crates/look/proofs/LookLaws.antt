@@ -7,7 +7,7 @@ use mathlib.Core.Bool.{Bool, true, false, cond, not, _&&_, _||_, false≢true}
 use mathlib.Core.List.{List, [], _∷_, map}
 use lib.ListN.{length}
 use lib.Dec.{leb, ltb}
-use borrow.Author.Tests.{ne-eqb, le-leb, lt-leb, ltb-false}
+use borrow.Author.Tests.{ne-eqb, le-leb, lt-leb, leb-false, ltb-false}
 use Rattle.lists.specs.Lists.{overlay, refusal, _if_}
 use Rattle.value.specs.declared.Value.{Value}
 use Rattle.kinds.specs.declared.answers.Refusal.{Refusal}
@@ -23,6 +23,7 @@ use Rattle.load.proofs.LoadLaws.{load-passed}
 use Rattle.tables.specs.Tables.{Tables, fullSize}
 use Rattle.net.specs.Net.{isNet, netNumber}
 use Rattle.net.specs.Parts.{lent}
+use Rattle.net.proofs.NetLaws.{netNumber-0, netNumber-16}
 use Rattle.look.specs.declared.Looked.the-variants.{Shown, Refused as NotShown}
 use Rattle.boxes.specs.Boxes.{matched, dangling}
 use Rattle.look.specs.Look.{shown, lookNumber, loadsOwn, lookedAt, lookVerdict, Looks}
@@ -57,19 +58,14 @@ own-passed s T ns wd e = by-size (sized s) refl (ltb (length ns) 256) (ltb (leng
 
 -- 16, 20 and 21, of tables of full size.
 module _ (at : ℕ → Record) (n : ℕ) (T : Tables) (c : ℕ) (full : fullSize T ≡ true) (k : ℕ) (e : k ≡ netNumber T) where
-  number-net : (b : Bool) → isNet T ≡ b → netNumber T ≡ cond b 0 16
-  unfolding netNumber
-  number-net true h = rw (full, h)
-  number-net false h = rw (full, h)
-
   pub number-16 : (k ≡ 0 → ⊥) → k ≡ lookNumber at n T c
   unfolding lookNumber
   number-16 ne = by-test (isNet T) refl
     where
       by-test : (b : Bool) → isNet T ≡ b
           → k ≡ refusal ((16 if not b) ∷ (20 if not (matched at n T) || leb n c) ∷ (21 if dangling at n c) ∷ [])
-      by-test true h = absurd (ne (e ∙ number-net true h))
-      by-test false h = e ∙ number-net false h
+      by-test true h = absurd (ne (e ∙ sym (netNumber-0 T full h)))
+      by-test false h = e ∙ sym (netNumber-16 T full h)
 
   module _ (z : k ≡ 0) where
     net : isNet T ≡ true
@@ -77,7 +73,7 @@ module _ (at : ℕ → Record) (n : ℕ) (T : Tables) (c : ℕ) (full : fullSize
       where
         by-test : (b : Bool) → isNet T ≡ b → isNet T ≡ true
         by-test true h = h
-        by-test false h = absurd (omega (arith, z, e, number-net false h))
+        by-test false h = absurd (omega (arith, z, e, netNumber-16 T full h))
 
     module _ (b : Bool) (m : b ≡ matched at n (lent (T .components) [] [] (T .wires) (T .counts))) where
       match : b ≡ matched at n T
@@ -106,23 +102,20 @@ module _ (at : ℕ → Record) (n : ℕ) (T : Tables) (c : ℕ) (full : fullSize
 pub record NumberPassed (at : ℕ → Record) (n : ℕ) (T : Tables) (c : ℕ) : Type 0 where
   pub net : isNet T ≡ true
   pub match : matched at n T ≡ true
+  pub there : c < n
   pub closed : dangling at n c ≡ false
 
 pub number-passed : (at : ℕ → Record) (n : ℕ) (T : Tables) (c : ℕ) → lookNumber at n T c ≡ 0 → NumberPassed at n T c
 unfolding lookNumber
-number-passed at n T c e = by-tests (isNet T) (matched at n T) (leb n c) (dangling at n c) refl refl refl e
+number-passed at n T c e = by-tests (isNet T) (matched at n T) (leb n c) (dangling at n c) refl refl refl refl e
   where
-    by-tests : (p q l d : Bool) → isNet T ≡ p → matched at n T ≡ q → dangling at n c ≡ d
+    by-tests : (p q l d : Bool) → isNet T ≡ p → matched at n T ≡ q → leb n c ≡ l → dangling at n c ≡ d
         → refusal ((16 if not p) ∷ (20 if not q || l) ∷ (21 if d) ∷ []) ≡ 0 → NumberPassed at n T c
-    by-tests false q l d x y z u = absurd (omega (arith, u))
-    by-tests true false l d x y z u = absurd (omega (arith, u))
-    by-tests true true true d x y z u = absurd (omega (arith, u))
-    by-tests true true false true x y z u = absurd (omega (arith, u))
-    by-tests true true false false x y z u = record { net = x; match = y; closed = z }
-
-pub net-zero : (T : Tables) → fullSize T ≡ true → isNet T ≡ true → netNumber T ≡ 0
-unfolding netNumber
-net-zero T f n = rw (f, n)
+    by-tests false q l d x y w z u = absurd (omega (arith, u))
+    by-tests true false l d x y w z u = absurd (omega (arith, u))
+    by-tests true true true d x y w z u = absurd (omega (arith, u))
+    by-tests true true false true x y w z u = absurd (omega (arith, u))
+    by-tests true true false false x y w z u = record { net = x; match = y; there = leb-false n c w; closed = z }
 
 -- The answer, v being what a load's own refusals are.
 module _ (s : List ℕ) (T : Tables) (path ns wd : List ℕ) (v : Verdict) (own : v ≡ loadsOwn s T ns wd) where

@@ -30,7 +30,7 @@ use Rattle.load.specs.Load.{loadVerdict}
 use Rattle.net.specs.Net.{isNet}
 use Rattle.boxes.specs.Boxes.{childNamed, placeOf, matched, dangling}
 use Rattle.look.specs.Look.{lookNumber, andThen, lookedAt, loadsOwn, lookVerdict}
-use Rattle.look.proofs.LookLaws.{own-passed}
+use Rattle.look.proofs.LookLaws.{own-passed, number-passed}
 use Rattle.looked.specs.Owed.{LookAsLoad, LookAccepted}
 use Rattle.looked.proofs.Shows.{no-open-input}
 
@@ -75,18 +75,6 @@ module _ (at : ℕ → Record) (n : ℕ) where
       let root : formOf (at 0) ≡ 1 = eqb-true (formOf (at 0)) 1 (not-false _ (d .passes 4 refl 0 (omega (arith, l)))) in
       ⊎-elim (λ u. absurd (omega (arith, u, l))) (λ v. v) (path-component path 0 (inr root))
 
-  -- Past 16, 20 and 21: the path names a component of the drawing, and it has no open input.
-  lookNumber-passed : (T : Tables) (c : ℕ) → lookNumber at n T c ≡ 0 → (c < n) × (dangling at n c ≡ false)
-  unfolding lookNumber
-  lookNumber-passed T c z =
-      let twenty = not (matched at n T) || leb n c in
-      let after = refusal-rest 16 (not (isNet T)) ((20 if twenty) ∷ (21 if dangling at n c) ∷ []) (λ q. omega arith) z in (
-        leb-false n c
-            (or-right (not (matched at n T)) (leb n c) (refusal-first 20 twenty ((21 if dangling at n c) ∷ []) (λ q. omega arith) after)),
-        refusal-first 21 (dangling at n c) [] (λ q. omega arith)
-            (refusal-rest 20 twenty ((21 if dangling at n c) ∷ []) (λ q. omega arith) after),
-      )
-
 pub look-accepted : LookAccepted
 unfolding lookVerdict
 look-accepted file T path ns ws e =
@@ -95,8 +83,8 @@ look-accepted file T path ns ws e =
     let c = lookedAt file path in
     let passed = andThen-passed (loadsOwn file T ns ws) (lookNumber at n T c) e in
     let d = accepted-passed file (own-passed file T ns ws (passed .0) .judged) in
-    let found = lookNumber-passed at n T c (passed .1) in (
-      place-component at n d path (found .0),
-      no-open-input at n d c (found .1),
+    let found = number-passed at n T c (passed .1) in (
+      place-component at n d path (found .there),
+      no-open-input at n d c (found .closed),
       λ i l. source-sound at n d 0 deepest c i (zero-add deepest) refl l,
     )

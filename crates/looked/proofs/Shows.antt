@@ -12,7 +12,7 @@ use borrow.Author.Tests.{eqb-true}
 use lib.ListN.{length}
 use lib.Dec.{eqb}
 use Rattle.lists.specs.Lists.{from, any}
-use Rattle.lists.proofs.MembersLaws.{In, any-none, from0-sound, from0-complete}
+use Rattle.lists.proofs.MembersLaws.{In, any-none, length-nil, from0-sound, from0-complete}
 use Rattle.component.specs.declared.Record.{Record}
 use Rattle.component.specs.Record.{recordAt, recordCount, inputsOf}
 use Rattle.component.specs.Drawing.{deepest}
@@ -23,11 +23,7 @@ use Rattle.boxes.specs.Boxes.{behind, dangling}
 use Rattle.looked.specs.Owed.{InputsShown, OutputsShown, OpenInput, NoOpenInput, LookShows}
 use Rattle.looked.proofs.LastLaws.{last-into, last-unique, last-sound}
 
--- A list of length 0 is empty; another has a member.
-length-nil : {A : Type 0} (xs : List A) → eqb (length xs) 0 ≡ true → xs ≡ []
-length-nil [] e = refl
-length-nil (x ∷ xs) e = absurd (omega (arith, eqb-true (suc (length xs)) 0 e))
-
+-- A list that is not empty has a member.
 length-member : {A : Type 0} (xs : List A) → eqb (length xs) 0 ≡ false → (a : A) × In a xs
 length-member [] e = absurd (true≢false e)
 length-member (x ∷ xs) e = (x, inl refl)
@@ -56,7 +52,7 @@ module _ (at : ℕ → Record) (n : ℕ) (d : Passed at n) where
   unfolding dangling
   open-input c e =
       let r = any-member (λ i. eqb (length (behind at n c i)) 0) (from 0 (inputsOf (at c))) e in
-      let none = length-nil (behind at n c (r .0)) (r .2) in (
+      let none = length-nil (behind at n c (r .0)) (eqb-true (length (behind at n c (r .0))) 0 (r .2)) in (
         r .0,
         from0-sound (inputsOf (at c)) (r .0) (r .1),
         λ t v. subst (In t) none (targets-complete at n d 0 deepest c (r .0) t (zero-add deepest) refl v),

@@ -16,7 +16,7 @@ use lib.ListN.{length, getD, take}
 use lib.Dec.{eqb, ltb}
 use Rattle.lists.specs.Lists.{from, keep, any, first, has}
 use Rattle.lists.proofs.TestsLaws.{and-left, and-right, or-left, or-cases}
-use Rattle.lists.proofs.MembersLaws.{In, keep-sound, any-some, from0-sound, from0-complete}
+use Rattle.lists.proofs.MembersLaws.{In, keep-sound, keep-first, any-some, from0-sound, from0-complete}
 use Rattle.kinds.specs.declared.answers.Refusal.{Refusal}
 use Rattle.component.specs.declared.Record.{Record}
 use Rattle.component.specs.declared.Verdict.{Verdict}
@@ -165,16 +165,6 @@ enters-both s q r e f =
       eq-eqb (inputOf r) (inputOf q) (b .input ∙ sym (a .input)),
     )
 
--- The first that passes stands in the list of those that pass, where one does.
-any-keep : (f : ℕ → Bool) (xs : List ℕ) (d : ℕ) → any f xs ≡ true → In (getD (keep f xs) 0 d) (keep f xs)
-any-keep f [] d e = absurd (false≢true e)
-any-keep f (x ∷ xs) d e = by-test (f x) (λ u. any-keep f xs d u) e
-  where
-    by-test : (b : Bool) → (any f xs ≡ true → In (getD (keep f xs) 0 d) (keep f xs)) → (b || any f xs) ≡ true
-        → In (getD (cond b (x ∷ keep f xs) (keep f xs)) 0 d) (cond b (x ∷ keep f xs) (keep f xs))
-    by-test true later u = inl refl
-    by-test false later u = later u
-
 module _ (at : ℕ → Record) (n p : ℕ) (k : Thirteen at n p) where
   here : FirstAt (fails13 at) 0 n p
   here = first-at (fails13 at) 0 n p (k .found)
@@ -193,7 +183,7 @@ module _ (at : ℕ → Record) (n p : ℕ) (k : Thirteen at n p) where
   earlier-in =
       subst (λ (q : ℕ). (meets q ≡ true) × In q (from 0 p)) earlier-is
       (keep-sound meets (getD (keep meets (from 0 p)) 0 p) (from 0 p)
-      (any-keep meets (from 0 p) p (and-right (entering (at p)) (any meets (from 0 p)) (here .passes))))
+      (keep-first meets (from 0 p) p (and-right (entering (at p)) (any meets (from 0 p)) (here .passes))))
 
   before : earlierOf at p < p
   before = from0-sound p (earlierOf at p) (earlier-in .1)

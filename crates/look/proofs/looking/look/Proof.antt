@@ -7,7 +7,8 @@ use Rattle.component.specs.Record.{recordAt, recordCount}
 use Rattle.flatten.proofs.Accepted.{accepted-passed}
 use Rattle.tables.specs.Tables.{Tables, tablesOf}
 use Rattle.look.proofs.RowsLaws.{rows-held}
-use Rattle.look.proofs.LookLaws.{OwnPassed, own-passed, number-passed, net-zero, look-own, look-refused, look-shown}
+use Rattle.net.proofs.NetLaws.{netNumber-0}
+use Rattle.look.proofs.LookLaws.{OwnPassed, own-passed, number-passed, look-own, look-refused, look-shown}
 use Rattle.look.proofs.looking.look.Statement.{statement}
 use Rattle.look.proofs.looking.look.Tie as tie
 
@@ -63,7 +64,7 @@ show-requires c κs =
     let m = number-passed at (recordCount (a .file .now)) (came s) _ (sym (n .look-number .ensures) ∙ c .before .before .before .if1 .left) in (
       (p .judged, j .judge-look .ensures .1 (told .enum-told .given .1), p .numbers-long, p .widths-long),
       (
-        rows-held at (recordCount (a .file .now)) (accepted-passed (a .file .now) (p .judged)) (came s) (net-zero (came s) (p .full) (m .net)) (m .match),
+        rows-held at (recordCount (a .file .now)) (accepted-passed (a .file .now) (p .judged)) (came s) (sym (netNumber-0 (came s) (p .full) (m .net))) (m .match),
         m .closed,
       ),
     )
