@@ -6,14 +6,13 @@ use mathlib.Core.Logic.{_⊎_, inl, inr, ⊎-elim}
 use Prim.Native.Nat.{ℕ, _-_, _<_}
 use native.Mathlib.Nat.{zero-add}
 use native.Mathlib.Omega.{arith}
-use mathlib.Core.Bool.{Bool, true, false, cond, not, _&&_, _||_}
+use mathlib.Core.Bool.{Bool, true, false, cond, _&&_}
 use mathlib.Core.List.{List, [], _∷_, foldl}
-use borrow.Author.Tests.{eqb-true, leb-false, le-ltb, not-false}
+use borrow.Author.Tests.{eqb-true, le-ltb, not-false}
 use lib.ListN.{length}
-use lib.Dec.{eqb, leb}
-use Rattle.lists.specs.Lists.{from, keep, _if_}
-use Rattle.lists.proofs.ListsLaws.{refusal-first, refusal-rest}
-use Rattle.lists.proofs.TestsLaws.{and-left, or-right}
+use lib.Dec.{eqb}
+use Rattle.lists.specs.Lists.{from, keep}
+use Rattle.lists.proofs.TestsLaws.{and-left}
 use Rattle.lists.proofs.MembersLaws.{getD-cases, keep-sound}
 use Rattle.kinds.specs.Given.{refusedBy}
 use Rattle.component.specs.declared.Record.{Record}
@@ -25,10 +24,8 @@ use Rattle.component.specs.Drawing.{deepest}
 use Rattle.flatten.specs.Verdict.{refused}
 use Rattle.flatten.proofs.Accepted.{Passed, not-accepted, refused-not, accepted-passed}
 use Rattle.flatten.proofs.DescentLeads.{source-sound}
-use Rattle.tables.specs.Tables.{Tables}
 use Rattle.load.specs.Load.{loadVerdict}
-use Rattle.net.specs.Net.{isNet}
-use Rattle.boxes.specs.Boxes.{childNamed, placeOf, matched, dangling}
+use Rattle.boxes.specs.Boxes.{childNamed, placeOf}
 use Rattle.look.specs.Look.{lookNumber, andThen, lookedAt, loadsOwn, lookVerdict}
 use Rattle.look.proofs.LookLaws.{own-passed, number-passed}
 use Rattle.looked.specs.Owed.{LookAsLoad, LookAccepted}

@@ -2,10 +2,7 @@
 // Rule: docs/SPECIFICATION.md, "Numbers given back", 13, 22 and 23.
 ghost use mathlib.Core.Path.{_≡_};
 ghost use mathlib.Core.Bool.{true};
-ghost use Prim.Native.Nat.{_≤_, _<_};
 ghost use lib.ListN.{length};
-ghost use Rattle.component.specs.declared.Verdict.{Verdict};
-ghost use Rattle.component.specs.declared.Verdict.the-variants.{Refused};
 ghost use Rattle.component.specs.Record.{recordAt, sized};
 ghost use Rattle.component.specs.Reading.{formOf};
 ghost use Rattle.index.specs.Index.{IsIndex};

@@ -8,7 +8,7 @@ use mathlib.Core.Logic.{_↔_, _⊎_, inl, inr}
 use Prim.Native.Nat.{ℕ, zero, suc, _+_, _≤_, _<_}
 use native.Mathlib.Omega.{arith}
 use native.Mathlib.Decide.{decLt}
-use mathlib.Core.Bool.{Bool, true, false, cond, _&&_, _||_, true≢false, false≢true}
+use mathlib.Core.Bool.{Bool, true, false, cond, _&&_, true≢false, false≢true}
 use mathlib.Core.List.{List, [], _∷_}
 use mathlib.Core.Option.{Option, none, some}
 use borrow.Author.Tests.{eqb-true, eqb-false, eq-eqb, ne-eqb, ltb-false}
@@ -23,12 +23,12 @@ use Rattle.component.specs.declared.Verdict.{Verdict}
 use Rattle.component.specs.declared.Verdict.the-variants.{Accepted, Refused}
 use Rattle.component.specs.Record.{recordAt, recordCount, toOf, inputOf, entering, enteringAs, sized}
 use Rattle.component.specs.Reading.{formOf, ownerOf}
-use Rattle.component.specs.Drawing.{fails4, fails13, earlierOf}
+use Rattle.component.specs.Drawing.{fails13, earlierOf}
 use Rattle.flatten.specs.Verdict.{orLater, judged, checks, refused, verdict}
 use Rattle.flatten.specs.Searches.{PassedBefore}
 use Rattle.flatten.proofs.Accepted.{Check, noCheck, not-accepted, passed-check}
 use Rattle.flatten.proofs.JudgementLaws.{number-at, verdict-bound}
-use Rattle.meeting.specs.Meeting.{metAs, meeting, against, judgement}
+use Rattle.meeting.specs.Meeting.{meeting, against, judgement}
 use Rattle.meeting.proofs.MeetingLaws.{judgement-accepted, accepted-judgement}
 use Rattle.met.specs.Met.{tellsOfTwo, Meets, Split}
 
