@@ -39,7 +39,8 @@
  * of lighting below holds again from the next load on.
  *
  * EVERY CALL takes any bytes, any words and any lengths, ends, and answers a number times 65,536 plus a position: 0 where it is
- * done. The position is a record of the file, from 0, and is 0 in each call but a judgement, a load and a look. The same words
+ * done. The position is a record of the file, from 0, and is 0 in each call but a judgement, a load and a look. (One judgement,
+ * `berxundar_judge_pair`, has a third number below the position: the other of two records that enter one input.) The same words
  * always give the same answer. A call that is refused writes nothing at all.
  *
  * A CALLER MUST KEEP TO THIS

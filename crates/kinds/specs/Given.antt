@@ -7,10 +7,11 @@
 --   spokenPair g the host's number with the earlier record
 -- Assumes nothing.
 use Prim.Native.Nat.{ℕ, _+_, _*_}
-use mathlib.Core.Bool.{cond}
-use mathlib.Core.List.{List}
+use mathlib.Core.Bool.{Bool, cond}
+use mathlib.Core.List.{List, [], _∷_}
 use mathlib.Core.Option.{Option, none, some}
 use lib.Dec.{eqb}
+use Rattle.lists.specs.Lists.{has}
 use Rattle.kinds.specs.declared.answers.Refusal.{Refusal}
 
 -- The document's number and position, the earlier record of two that meet, and the values; a refused call has none.
@@ -31,6 +32,10 @@ declined r = record { number = r .number; position = r .position; earlier = r .e
 -- A refusal "at position 0", which names no earlier record.
 abbrev pub refusedBy : ℕ → Refusal
 refusedBy k = record { number = k; position = 0; earlier = 0 }
+
+-- A number that tells of two records that meet, and so of the earlier of them.
+abbrev pub tellsOfTwo : ℕ → Bool
+tellsOfTwo k = has k (13 ∷ 22 ∷ 23 ∷ [])
 
 -- The host's number: "number times 65,536 plus position".
 abbrev pub spoken : Given → ℕ

@@ -2,16 +2,17 @@
 -- Assumes nothing.
 use mathlib.Core.Path.{_≡_, refl, sym, ap, subst, _∙_}
 use mathlib.Core.Bool.{Bool, true, false, _||_}
-use mathlib.Core.List.{List, [], _∷_, _++_, append-assoc}
+use mathlib.Core.List.{List, [], _++_, append-assoc}
 use Prim.Native.Nat.{ℕ, _+_, _-_, _≤_, _<_}
 use native.Mathlib.Nat.{sub-zero}
 use native.Mathlib.Omega.{arith}
 use lib.ListN.{length}
 use lib.Seq.{length-sets}
 use lib.Dec.{eqb}
-use Rattle.lists.specs.Lists.{from, joined, has}
+use Rattle.lists.specs.Lists.{from, joined}
 use Rattle.lists.proofs.ListsLaws.{from-end, joined-step}
 use Rattle.kinds.specs.declared.answers.Refusal.{Refusal}
+use Rattle.kinds.specs.Given.{tellsOfTwo}
 use Rattle.text.specs.Text.{numeral, ascii, Puts}
 use Rattle.text.proofs.TextLaws.{put-both, ToCome, begun, put-piece, ended}
 use Rattle.lines.specs.Lines.{againstText}
@@ -59,8 +60,8 @@ module _ (x : Refusal) where
   abbrev meets : Bool
   meets = (eqb (x .number) 13 || eqb (x .number) 22) || eqb (x .number) 23
 
-  meets-has : has (x .number) (13 ∷ 22 ∷ 23 ∷ []) ≡ meets
-  meets-has = by-tests (eqb (x .number) 13) (eqb (x .number) 22) (eqb (x .number) 23)
+  meets-tells : tellsOfTwo (x .number) ≡ meets
+  meets-tells = by-tests (eqb (x .number) 13) (eqb (x .number) 22) (eqb (x .number) 23)
     where
       by-tests : (a b c : Bool) → (a || (b || (c || false))) ≡ ((a || b) || c)
       by-tests true b c = refl
@@ -69,7 +70,7 @@ module _ (x : Refusal) where
       by-tests false false false = refl
 
   pub against-named : meets ≡ true → ascii " against " ++ numeral (x .earlier) ≡ againstText x
-  against-named h = rw (meets-has ∙ h)
+  against-named h = rw (meets-tells ∙ h)
 
   pub against-none : meets ≡ false → [] ≡ againstText x
-  against-none h = rw (meets-has ∙ h)
+  against-none h = rw (meets-tells ∙ h)

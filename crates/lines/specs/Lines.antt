@@ -3,9 +3,10 @@
 -- Assumes nothing.
 use Prim.Native.Nat.{ℕ}
 use mathlib.Core.Bool.{cond}
-use mathlib.Core.List.{List, [], _∷_, _++_}
-use Rattle.lists.specs.Lists.{from, joined, has}
+use mathlib.Core.List.{List, [], _++_}
+use Rattle.lists.specs.Lists.{from, joined}
 use Rattle.kinds.specs.declared.answers.Refusal.{Refusal}
+use Rattle.kinds.specs.Given.{tellsOfTwo}
 use Rattle.kinds.specs.Kinds.{kindOf}
 use Rattle.tables.specs.declared.Wire.{Wire}
 use Rattle.tables.specs.Tables.{Tables, fieldsAt, idAt, wireAt, indexes}
@@ -38,7 +39,7 @@ roundLine r xs = ascii "round " ++ numeral r ++ ascii " next" ++ spaced xs ++ as
 
 -- The earlier record of two that meet: "`against` for these three numbers only".
 abbrev pub againstText : Refusal → List ℕ
-againstText x = cond (has (x .number) (13 ∷ 22 ∷ 23 ∷ [])) (ascii " against " ++ numeral (x .earlier)) []
+againstText x = cond (tellsOfTwo (x .number)) (ascii " against " ++ numeral (x .earlier)) []
 
 -- A refused file: what, where, and against which record.
 abbrev pub refusedLine : Refusal → List ℕ

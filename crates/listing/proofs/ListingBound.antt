@@ -10,7 +10,7 @@ use native.Mathlib.Omega.{arith}
 use borrow.Author.Tests.{ltb-false}
 use lib.ListN.{length, length-append}
 use lib.Dec.{ltb}
-use Rattle.lists.specs.Lists.{from, joined, has}
+use Rattle.lists.specs.Lists.{from, joined}
 use Rattle.lists.proofs.ListsLaws.{every-from}
 use Rattle.lists.proofs.TestsLaws.{and-left}
 use Rattle.lists.proofs.MembersLaws.{In}
@@ -19,6 +19,7 @@ use Rattle.value.proofs.ValueLaws.{below-lt}
 use Rattle.kinds.specs.declared.Kind.{Kind}
 use Rattle.kinds.specs.declared.Kind.the-variants.{Composite, And, Or, Not, Nand, Nor, Xor, Switch, Input, Output, Splitter, Joiner, Clock, Const}
 use Rattle.kinds.specs.declared.answers.Refusal.{Refusal}
+use Rattle.kinds.specs.Given.{tellsOfTwo}
 use Rattle.kinds.specs.Kinds.{kindOf}
 use Rattle.component.specs.Record.{IsBytes}
 use Rattle.component.specs.declared.Verdict.{Verdict}
@@ -194,7 +195,7 @@ rounds-few (suc k) r T z h =
     by-calm false xs l = l
 
 against-few : (x : Refusal) → length (againstText x) ≤ 9 + length (numeral (x .earlier))
-against-few x = by-number (has (x .number) (13 ∷ 22 ∷ 23 ∷ []))
+against-few x = by-number (tellsOfTwo (x .number))
   where
     by-number : (b : Bool) → length (cond b (ascii " against " ++ numeral (x .earlier)) []) ≤ 9 + length (numeral (x .earlier))
     by-number true = simp length-append (omega arith)

@@ -14,10 +14,11 @@ use mathlib.Core.Option.{Option, none, some}
 use borrow.Author.Tests.{eqb-true, eqb-false, eq-eqb, ne-eqb, ltb-false}
 use lib.ListN.{length, getD, take}
 use lib.Dec.{eqb, ltb}
-use Rattle.lists.specs.Lists.{from, keep, any, first, has}
+use Rattle.lists.specs.Lists.{from, keep, any, first}
 use Rattle.lists.proofs.TestsLaws.{and-left, and-right, or-left, or-cases}
 use Rattle.lists.proofs.MembersLaws.{In, keep-sound, keep-first, any-some, from0-sound, from0-complete}
 use Rattle.kinds.specs.declared.answers.Refusal.{Refusal}
+use Rattle.kinds.specs.Given.{tellsOfTwo}
 use Rattle.component.specs.declared.Record.{Record}
 use Rattle.component.specs.declared.Verdict.{Verdict}
 use Rattle.component.specs.declared.Verdict.the-variants.{Accepted, Refused}
@@ -30,7 +31,7 @@ use Rattle.flatten.proofs.Accepted.{Check, noCheck, not-accepted, passed-check}
 use Rattle.flatten.proofs.JudgementLaws.{number-at, verdict-bound}
 use Rattle.meeting.specs.Meeting.{meeting, against, judgement}
 use Rattle.meeting.proofs.MeetingLaws.{judgement-accepted, accepted-judgement}
-use Rattle.met.specs.Met.{tellsOfTwo, Meets, Split}
+use Rattle.met.specs.Met.{Meets, Split}
 
 -- What a verdict tells.
 abbrev numberIn : Verdict → ℕ
@@ -232,7 +233,7 @@ record Told (a b x : ℕ) : Type 0 where
   two-connections : x ≡ 13 ↔ (a ≡ 2) × (b ≡ 2)
   connection-and-map : x ≡ 22 ↔ (a ≡ 2) × (b ≡ 3)
   two-maps : x ≡ 23 ↔ (a ≡ 3) × (b ≡ 3)
-  one-of : has x (13 ∷ 22 ∷ 23 ∷ []) ≡ true
+  one-of : tellsOfTwo x ≡ true
 
 told-13 : Told 2 2 13
 told-13 =
@@ -297,7 +298,7 @@ meets-here at n p k =
 -- Where two records are told, the verdict is 13 at the later.
 told-only : (at : ℕ → Record) (v : Verdict) (r : Refusal)
     → ((u : Refusal) → v ≡ Refused u → (u .number < 16) × (u .position < 1024) × (u .earlier ≡ 0))
-    → against at v ≡ Refused r → tellsOfTwo r → v ≡ refused 13 (r .position)
+    → against at v ≡ Refused r → tellsOfTwo (r .number) ≡ true → v ≡ refused 13 (r .position)
 told-only at Accepted r h e t = absurd (not-accepted r (sym e))
 told-only at (Refused u) r h e t = by-number (eqb (u .number) 13) refl e
   where

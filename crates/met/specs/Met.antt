@@ -5,19 +5,15 @@
 use mathlib.Core.Path.{_≡_}
 use Prim.Native.Nat.{ℕ, _<_}
 use mathlib.Core.Bool.{true}
-use mathlib.Core.List.{List, [], _∷_}
+use mathlib.Core.List.{List}
 use mathlib.Core.Logic.{_↔_}
-use Rattle.lists.specs.Lists.{has}
 use Rattle.kinds.specs.declared.answers.Refusal.{Refusal}
+use Rattle.kinds.specs.Given.{tellsOfTwo}
 use Rattle.component.specs.declared.Record.{Record}
 use Rattle.component.specs.declared.Verdict.the-variants.{Accepted, Refused}
 use Rattle.component.specs.Record.{recordAt, entering, enteringAs}
 use Rattle.flatten.specs.Verdict.{refused, verdict}
 use Rattle.meeting.specs.Meeting.{judgement}
-
--- The number tells of two records that meet.
-abbrev pub tellsOfTwo : Refusal → Type 0
-tellsOfTwo r = has (r .number) (13 ∷ 22 ∷ 23 ∷ []) ≡ true
 
 -- Two records that meet: both enter the same input, the earlier is the only one before that does, and the number says what they are.
 pub record Meets (at : ℕ → Record) (p : ℕ) (r : Refusal) : Type 0 where
@@ -26,7 +22,7 @@ pub record Meets (at : ℕ → Record) (p : ℕ) (r : Refusal) : Type 0 where
   pub later-enters : entering (at p) ≡ true
   pub same-input : enteringAs (at p) (at (r .earlier)) ≡ true
   pub only : (q : ℕ) → q < p → enteringAs (at p) (at q) ≡ true → q ≡ r .earlier
-  pub one-of : tellsOfTwo r
+  pub one-of : tellsOfTwo (r .number) ≡ true
   pub two-connections : r .number ≡ 13 ↔ (at (r .earlier) .form ≡ 2) × (at p .form ≡ 2)
   pub connection-and-map : r .number ≡ 22 ↔ (at (r .earlier) .form ≡ 2) × (at p .form ≡ 3)
   pub two-maps : r .number ≡ 23 ↔ (at (r .earlier) .form ≡ 3) × (at p .form ≡ 3)
@@ -39,4 +35,4 @@ Split =
     → (judgement file ≡ Accepted ↔ verdict file ≡ Accepted)
     × ((k p : ℕ) → (k ≡ 13 → ⊥) → verdict file ≡ refused k p → judgement file ≡ refused k p)
     × ((p : ℕ) → verdict file ≡ refused 13 p → (r : Refusal) × (judgement file ≡ Refused r) × Meets (recordAt file) p r)
-    × ((r : Refusal) → judgement file ≡ Refused r → tellsOfTwo r → verdict file ≡ refused 13 (r .position))
+    × ((r : Refusal) → judgement file ≡ Refused r → tellsOfTwo (r .number) ≡ true → verdict file ≡ refused 13 (r .position))
