@@ -3,7 +3,9 @@ mod answers;
 mod table;
 
 ghost use mathlib.Core.Path.{_≡_};
+ghost use Prim.Native.Nat.{_<_};
 ghost use Rattle.kinds.specs.Kinds.{numberOf, seenAs, forCustom, unknown};
+ghost use Rattle.kinds.specs.Marks.{markOf};
 pub use answers::Refusal;
 pub use answers::refused_by;
 pub use table::Fields;
@@ -111,4 +113,12 @@ pub fn is_unknown(number: u8) -> bool
         Seen::Kept => false,
         Seen::Unknown => true,
     }
+}
+
+// The mark of an id, of 4,096: equal ids have equal marks. Crates checks and net search for an id only where its mark is set. The product
+// spreads ids that follow each other, and multiples of a power of two.
+pub fn mark_of(id: Id) -> usize
+    ensures { λ r. ⌜ (r ≡ markOf (id .0)) × (r < 4096) ⌝ }
+{
+    (id.0 as u64 * 2654435769 % 4294967296 / 1048576) as usize
 }

@@ -3,3 +3,4 @@ pub mod ListsLaws
 pub mod MembersLaws
 pub mod NamesLaws
 pub mod OverlayLaws
+pub mod KeysLaws
