@@ -1,12 +1,12 @@
 -- Laws of a record taken apart: what the else of a `let .. else` knows, by the variant that its pattern names, and what a pattern that fits knows.
 -- Assumes nothing.
 use mathlib.Core.Path.{_≡_, refl, sym, ap, _∙_}
-use mathlib.Core.Bool.{Bool, true, false, not, _&&_, _||_}
+use mathlib.Core.Bool.{Bool, true, false, cond, not, _&&_, _||_}
 use mathlib.Core.Logic.{_⊎_, inl, inr, ⊎-elim}
 use mathlib.Core.List.{List, [], _∷_}
 use Prim.Native.Nat.{ℕ, _+_, _-_, _*_, _/_, _≤_, _<_}
 use native.Mathlib.Omega.{arith}
-use borrow.Author.Tests.{eqb-true, ne-eqb, lt-ltb, le-ltb, not-true, not-false}
+use borrow.Author.Tests.{eqb-true, eqb-false, ne-eqb, lt-ltb, le-ltb, not-true, not-false}
 use lib.Dec.{eqb}
 use lib.ListN.{length, getD, take, drop}
 use types.Run.{OneOf}
@@ -18,7 +18,7 @@ use Rattle.component.specs.Record.{le16, le32, le64, numbersIn, bare, we
 use Rattle.component.specs.Reading.{noFields}
 use Rattle.component.specs.Reading.{recordIn}
 use Rattle.component.specs.Reading.{ownerOf, formOf, apart, formBy, said, number, StandsAs}
-use Rattle.component.specs.Reading.{given}
+use Rattle.component.specs.Reading.{given, Readable}
 use Rattle.component.specs.Record.{isPrimitive}
 use Rattle.component.specs.declared.Record.{Record}
 use Rattle.kinds.specs.declared.Id.{Id}
@@ -224,6 +224,25 @@ module _ (s : List ℕ) (p : ℕ) where
       let z : recordIn r ≡ recordAt s p =
       ap recordIn (e ∙ ap (λ (n : ℕ). numbersIn (take n (drop (24 * p) s))) n) ∙ rw (lt-ltb p (length s / 24) h) in
       (a ∙ z, b ∙ ap (λ (t : Record). given 3 (eqb (formOf t) 0)) z)
+
+  -- of a file in which check 3 refuses no record, one passes it
+  module _ (r : Record) (h : p < length s / 24) (e : r ≡ numbersIn (take (24 * p + 24 - 24 * p) (drop (24 * p) s))) where
+    known-in : recordIn r ≡ recordAt s p
+    known-in =
+        let n : 24 * p + 24 - 24 * p ≡ 24 = omega arith in
+        ap recordIn (e ∙ ap (λ (n : ℕ). numbersIn (take n (drop (24 * p) s))) n) ∙ rw (lt-ltb p (length s / 24) h)
+
+    pub known-well : Readable s → wellFormed r ≡ true
+    known-well k = by-test (wellFormed r) refl
+      where
+        by-test : (b : Bool) → wellFormed r ≡ b → wellFormed r ≡ true
+        by-test true w = w
+        by-test false w =
+            let z : recordAt s p ≡ noRecord = sym known-in ∙ rw w in
+            absurd (eqb-false (formOf (recordAt s p)) 0 (k p h) (ap formOf z))
+
+    pub known-taken : (x : Says) → Readable s → apart (r .owner) x ≡ r → said (Taken (r .owner) x) ≡ recordAt s p
+    known-taken x k a = a ∙ sym (ap (λ (b : Bool). cond b r noRecord) (known-well k)) ∙ known-in
 
   pub recordAt-past : length s / 24 ≤ p → (said (Refused 3) ≡ recordAt s p) × (number (Refused 3) ≡ given 3 (eqb (formOf (recordAt s p)) 0))
   recordAt-past h = (rw (le-ltb p (length s / 24) h), rw (le-ltb p (length s / 24) h))

@@ -2,8 +2,9 @@
 -- Nobody has to believe anything here: each word ties an enum of the code to the nine numbers of specs/Record.antt, of which the checks speak.
 -- Assumes nothing.
 use mathlib.Core.Path.{_≡_}
-use Prim.Native.Nat.{ℕ}
-use mathlib.Core.Bool.{Bool, cond, _&&_}
+use Prim.Native.Nat.{ℕ, _<_}
+use mathlib.Core.Bool.{Bool, false, cond, _&&_}
+use mathlib.Core.List.{List}
 use Rattle.kinds.specs.declared.table.Fields.{Fields}
 use Rattle.component.specs.declared.Record.{Record}
 use Rattle.component.specs.declared.Says.{Says}
@@ -13,7 +14,7 @@ use Rattle.component.specs.declared.Reading.the-variants.{Taken, Refused
 use Rattle.component.specs.declared.Stands.{Stands}
 use Rattle.component.specs.declared.Stands.the-variants.{Component as StandsComponent, Nothing}
 use lib.Dec.{eqb}
-use Rattle.component.specs.Record.{noRecord, wellFormed, entering, toOf, inputOf}
+use Rattle.component.specs.Record.{noRecord, wellFormed, recordAt, recordCount, entering, toOf, inputOf}
 
 -- Its record kind, its owner and its id, as laws speak of them.
 abbrev pub formOf : Record → ℕ
@@ -73,6 +74,10 @@ given k b = cond b k 0
 -- Nine numbers as a record, or none where check 3 refuses them.
 abbrev pub recordIn : Record → Record
 recordIn r = cond (wellFormed r) r noRecord
+
+-- Check 3 refuses no record of the file.
+abbrev pub Readable : List ℕ → Type 0
+Readable file = (p : ℕ) → p < recordCount file → eqb (recordAt file p .form) 0 ≡ false
 
 -- A component of id i.
 abbrev pub hasId : ℕ → Record → Bool

@@ -1,5 +1,5 @@
 // Reading a record: it is taken apart, or refused with the number 3; and the size of a file, check 1. Rule:
-// docs/SPECIFICATION.md, "The drawing file".
+// docs/SPECIFICATION.md, "The drawing file". Where check 3 has passed, `known_at` takes a record apart without asking again.
 ghost use mathlib.Core.Path.{_≡_};
 ghost use Prim.Native.Nat.{_+_, _*_, _≤_, _<_};
 ghost use lib.ListN.{length};
@@ -8,7 +8,7 @@ ghost use lib.Dec.{eqb};
 ghost use Rattle.component.specs.Record.{le16, le32, le64, numbersIn, wellFormed, recordAt, sized};
 ghost use Rattle.component.specs.Reading.{recordIn};
 ghost use Rattle.component.specs.Record.{fieldsOf, isPrimitive};
-ghost use Rattle.component.specs.Reading.{apart, said, number, given, StandsAs};
+ghost use Rattle.component.specs.Reading.{apart, said, number, given, Readable, StandsAs};
 ghost use Rattle.component.specs.Drawing.{deepest, fails3};
 use crate::ChildNo;
 use crate::Reading;
@@ -149,11 +149,30 @@ pub fn record_at(file: &[u8], p: usize) -> Reading
     Reading::Refused(3)
 }
 
-// The component at a position of the file, if there is one.
+// The same of a file in which check 3 refuses no record: the record kind alone says how it is taken apart. Whoever looks at a field of it
+// reads no other.
+pub fn known_at(file: &[u8], p: usize) -> Reading
+    requires { ⌜ Readable (now file) ⌝ }
+    ensures { λ r. ⌜ said r ≡ recordAt (now (file .entry)) p ⌝ }
+{
+    if p < file.len() / 24 {
+        let a = 24 * p;
+        let e = a + 24;
+        let r = numbers(&file[a..e]);
+        return Reading::Taken {
+            owner: r.owner,
+            says: take(r),
+        };
+    }
+    Reading::Refused(3)
+}
+
+// The component at a position of the file, if there is one. Check 3 has passed.
 pub fn component_at(file: &[u8], p: usize) -> Stands
+    requires { ⌜ Readable (now file) ⌝ }
     ensures { λ r. ⌜ StandsAs r (recordAt (now (file .entry)) p) ⌝ }
 {
-    let Reading::Taken { owner, says } = record_at(file, p) else {
+    let Reading::Taken { owner, says } = known_at(file, p) else {
         return Stands::Nothing;
     };
     let Says::Component { id, fields } = says else {
@@ -162,8 +181,9 @@ pub fn component_at(file: &[u8], p: usize) -> Stands
     Stands::Component { owner, id, fields }
 }
 
-// The fields of the component at a position of the file; those of no component where none stands there.
+// The fields of the component at a position of the file; those of no component where none stands there. Check 3 has passed.
 pub fn fields_at(file: &[u8], p: usize) -> Fields
+    requires { ⌜ Readable (now file) ⌝ }
     ensures { λ r. ⌜ r ≡ fieldsOf (recordAt (now (file .entry)) p) ⌝ }
 {
     let Stands::Component { fields, .. } = component_at(file, p) else {
@@ -178,8 +198,9 @@ pub fn fields_at(file: &[u8], p: usize) -> Fields
     fields
 }
 
-// Whether a primitive, a component of a kind other than the composite's, stands at a position of the file.
+// Whether a primitive, a component of a kind other than the composite's, stands at a position of the file. Check 3 has passed.
 pub fn is_primitive_at(file: &[u8], p: usize) -> bool
+    requires { ⌜ Readable (now file) ⌝ }
     ensures { λ r. ⌜ r ≡ isPrimitive (recordAt (now (file .entry)) p) ⌝ }
 {
     kinds::is_primitive(fields_at(file, p))

@@ -1,3 +1,3 @@
-pub mod FillingLaws
+pub mod NumberingLaws
 pub mod WideningLaws
 pub mod IndexLaws

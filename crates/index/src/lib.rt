@@ -1,21 +1,29 @@
-// An index of a file's records: where child k of a component stands, and output map i of a composite, and between which records its
-// input maps stand. Rule: docs/SPECIFICATION.md, "The drawing file". It has words for the first 256 owners; past them the records are
-// searched one by one. Its three parts are filled in one pass each: word 256 * o + k is child k of owner o; word 65536 + 64 * c + i the
-// record that maps output i of composite c; the input maps of composite c stand from word 81920 + c to before word 82176 + c.
+// An index of a file's records, filled once the checks before it have passed: where child k of a component stands, and output map i of a
+// composite, how many output maps it has, and between which records its input maps stand. Rule: docs/SPECIFICATION.md, "The drawing file".
+// It is small: it does not have the child k of each owner, but a guess, which counts if the record says so itself, being of that owner and
+// with k children of that owner before it; else the records are searched one by one. So nothing has to be known of the guesses.
+//   words 0 to 511        of each of 256 components how many of its owner's children stand before it; of each of 256 owners its children
+//   words 512 to 1791     of each of 1,024 records how many of its owner's output maps stand before it; of each of 256 owners its output maps
+//   words 1792 to 2303    the input maps of composite c stand from word 1792 + c to before word 2048 + c
+//   words 2304 to 2815    guesses: the children, owner by owner; where those of each owner start
+//   words 2816 to 3071    guesses: the first output map of each owner
 ghost use mathlib.Core.Path.{_≡_};
-ghost use Prim.Native.Nat.{ℕ, _*_, _≤_, _<_};
+ghost use mathlib.Core.Bool.{true};
+ghost use Prim.Native.Nat.{ℕ, _+_, _≤_, _<_};
 ghost use lib.ListN.{length, getD};
 ghost use lib.Dec.{eqb};
 ghost use Rattle.component.specs.Record.{recordAt, recordCount};
-ghost use Rattle.component.specs.Reading.{said, formBy};
-ghost use Rattle.index.specs.Index.{nthOwned, putWord, putCount, widenLow, widenHigh};
+ghost use Rattle.component.specs.Reading.{said, formBy, Readable};
+ghost use Rattle.index.specs.Index.{nthOwned, numbered, widenLow, widenHigh};
 ghost use Rattle.component.specs.Record.{ownedAs};
-ghost use Rattle.index.specs.Index.{IsClear, IsTable, IsRange, IsIndex, stretchFirst, stretchEnd};
+ghost use Rattle.index.specs.Index.{IsClear, IsNumbered, IsRange, IsIndex, KeptBelow, stretchFirst, stretchEnd, outCount};
 ghost use Rattle.component.specs.Drawing.{child, outMap};
 use component::ChildNo;
 use component::Reading;
 use component::Says;
-use component::record_at;
+use component::Stands;
+use component::component_at;
+use component::known_at;
 
 // The positions from `first` to before `end`.
 pub struct Stretch {
@@ -35,12 +43,12 @@ fn is_of(says: Says, form: u8) -> bool
     }
 }
 
-// Whether the record at q is of a kind and of an owner. Crate checks calls it for output maps, record kind 4.
-pub fn is_owned(file: &[u8], q: usize, form: u8, o: usize) -> bool
-    requires { ⌜ 1 ≤ form ⌝ }
+// Whether the record at q is of a kind and of an owner.
+fn is_owned(file: &[u8], q: usize, form: u8, o: usize) -> bool
+    requires { ⌜ Readable (now file) × (1 ≤ form) ⌝ }
     ensures { λ x. ⌜ x ≡ ownedAs form o (recordAt (now (file .entry)) q) ⌝ }
 {
-    let Reading::Taken { owner, says } = record_at(file, q) else {
+    let Reading::Taken { owner, says } = known_at(file, q) else {
         return false;
     };
     is_of(says, form) & (owner as usize == o)
@@ -48,7 +56,7 @@ pub fn is_owned(file: &[u8], q: usize, form: u8, o: usize) -> bool
 
 // The kth record of a kind and an owner, from position `first` on; n where there is none.
 fn nth_owned(file: &[u8], n: usize, form: u8, first: usize, o: usize, k: usize) -> usize
-    requires { ⌜ 1 ≤ form ⌝ }
+    requires { ⌜ Readable (now file) × (1 ≤ form) ⌝ }
     ensures { λ r. ⌜ r ≡ nthOwned (now (file .entry)) n form first o k ⌝ }
 {
     let mut left = k;
@@ -76,11 +84,10 @@ fn clear(table: &mut [u16], x: u16)
     }
 }
 
-// Puts a record of the kind into the table as the next of its owner, where the table has a place for it, and counts it.
-fn put(table: &mut [u16], counts: &mut [u16; 256], w: usize, form: u8, r: Reading, q: u16)
-    requires { ⌜ (length (now table) ≡ 256 * w) × (w ≤ 256) × (1 ≤ form) × ((o : ℕ) → getD (now counts) o 0 ≤ 1024) ⌝ }
-    ensures { λ _. ⌜ now (table .exit) ≡ putWord w form (said r) q (now (counts .entry)) (now (table .entry)) ⌝ }
-    ensures { λ _. ⌜ now (counts .exit) ≡ putCount form (said r) (now (counts .entry)) ⌝ }
+// Counts a record of the kind, where the table has a word for its owner: its own word, of the first w, is how many were before it.
+fn number(table: &mut [u16], w: usize, form: u8, r: Reading, q: usize)
+    requires { ⌜ (length (now table) ≡ w + 256) × (w ≤ 1024) × (1 ≤ form) × ((o : ℕ) → getD (now table) (w + o) 0 ≤ 1024) ⌝ }
+    ensures { λ _. ⌜ now (table .exit) ≡ numbered w form (said r) q (now (table .entry)) ⌝ }
 {
     let Reading::Taken { owner, says } = r else {
         return;
@@ -92,42 +99,24 @@ fn put(table: &mut [u16], counts: &mut [u16; 256], w: usize, form: u8, r: Readin
     if 256 <= o {
         return;
     }
-    let k = counts[o];
-    counts[o] = k + 1;
-    let at = k as usize;
-    if at < w {
-        table[w * o + at] = q;
+    let k = table[w + o];
+    table[w + o] = k + 1;
+    if q < w {
+        table[q] = k;
     }
 }
 
-// Fills a table with the records of a kind from position `first` on, w words for each owner.
-fn fill(file: &[u8], n: usize, form: u8, first: usize, w: usize, table: &mut [u16])
-    requires { ⌜ (n ≤ 1024) × (w ≤ 256) × (1 ≤ form) × (length (now table) ≡ 256 * w) ⌝ }
-    ensures { λ _. ⌜ IsTable w (nthOwned (now (file .entry)) n form first) (now (table .exit)) ⌝ }
+// Fills a table with the numbers of the records of a kind from position `first` on, w words for records and 256 for owners.
+fn fill_numbers(file: &[u8], n: usize, form: u8, first: usize, w: usize, table: &mut [u16])
+    requires { ⌜ Readable (now file) × (n ≤ 1024) × (w ≤ 1024) × (1 ≤ form) × (length (now table) ≡ w + 256) ⌝ }
+    ensures { λ _. ⌜ IsNumbered (now (file .entry)) n w form first (now (table .exit)) ⌝ }
 {
-    clear(table, n as u16);
-    let mut counts = [0u16; 256];
+    clear(table, 0);
     let mut q = first;
     while q < n {
-        put(table, &mut counts, w, form, record_at(file, q), q as u16);
+        number(table, w, form, known_at(file, q), q);
         q += 1;
     }
-}
-
-// Fills the part of the children.
-fn fill_children(file: &[u8], n: usize, children: &mut [u16])
-    requires { ⌜ (n ≤ 1024) × (length (now children) ≡ 65536) ⌝ }
-    ensures { λ _. ⌜ IsTable 256 (child (recordAt (now (file .entry))) n) (now (children .exit)) ⌝ }
-{
-    fill(file, n, 1, 1, 256, children);
-}
-
-// Fills the part of the output maps.
-fn fill_outs(file: &[u8], n: usize, outs: &mut [u16])
-    requires { ⌜ (n ≤ 1024) × (length (now outs) ≡ 16384) ⌝ }
-    ensures { λ _. ⌜ IsTable 64 (outMap (recordAt (now (file .entry))) n) (now (outs .exit)) ⌝ }
-{
-    fill(file, n, 4, 0, 64, outs);
 }
 
 // Widens the stretch of an input map's owner to its position.
@@ -153,27 +142,131 @@ fn widen(ends: &mut [u16], r: Reading, q: u16)
 
 // Fills the part of the stretches.
 fn fill_ends(file: &[u8], n: usize, ends: &mut [u16])
-    requires { ⌜ (n ≤ 1024) × (length (now ends) ≡ 512) ⌝ }
+    requires { ⌜ Readable (now file) × (n ≤ 1024) × (length (now ends) ≡ 512) ⌝ }
     ensures { λ _. ⌜ IsRange (now (file .entry)) n (now (ends .exit)) ⌝ }
 {
     clear(&mut ends[0..256], n as u16);
     clear(&mut ends[256..512], 0);
     let mut q: usize = 0;
     while q < n {
-        widen(ends, record_at(file, q), q as u16);
+        widen(ends, known_at(file, q), q as u16);
         q += 1;
     }
 }
 
-// Fills the index. Crate flatten calls it for a file of at most 1,024 records, with room for the index.
+// A word of the index.
+fn word(index: &[u16], at: usize) -> usize
+    requires { ⌜ at < length (now index) ⌝ }
+    ensures { λ r. ⌜ (r ≡ getD (now (index .entry)) at 0) × (r < 65536) ⌝ }
+{
+    index[at] as usize
+}
+
+// Guesses where the children of each owner start: behind those of the owners before.
+fn guess_starts(index: &mut [u16])
+    requires { ⌜ length (now index) ≡ 3072 ⌝ }
+    ensures { λ _. ⌜ KeptBelow 2304 (now (index .entry)) (now (index .exit)) ⌝ }
+{
+    let mut sum: usize = 0;
+    let mut o: usize = 0;
+    while o < 256 {
+        if 256 <= sum {
+            return;
+        }
+        index[2560 + o] = sum as u16;
+        sum += word(index, 256 + o);
+        o += 1;
+    }
+}
+
+// Guesses that the component at q stands among its owner's children behind those before it.
+fn guess_child(index: &mut [u16], q: usize, owner: u16)
+    requires { ⌜ (length (now index) ≡ 3072) × (q < 256) ⌝ }
+    ensures { λ _. ⌜ KeptBelow 2304 (now (index .entry)) (now (index .exit)) ⌝ }
+{
+    let o = owner as usize;
+    if 256 <= o {
+        return;
+    }
+    let at = word(index, 2560 + o) + word(index, q);
+    if at < 256 {
+        index[2304 + at] = q as u16;
+    }
+}
+
+// Guesses the children of all owners.
+fn guess_children(file: &[u8], index: &mut [u16])
+    requires { ⌜ Readable (now file) × (length (now index) ≡ 3072) ⌝ }
+    ensures { λ _. ⌜ KeptBelow 2304 (now (index .entry)) (now (index .exit)) ⌝ }
+{
+    guess_starts(index);
+    let mut q: usize = 1;
+    while q < 256 {
+        let Stands::Component { owner, .. } = component_at(file, q) else {
+            return;
+        };
+        guess_child(index, q, owner);
+        q += 1;
+    }
+}
+
+// Guesses that the record at q, if it is an output map with none of its owner before it, is its owner's first.
+fn guess_map(index: &mut [u16], r: Reading, q: usize)
+    requires { ⌜ (length (now index) ≡ 3072) × (q < 1024) ⌝ }
+    ensures { λ _. ⌜ KeptBelow 2304 (now (index .entry)) (now (index .exit)) ⌝ }
+{
+    let Reading::Taken { owner, says } = r else {
+        return;
+    };
+    let Says::OutputMap { .. } = says else {
+        return;
+    };
+    let o = owner as usize;
+    if 256 <= o {
+        return;
+    }
+    if index[512 + q] == 0 {
+        index[2816 + o] = q as u16;
+    }
+}
+
+// Guesses the first output map of each owner: an owner's stand together.
+fn guess_maps(file: &[u8], n: usize, index: &mut [u16])
+    requires { ⌜ Readable (now file) × (n ≤ 1024) × (length (now index) ≡ 3072) ⌝ }
+    ensures { λ _. ⌜ KeptBelow 2304 (now (index .entry)) (now (index .exit)) ⌝ }
+{
+    let mut q: usize = 0;
+    while q < n {
+        guess_map(index, known_at(file, q), q);
+        q += 1;
+    }
+}
+
+// Fills the index. Crate flatten calls it for a file of at most 1,024 records that the checks before have passed, with room for the index.
 pub fn fill_index(file: &[u8], index: &mut [u16])
-    requires { ⌜ (recordCount (now file) ≤ 1024) × (length (now index) ≡ 82432) ⌝ }
+    requires { ⌜ Readable (now file) × (recordCount (now file) ≤ 1024) × (length (now index) ≡ 3072) ⌝ }
     ensures { λ _. ⌜ IsIndex (now (file .entry)) (now (index .exit)) ⌝ }
 {
     let n = file.len() / 24;
-    fill_children(file, n, &mut index[0..65536]);
-    fill_outs(file, n, &mut index[65536..81920]);
-    fill_ends(file, n, &mut index[81920..82432]);
+    fill_numbers(file, n, 1, 1, 256, &mut index[0..512]);
+    fill_numbers(file, n, 4, 0, 1024, &mut index[512..1792]);
+    fill_ends(file, n, &mut index[1792..2304]);
+    guess_children(file, index);
+    guess_maps(file, n, index);
+}
+
+// Whether the record at c is child k of owner o: a component other than the root, of that owner, with k of its children before it.
+fn is_child(file: &[u8], index: &[u16], c: usize, o: usize, k: u16) -> bool
+    requires { ⌜ IsIndex (now file) (now index) × (o < 256) ⌝ }
+    ensures { λ r. ⌜ (r ≡ true → c ≡ child (recordAt (now (file .entry))) (recordCount (now (file .entry))) o k) ⌝ }
+{
+    if c == 0 {
+        return false;
+    }
+    if 256 <= c {
+        return false;
+    }
+    is_owned(file, c, 1, o) & (index[c] == k)
 }
 
 // Child k of owner o; the number of records where there is none. Crates checks, flatten and laying call it with the index filled.
@@ -181,13 +274,28 @@ pub fn child_of(file: &[u8], index: &[u16], o: usize, k: ChildNo) -> usize
     requires { ⌜ IsIndex (now file) (now index) ⌝ }
     ensures { λ r. ⌜ r ≡ child (recordAt (now (file .entry))) (recordCount (now (file .entry))) o (k .0) ⌝ }
 {
-    let at = k.0 as usize;
+    let place = k.0 as usize;
     if o < 256 {
+        let at = word(index, 2560 + o) + place;
         if at < 256 {
-            return index[256 * o + at] as usize;
+            let c = word(index, 2304 + at);
+            if is_child(file, index, c, o, k.0) {
+                return c;
+            }
         }
     }
-    nth_owned(file, file.len() / 24, 1, 1, o, at)
+    nth_owned(file, file.len() / 24, 1, 1, o, place)
+}
+
+// Whether the record at q maps output i of composite c: an output map of it, with i of its output maps before it.
+fn is_out_map(file: &[u8], index: &[u16], q: usize, c: usize, i: u16) -> bool
+    requires { ⌜ IsIndex (now file) (now index) × (c < 256) ⌝ }
+    ensures { λ r. ⌜ (r ≡ true → q ≡ outMap (recordAt (now (file .entry))) (recordCount (now (file .entry))) c i) ⌝ }
+{
+    if 1024 <= q {
+        return false;
+    }
+    is_owned(file, q, 4, c) & (index[512 + q] == i)
 }
 
 // The record that maps output i of composite c; the number of records where there is none. Crate flatten calls it likewise.
@@ -195,25 +303,34 @@ pub fn out_map_of(file: &[u8], index: &[u16], c: usize, i: u16) -> usize
     requires { ⌜ IsIndex (now file) (now index) ⌝ }
     ensures { λ r. ⌜ r ≡ outMap (recordAt (now (file .entry))) (recordCount (now (file .entry))) c i ⌝ }
 {
-    let at = i as usize;
+    let place = i as usize;
     if c < 256 {
-        if at < 64 {
-            return index[65536 + 64 * c + at] as usize;
+        let q = word(index, 2816 + c) + place;
+        if is_out_map(file, index, q, c, i) {
+            return q;
         }
     }
-    nth_owned(file, file.len() / 24, 4, 0, c, at)
+    nth_owned(file, file.len() / 24, 4, 0, c, place)
+}
+
+// How many output maps composite c has. Crate checks calls it with the index filled, of a component that the index has words for.
+pub fn out_map_count(index: &[u16], c: usize) -> usize
+    requires { ⌜ (length (now index) ≡ 3072) × (c < 256) ⌝ }
+    ensures { λ r. ⌜ r ≡ outCount (now (index .entry)) c ⌝ }
+{
+    word(index, 1536 + c)
 }
 
 // The positions at which the input maps of composite c stand, of n records: those of the index, and all where it has no word of c.
 // Crate flatten calls it likewise.
 pub fn stretch_of(index: &[u16], n: usize, c: usize) -> Stretch
-    requires { ⌜ length (now index) ≡ 82432 ⌝ }
+    requires { ⌜ length (now index) ≡ 3072 ⌝ }
     ensures { λ r. ⌜ (r .first ≡ stretchFirst (now (index .entry)) c) × (r .end ≡ stretchEnd (now (index .entry)) n c) ⌝ }
 {
     if c < 256 {
         return Stretch {
-            first: index[81920 + c] as usize,
-            end: index[82176 + c] as usize,
+            first: word(index, 1792 + c),
+            end: word(index, 2048 + c),
         };
     }
     Stretch { first: 0, end: n }

@@ -1,32 +1,51 @@
--- `child_of`: the index says it of the first 256 owners and children, and the records of all others.
+-- `child_of`: a guess that the record bears out, else a search.
 -- Assumes nothing.
-use Prim.Native.Nat.{_+_, _*_}
 use native.Mathlib.Omega.{arith}
 use borrow.Author.Needs.{needs}
 use Rattle.index.proofs.child_of.Statement.{statement}
 use Rattle.index.proofs.child_of.Tie as tie
 
-cast-result : tie.Need-cast-result
-cast-result c =
-    let a = c .before .before .before .before .before .before .args in
-    omega (arith, c .shared-slice-known3 .given (256 * a .o + a .k .0))
+cast-place : tie.Need-cast-place
+cast-place c = search needs
 
--- in the table
+add-word : tie.Need-add-word
+add-word c = search needs
+
+word-requires : tie.Need-word-requires
+word-requires c κs = search needs
+
+add-at : tie.Need-add-at
+add-at c = search needs
+
+add-word-2 : tie.Need-add-word-2
+add-word-2 c = search needs
+
+word-requires-2 : tie.Need-word-requires-2
+word-requires-2 c κs = search needs
+
+is-child-requires : tie.Need-is-child-requires
+is-child-requires c κs = search needs
+
 returns : tie.Need-returns
-returns c =
-    let a = c .before .before .before .before .before .before in
-    a .pre .children (a .args .o) (a .args .k .0) (c .before .before .if1 .taken) (c .before .if2 .taken)
+returns c = c .before .is-child .ensures (c .if3 .taken)
+
+nth-owned-requires : tie.Need-nth-owned-requires
+nth-owned-requires c κs = search needs
+
+returns-2 : tie.Need-returns-2
+returns-2 c = search needs
 
 pub child-of-spec : {M : Type 1} → statement M
 child-of-spec =
     tie.close
     (tie.spec
-    (λ c. search needs)
-    (λ c. search needs)
-    (λ c. search needs)
-    (λ c. search needs)
-    (λ c. search needs)
-    cast-result
+    cast-place
+    add-word
+    word-requires
+    add-at
+    add-word-2
+    word-requires-2
+    is-child-requires
     returns
-    (λ c κs. search needs)
-    (λ c. search needs))
+    nth-owned-requires
+    returns-2)

@@ -4,7 +4,7 @@ use mathlib.Core.Path.{_≡_, refl}
 use Prim.Native.Nat.{ℕ, _-_, _<_}
 use native.Mathlib.Omega.{arith}
 use lib.ListN.{length, getD, length-set}
-use Rattle.index.proofs.FillingLaws.{clear-step}
+use Rattle.index.proofs.NumberingLaws.{clear-step}
 use borrow.Author.Needs.{needs}
 use Rattle.index.proofs.clear.Statement.{statement}
 use Rattle.index.proofs.clear.Tie as tie

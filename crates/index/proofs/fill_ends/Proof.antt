@@ -18,16 +18,16 @@ loop-holds : tie.Need-loop-holds Inv-loop μ-loop
 loop-holds c =
     let l = c .before .before .before .before .before .before in
     let s = l .before .before .before .before in
-    widening-cleared (s .args .file .now) (s .args .n) (s .args .ends .now) (l .clear .last .0) (c .before .before .clear2 .last .0) (s .pre .1) (l .clear .ensures .size)
+    widening-cleared (s .args .file .now) (s .args .n) (s .args .ends .now) (l .clear .last .0) (c .before .before .clear2 .last .0) (s .pre .2) (l .clear .ensures .size)
     (c .before .before .clear2 .ensures .size) (c .before .before .clear2 .ensures .word)
 
 cast-widen : tie.Need-cast-widen Inv-loop μ-loop
-cast-widen c = omega (arith, c .before .before .before .before .before .before .before .before .before .before .before .before .before .before .pre .0)
+cast-widen c = omega (arith, c .before .before .before .before .before .before .before .before .before .before .before .before .before .before .pre .1)
 
 widen-requires : tie.Need-widen-requires Inv-loop μ-loop
 widen-requires c κs =
     let l = c .before .before .before in
-    let e = l .before .before .before .before .before .before .before .before .before .before .before .pre .0 in
+    let e = l .before .before .before .before .before .before .before .before .before .before .before .pre .1 in
     (l .loop .inv .size, omega arith)
 
 loop-again : tie.Need-loop-again Inv-loop μ-loop
@@ -35,11 +35,11 @@ loop-again c =
     let w = c .before .before in
     let l = w .before .before .before .before in
     let a = l .before .before .before .before .before .before .before .before .before .before .before .args in
-    widening-step (a .file .now) (a .n) (l .loop .q) (l .loop .ends) (l .loop .inv) _ (w .before .record-at .ensures .0) _
+    widening-step (a .file .now) (a .n) (l .loop .q) (l .loop .ends) (l .loop .inv) _ (w .before .known-at .ensures) _
     (w .before .before .before .loop-test .taken) (w .widen .ensures)
 
 same-length : tie.Need-same-length Inv-loop μ-loop
-same-length c = c .before .loop .inv .size ∙ sym (c .before .before .before .before .before .before .before .before .before .before .before .before .pre .1)
+same-length c = c .before .loop .inv .size ∙ sym (c .before .before .before .before .before .before .before .before .before .before .before .before .pre .2)
 
 returns : tie.Need-returns Inv-loop μ-loop
 returns c =

@@ -1,6 +1,6 @@
 -- `is_owned`: the tests of the definition, at what the record says.
 -- Assumes nothing.
-use Rattle.index.proofs.FillingLaws.{owned-refused, owned-taken}
+use Rattle.index.proofs.NumberingLaws.{owned-refused, owned-taken}
 use borrow.Author.Needs.{needs}
 use Rattle.index.proofs.is_owned.Statement.{statement}
 use Rattle.index.proofs.is_owned.Tie as tie

@@ -1,41 +1,43 @@
--- `out_map_of`: the index says it of the first 256 composites and 64 outputs, and the records of all others.
+-- `out_map_of`: a guess that the record bears out, else a search.
 -- Assumes nothing.
-use mathlib.Core.Path.{_∙_}
-use Prim.Native.Nat.{_+_, _*_, _/_}
-use native.Mathlib.Omega.{arith}
 use lib.ListN.{length}
-use Rattle.index.proofs.FillingLaws.{outMap-nth}
+use Prim.Native.Nat.{_/_}
+use mathlib.Core.Path.{_∙_}
+use native.Mathlib.Omega.{arith}
+use Rattle.index.proofs.NumberingLaws.{outMap-nth}
 use borrow.Author.Needs.{needs}
 use Rattle.index.proofs.out_map_of.Statement.{statement}
 use Rattle.index.proofs.out_map_of.Tie as tie
 
-cast-result : tie.Need-cast-result
-cast-result c =
-    let a = c .before .before .before .before .before .args in
-    omega (arith, c .shared-slice-known3 .given (65536 + 64 * a .c + a .i))
+add-word : tie.Need-add-word
+add-word c = search needs
 
--- in the table
+word-requires : tie.Need-word-requires
+word-requires c κs = search needs
+
+add-q : tie.Need-add-q
+add-q c = search needs
+
+is-out-map-requires : tie.Need-is-out-map-requires
+is-out-map-requires c κs = search needs
+
 returns : tie.Need-returns
-returns c =
-    let a = c .before .before .before .before .before in
-    a .pre .outs (a .args .c) (a .args .i) (c .before .before .if1 .taken) (c .before .if2 .taken)
+returns c = c .before .is-out-map .ensures (c .if2 .taken)
 
--- past it
+nth-owned-requires : tie.Need-nth-owned-requires
+nth-owned-requires c κs = search needs
+
 returns-2 : tie.Need-returns-2
-returns-2 c =
-    let a = c .before .before .before .before .args in
-    c .nth-owned .ensures ∙ outMap-nth (a .file .now) (length (a .file .now) / 24) (a .c) (a .i)
+returns-2 c = c .nth-owned .ensures ∙ outMap-nth (c .before .before .before .before .args .file .now) (length (c .before .before .before .before .args .file .now) / 24) (c .before .before .before .before .args .c) (c .before .before .before .before .args .i)
 
 pub out-map-of-spec : {M : Type 1} → statement M
 out-map-of-spec =
     tie.close
     (tie.spec
-    (λ c. search needs)
-    (λ c. search needs)
-    (λ c. search needs)
-    (λ c. search needs)
-    (λ c. search needs)
-    cast-result
+    add-word
+    word-requires
+    add-q
+    is-out-map-requires
     returns
-    (λ c κs. search needs)
+    nth-owned-requires
     returns-2)
