@@ -10,7 +10,7 @@ use native.Mathlib.Nat.{sub-zero}
 use native.Mathlib.Numerals.{add-one}
 use native.Mathlib.Decide.{decLt}
 use native.Mathlib.Omega.{arith}
-use borrow.Author.Tests.{eqb-false, eq-eqb, ne-eqb, le-leb, lt-leb, lt-ltb, le-ltb, ltb-true, not-true, not-false}
+use borrow.Author.Tests.{eqb-false, eq-eqb, ne-eqb, le-leb, lt-leb, lt-ltb, le-ltb, ltb-true, leb-false, not-true, not-false}
 use lib.Dec.{eqb, leb, ltb}
 use lib.ListN.{length, getD}
 use types.Run.{OneOf}
@@ -37,7 +37,9 @@ use Rattle.component.specs.Reading.{given}
 use Rattle.component.specs.Record.{inputsOf, outputsOf, isPrimitive, composite}
 use Rattle.component.specs.Record.{entering, enteringAs}
 use Rattle.component.specs.Reading.{hasId, enters}
-use Rattle.component.specs.Drawing.{isComponent, child, deepest, holds, deeper, outMaps, inputsBefore, outputsBefore}
+use Rattle.component.specs.Drawing.{isComponent, child, deepest, holds, deeper, outMaps}
+use Rattle.index.specs.Index.{IsIndex, outCount}
+use Rattle.lists.proofs.TestsLaws.{and-right-false, or-left}
 use Rattle.component.specs.Drawing.{fails3, fails4, fails5, fails6, fails7, fails8, fails9}
 use Rattle.component.specs.Drawing.{fails10, fails11, fails12, fails13, fails14, earlierOf}
 use Rattle.component.proofs.Says.{the-type}
@@ -142,18 +144,6 @@ module _ (x y : Says) (o m : ℕ) where
         kind-rises (formBy x) (formBy y) o m
         (⊎-elim (λ z. omega (arith, ap formBy h, formBy-tag y)) (⊎-elim (λ z. omega (arith, ap formBy h, formBy-tag y))
         (λ z. omega (arith, ap formBy h, formBy-tag y))) k)
-
--- 11: the sums a and b so far and those to come, s and t, are x and y: one of them is too many already; neither is, and nothing is to come
-module _ (a b s t x y : ℕ) (ex : a + s ≡ x) (ey : b + t ≡ y) where
-  pub overfull-here : (ltb 1024 a || ltb 1024 b) ≡ true → true ≡ (ltb 1024 x || ltb 1024 y)
-  overfull-here h = by-test (ltb 1024 a) refl h
-    where
-      by-test : (c : Bool) → ltb 1024 a ≡ c → (c || ltb 1024 b) ≡ true → true ≡ (ltb 1024 x || ltb 1024 y)
-      by-test true e k = rw (lt-ltb 1024 x (omega (arith, ltb-true 1024 a e)))
-      by-test false e k = rw (lt-ltb 1024 y (omega (arith, ltb-true 1024 b k))) (sym (or-true (ltb 1024 x)))
-
-pub overfull-none : (a b x y : ℕ) → a ≡ x → b ≡ y → a ≤ 1024 → b ≤ 1024 → false ≡ (ltb 1024 x || ltb 1024 y)
-overfull-none a b x y ex ey h k = rw (← ex, ← ey, le-ltb 1024 a h, le-ltb 1024 b k)
 
 -- A record taken apart has a kind.
 formBy-some : (x : Says) → formBy x ≡ 0 → ⊥
@@ -349,10 +339,6 @@ module _ (s : List ℕ) where
               let z : recordAt s p ≡ noRecord = rw (le-ltb p (length s / 24) (omega arith)) in
               absurd (omega (arith, ap formOf (sym z ∙ seen-is (recordAt s p) g e o i f h)))
 
-      pub fails11-component : (b : Bool)
-          → b ≡ (ltb 1024 (inputsBefore (recordAt s) (p + 1)) || ltb 1024 (outputsBefore (recordAt s) (p + 1))) → b ≡ fails11 (recordAt s) p
-      fails11-component b k = k ∙ rw (add-one p, form-is)
-
       pub inputs-component : (j : ℕ) → ltb j (f .inputs) ≡ ltb j (inputsOf (recordAt s p))
       inputs-component j = rw (seen-is (recordAt s p) g e o i f h)
 
@@ -384,6 +370,17 @@ module _ (s : List ℕ) where
           let y : composite (recordAt s p) ≡ true = rw (seen-is (recordAt s p) g e o i f h, eq-eqb (f .kind) 0 k) in
           let z : outputsOf (recordAt s p) ≡ f .outputs = rw (seen-is (recordAt s p) g e o i f h) in
           rw (l, y, z)
+
+  -- 14: a component that check 6 passes has a word in the index, which counts its output maps
+  module _ (t : List ℕ) (ix : IsIndex s t) (p : ℕ) (g : Stands) (e : StandsAs g (recordAt s p)) (few : fails6 (recordAt s) p ≡ false) where
+    pub component-few : (o : ℕ) (i : Id) (f : Fields) → g ≡ StandsComponent o i f → p < 256
+    component-few o i f h =
+        let z : (leb 256 p || deeper (recordAt s) deepest p) ≡ false = and-right-false (isComponent (recordAt s) p) _ few (form-is p g e o i f h) in
+        leb-false 256 p (or-left (leb 256 p) (deeper (recordAt s) deepest p) z)
+
+    pub fails14-counted : (o : ℕ) (i : Id) (f : Fields) (m : ℕ) → g ≡ StandsComponent o i f → m ≡ outCount t p
+        → m ≡ length (outMaps (recordAt s) (length s / 24) p)
+    fails14-counted o i f m h d = d ∙ ix .counts p (component-few o i f h)
 
   -- 12: a refused record; by what a record says
   module _ (n p : ℕ) (r : Reading) (e : said r ≡ recordAt s p) where
@@ -436,7 +433,7 @@ module _ (t : Record) (g : Entry) (e : EntryAs g t) where
   entering-none h = rw h at e
 
   module _ (o d : ℕ) (c : ChildNo) (h : g ≡ Of o c d) where
-    entering-is : (entering t ≡ true) × (ownerOf t ≡ o) × (toOf t ≡ c .0) × (inputOf t ≡ d)
+    pub entering-is : (entering t ≡ true) × (ownerOf t ≡ o) × (toOf t ≡ c .0) × (inputOf t ≡ d)
     entering-is = rw h at e
 
     pub enters-is : (m j : ℕ) (k : ChildNo) → (eqb o m && eqb (c .0) (k .0) && eqb d j) ≡ enters m (k .0) j t

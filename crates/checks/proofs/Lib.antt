@@ -1,1 +1,2 @@
 pub mod ChecksLaws
+pub mod PassesLaws

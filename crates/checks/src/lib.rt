@@ -1,21 +1,24 @@
-// The checks 3 to 14, each of one record: it answers the refusal's number, or 0. Rule: docs/SPECIFICATION.md, "Numbers given back".
+// The checks 3 to 14. Those of one record by itself answer the refusal's number, or 0; those that look at earlier records too go over all of
+// them, with what they have to know of the earlier ones carried along. Rule: docs/SPECIFICATION.md, "Numbers given back".
+mod passes;
+
 ghost use mathlib.Core.Path.{_≡_};
 ghost use mathlib.Core.Bool.{false, cond, _&&_, _||_};
+ghost use mathlib.Core.Logic.{_⊎_};
 ghost use Prim.Native.Nat.{_≤_, _<_};
-ghost use lib.ListN.{length};
 ghost use lib.Dec.{eqb, leb, ltb};
 ghost use Rattle.lists.specs.Lists.{from, any};
 ghost use Rattle.component.specs.Record.{recordAt, recordCount};
-ghost use Rattle.component.specs.Reading.{formBy};
+ghost use Rattle.component.specs.Reading.{formBy, Readable};
 ghost use Rattle.index.specs.Index.{IsIndex};
 ghost use Rattle.component.specs.Reading.{given};
 ghost use Rattle.checks.specs.Checks.{failsBy};
 ghost use Rattle.component.specs.Record.{inputsOf, outputsOf, isPrimitive, composite};
 ghost use Rattle.component.specs.Reading.{hasId, enters};
 ghost use Rattle.checks.specs.Checks.{EntryAs};
-ghost use Rattle.component.specs.Drawing.{deepest, holds, deeper, outMaps, inputsBefore, outputsBefore};
+ghost use Rattle.component.specs.Drawing.{deepest, holds, deeper};
 ghost use Rattle.component.specs.Drawing.{fails3, fails4, fails5, fails6, fails7, fails8, fails9};
-ghost use Rattle.component.specs.Drawing.{fails10, fails11, fails12, fails13, fails14, earlierOf};
+ghost use Rattle.component.specs.Drawing.{fails12, fails14, earlierOf};
 use component::ChildNo;
 use component::Reading;
 use component::Says;
@@ -24,10 +27,14 @@ use component::component_at;
 use component::deepest;
 use component::fields_at;
 use component::given;
+use component::known_at;
 use component::record_at;
 use index::child_of;
-use index::is_owned;
+use index::out_map_count;
 use kinds::Id;
+pub use passes::first10;
+pub use passes::first11;
+pub use passes::first13;
 
 // 3: the record is not taken apart.
 fn check3(file: &[u8], p: usize) -> u32
@@ -67,7 +74,7 @@ fn falls(here: Says, owner: u16, before: Says, was: u16) -> bool
 
 // 4: kinds do not fall, nor owners among equal kinds 2 to 4; the first record is of kind 1. Check 3 has passed.
 fn check4(file: &[u8], p: usize) -> u32
-    requires { ⌜ fails3 (recordAt (now file)) p ≡ false ⌝ }
+    requires { ⌜ Readable (now file) × (fails3 (recordAt (now file)) p ≡ false) ⌝ }
     ensures { λ r. ⌜ r ≡ given 4 (fails4 (recordAt (now (file .entry))) p) ⌝ }
 {
     if p == 0 {
@@ -76,13 +83,13 @@ fn check4(file: &[u8], p: usize) -> u32
         };
         return 0;
     }
-    let Reading::Taken { owner, says } = record_at(file, p) else {
+    let Reading::Taken { owner, says } = known_at(file, p) else {
         return 0;
     };
     let Reading::Taken {
         owner: was,
         says: before,
-    } = record_at(file, p - 1)
+    } = known_at(file, p - 1)
     else {
         return 0;
     };
@@ -91,6 +98,7 @@ fn check4(file: &[u8], p: usize) -> u32
 
 // Whether composite o holds component q, at most f owners up.
 fn holds(file: &[u8], f: usize, o: usize, q: usize) -> bool
+    requires { ⌜ Readable (now file) ⌝ }
     ensures { λ r. ⌜ r ≡ holds (recordAt (now (file .entry))) f o q ⌝ }
 {
     let mut left = f;
@@ -114,6 +122,7 @@ fn holds(file: &[u8], f: usize, o: usize, q: usize) -> bool
 
 // Whether a composite stands at a position of the file.
 fn is_composite_at(file: &[u8], p: usize) -> bool
+    requires { ⌜ Readable (now file) ⌝ }
     ensures { λ r. ⌜ r ≡ composite (recordAt (now (file .entry)) p) ⌝ }
 {
     fields_at(file, p).kind == 0
@@ -121,10 +130,10 @@ fn is_composite_at(file: &[u8], p: usize) -> bool
 
 // 5: the root's owner is 0; any other is a composite, a component's one that is the component before or holds it. Check 3 has passed.
 fn check5(file: &[u8], p: usize) -> u32
-    requires { ⌜ fails3 (recordAt (now file)) p ≡ false ⌝ }
+    requires { ⌜ Readable (now file) × (fails3 (recordAt (now file)) p ≡ false) ⌝ }
     ensures { λ r. ⌜ r ≡ given 5 (fails5 (recordAt (now (file .entry))) p) ⌝ }
 {
-    let Reading::Taken { owner, says } = record_at(file, p) else {
+    let Reading::Taken { owner, says } = known_at(file, p) else {
         return 0;
     };
     let o = owner as usize;
@@ -145,6 +154,7 @@ fn check5(file: &[u8], p: usize) -> u32
 
 // Whether the depth of component p is over d.
 fn deeper(file: &[u8], d: u8, p: usize) -> bool
+    requires { ⌜ Readable (now file) ⌝ }
     ensures { λ r. ⌜ r ≡ deeper (recordAt (now (file .entry))) d p ⌝ }
 {
     let mut left = d;
@@ -164,6 +174,7 @@ fn deeper(file: &[u8], d: u8, p: usize) -> bool
 
 // 6: component number 256 or more, or too deep.
 fn check6(file: &[u8], p: usize) -> u32
+    requires { ⌜ Readable (now file) ⌝ }
     ensures { λ r. ⌜ r ≡ given 6 (fails6 (recordAt (now (file .entry))) p) ⌝ }
 {
     let Stands::Component { .. } = component_at(file, p) else {
@@ -177,6 +188,7 @@ fn check6(file: &[u8], p: usize) -> u32
 
 // 7: the kind is the one kept for Custom.
 fn check7(file: &[u8], p: usize) -> u32
+    requires { ⌜ Readable (now file) ⌝ }
     ensures { λ r. ⌜ r ≡ given 7 (fails7 (recordAt (now (file .entry))) p) ⌝ }
 {
     let Stands::Component { fields, .. } = component_at(file, p) else {
@@ -187,6 +199,7 @@ fn check7(file: &[u8], p: usize) -> u32
 
 // 8: the kind is none.
 fn check8(file: &[u8], p: usize) -> u32
+    requires { ⌜ Readable (now file) ⌝ }
     ensures { λ r. ⌜ r ≡ given 8 (fails8 (recordAt (now (file .entry))) p) ⌝ }
 {
     let Stands::Component { fields, .. } = component_at(file, p) else {
@@ -197,6 +210,7 @@ fn check8(file: &[u8], p: usize) -> u32
 
 // 9: the component breaks the table of kinds.
 fn check9(file: &[u8], p: usize) -> u32
+    requires { ⌜ Readable (now file) ⌝ }
     ensures { λ r. ⌜ r ≡ given 9 (fails9 (recordAt (now (file .entry))) p) ⌝ }
 {
     let Stands::Component { fields, .. } = component_at(file, p) else {
@@ -207,6 +221,7 @@ fn check9(file: &[u8], p: usize) -> u32
 
 // Whether a component at a position of the file has the id.
 fn has_id(file: &[u8], q: usize, id: Id) -> bool
+    requires { ⌜ Readable (now file) ⌝ }
     ensures { λ x. ⌜ x ≡ hasId (id .0) (recordAt (now (file .entry)) q) ⌝ }
 {
     let Stands::Component { id: other, .. } = component_at(file, q) else {
@@ -217,6 +232,7 @@ fn has_id(file: &[u8], q: usize, id: Id) -> bool
 
 // Whether a component before p has the id.
 fn id_before(file: &[u8], p: usize, id: Id) -> bool
+    requires { ⌜ Readable (now file) ⌝ }
     ensures { λ r. ⌜ r ≡ any (λ q. hasId (id .0) (recordAt (now (file .entry)) q)) (from 0 p) ⌝ }
 {
     let mut q: usize = 0;
@@ -229,16 +245,6 @@ fn id_before(file: &[u8], p: usize, id: Id) -> bool
     false
 }
 
-// 10: an earlier component's id.
-fn check10(file: &[u8], p: usize) -> u32
-    ensures { λ r. ⌜ r ≡ given 10 (fails10 (recordAt (now (file .entry))) p) ⌝ }
-{
-    let Stands::Component { id, .. } = component_at(file, p) else {
-        return 0;
-    };
-    given(10, id_before(file, p, id))
-}
-
 // The inputs and the outputs of some primitives.
 struct Ports {
     inputs: usize,
@@ -247,6 +253,7 @@ struct Ports {
 
 // Those of the primitive at a position; none where no primitive stands there.
 fn ports_at(file: &[u8], q: usize) -> Ports
+    requires { ⌜ Readable (now file) ⌝ }
     ensures { λ r. ⌜ (r .inputs ≡ cond (isPrimitive (recordAt (now (file .entry)) q)) (inputsOf (recordAt (now (file .entry)) q)) 0) ×
         (r .inputs ≤ 65535) × (r .outputs ≡ cond (isPrimitive (recordAt (now (file .entry)) q)) (outputsOf (recordAt (now (file .entry)) q)) 0) ×
         (r .outputs ≤ 65535) ⌝ }
@@ -269,37 +276,9 @@ fn ports_at(file: &[u8], q: usize) -> Ports
     }
 }
 
-// Whether the primitives before position p have over 1,024 inputs or over 1,024 outputs.
-fn is_overfull(file: &[u8], p: usize) -> bool
-    ensures { λ r. ⌜ r ≡ (ltb 1024 (inputsBefore (recordAt (now (file .entry))) p) || ltb 1024 (outputsBefore (recordAt (now (file .entry))) p)) ⌝ }
-{
-    let mut inputs: usize = 0;
-    let mut outputs: usize = 0;
-    let mut q: usize = 0;
-    while q < p {
-        let ports = ports_at(file, q);
-        inputs += ports.inputs;
-        outputs += ports.outputs;
-        if (1024 < inputs) | (1024 < outputs) {
-            return true;
-        }
-        q += 1;
-    }
-    false
-}
-
-// 11: the primitives so far, this one counted, have too many inputs or outputs.
-fn check11(file: &[u8], p: usize) -> u32
-    ensures { λ r. ⌜ r ≡ given 11 (fails11 (recordAt (now (file .entry))) p) ⌝ }
-{
-    let Stands::Component { .. } = component_at(file, p) else {
-        return 0;
-    };
-    given(11, is_overfull(file, p + 1))
-}
-
 // Whether component c has an input i.
 fn has_input(file: &[u8], c: usize, i: u16) -> bool
+    requires { ⌜ Readable (now file) ⌝ }
     ensures { λ x. ⌜ x ≡ ltb i (inputsOf (recordAt (now (file .entry)) c)) ⌝ }
 {
     let Stands::Component { fields, .. } = component_at(file, c) else {
@@ -310,6 +289,7 @@ fn has_input(file: &[u8], c: usize, i: u16) -> bool
 
 // Whether component c has an output i.
 fn has_output(file: &[u8], c: usize, i: u16) -> bool
+    requires { ⌜ Readable (now file) ⌝ }
     ensures { λ x. ⌜ x ≡ ltb i (outputsOf (recordAt (now (file .entry)) c)) ⌝ }
 {
     let Stands::Component { fields, .. } = component_at(file, c) else {
@@ -323,7 +303,7 @@ fn check12(file: &[u8], index: &[u16], p: usize) -> u32
     requires { ⌜ IsIndex (now file) (now index) ⌝ }
     ensures { λ r. ⌜ r ≡ given 12 (fails12 (recordAt (now (file .entry))) (recordCount (now (file .entry))) p) ⌝ }
 {
-    let Reading::Taken { owner, says } = record_at(file, p) else {
+    let Reading::Taken { owner, says } = known_at(file, p) else {
         return 0;
     };
     let o = owner as usize;
@@ -403,30 +383,9 @@ pub fn earlier_of(file: &[u8], p: usize) -> usize
     p
 }
 
-// 13: an earlier record of kind 2 or 3 entered the same input.
-fn check13(file: &[u8], p: usize) -> u32
-    ensures { λ r. ⌜ r ≡ given 13 (fails13 (recordAt (now (file .entry))) p) ⌝ }
-{
-    given(13, earlier_of(file, p) != p)
-}
-
-// How many output maps composite c has.
-fn out_map_count(file: &[u8], n: usize, c: usize) -> usize
-    ensures { λ r. ⌜ r ≡ length (outMaps (recordAt (now (file .entry))) n c) ⌝ }
-{
-    let mut count: usize = 0;
-    let mut q: usize = 0;
-    while q < n {
-        if is_owned(file, q, 4, c) {
-            count += 1;
-        }
-        q += 1;
-    }
-    count
-}
-
-// 14: a composite's output maps differ in number from its outputs.
-fn check14(file: &[u8], p: usize) -> u32
+// 14: a composite's output maps differ in number from its outputs. Check 6 has passed, so that the index has a word of it.
+fn check14(file: &[u8], index: &[u16], p: usize) -> u32
+    requires { ⌜ IsIndex (now file) (now index) × (fails6 (recordAt (now file)) p ≡ false) ⌝ }
     ensures { λ r. ⌜ r ≡ given 14 (fails14 (recordAt (now (file .entry))) (recordCount (now (file .entry))) p) ⌝ }
 {
     let Stands::Component { fields, .. } = component_at(file, p) else {
@@ -435,16 +394,13 @@ fn check14(file: &[u8], p: usize) -> u32
     if fields.kind != 0 {
         return 0;
     }
-    given(
-        14,
-        fields.outputs as usize != out_map_count(file, file.len() / 24, p),
-    )
+    given(14, fields.outputs as usize != out_map_count(index, p))
 }
 
-// What check k, of 3 to 14, gives of the record at p. Crate flatten calls it over all records of a file, in number order, with the
-// index filled: where k is past 3, check 3 has passed.
-pub fn check(file: &[u8], index: &[u16], k: u32, p: usize) -> u32
-    requires { ⌜ IsIndex (now file) (now index) × (3 < k → fails3 (recordAt (now file)) p ≡ false) ⌝ }
+// What check k gives of the record at p, of the checks 3 to 9, for which no index is filled. Crate flatten calls it over all records of a file, in number
+// order: where k is past 3, check 3 has passed.
+pub fn check_alone(file: &[u8], k: u32, p: usize) -> u32
+    requires { ⌜ (k < 10) × (3 < k → Readable (now file) × (fails3 (recordAt (now file)) p ≡ false)) ⌝ }
     ensures { λ r. ⌜ r ≡ given k (failsBy (recordAt (now (file .entry))) (recordCount (now (file .entry))) k p) ⌝ }
 {
     match k {
@@ -455,11 +411,17 @@ pub fn check(file: &[u8], index: &[u16], k: u32, p: usize) -> u32
         7 => check7(file, p),
         8 => check8(file, p),
         9 => check9(file, p),
-        10 => check10(file, p),
-        11 => check11(file, p),
-        12 => check12(file, index, p),
-        13 => check13(file, p),
-        14 => check14(file, p),
         _ => 0,
     }
+}
+
+// The same of the checks 12 and 14, with the index filled.
+pub fn check_indexed(file: &[u8], index: &[u16], k: u32, p: usize) -> u32
+    requires { ⌜ IsIndex (now file) (now index) × (fails6 (recordAt (now file)) p ≡ false) × ((k ≡ 12) ⊎ (k ≡ 14)) ⌝ }
+    ensures { λ r. ⌜ r ≡ given k (failsBy (recordAt (now (file .entry))) (recordCount (now (file .entry))) k p) ⌝ }
+{
+    if k == 12 {
+        return check12(file, index, p);
+    }
+    check14(file, index, p)
 }
