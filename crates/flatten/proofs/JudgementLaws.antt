@@ -1,31 +1,31 @@
--- Laws of specs/Verdict.antt, one for each way out of a function of src/judgement.rt: the search for the first record that fails a
--- check; the loop over the checks, by the place that a number has in their list; the file's size.
+-- Laws of specs/Verdict.antt, one for each way out of a function of src/judgement.rt: what the first record that fails a check says;
+-- the loop over the checks, by the place that a number has in their list; the file's size.
 -- Assumes nothing.
-use mathlib.Core.Path.{_≡_, refl, sym, ap, _∙_}
+use mathlib.Core.Path.{_≡_, refl, sym, ap, subst, _∙_}
 use mathlib.Core.Bool.{Bool, true, false, cond, not, _&&_, false≢true}
 use mathlib.Core.List.{List, [], _∷_, _++_, map}
 use mathlib.Core.Option.{Option, none, some}
 use Prim.Native.Nat.{ℕ, zero, suc, _+_, _-_, _/_, _%_, _≤_, _<_}
-use native.Mathlib.Nat.{sub-zero}
+use native.Mathlib.Decide.{decLt}
 use native.Mathlib.Omega.{arith}
-use borrow.Author.Tests.{not-true, not-false, ltb-true, leb-true}
+use borrow.Author.Tests.{ne-eqb, not-true, not-false, ltb-true, leb-true}
 use lib.Dec.{eqb, ltb, leb}
 use lib.ListN.{length, getD, take, drop, take-append-drop}
 use lib.Seq.{drop-cons, take-suc}
 use Rattle.lists.specs.Lists.{from, every, first}
-use Rattle.lists.proofs.ListsLaws.{first-here, first-next, first-none}
 use Rattle.lists.proofs.TestsLaws.{and-left, and-right}
 use Rattle.kinds.specs.declared.answers.Refusal.{Refusal}
 use Rattle.kinds.proofs.GivenLaws.{done-declined, declined-refusal}
 use Rattle.component.specs.declared.Verdict.{Verdict}
 use Rattle.component.specs.declared.Verdict.the-variants.{Accepted, Refused}
 use Rattle.component.specs.Record.{recordAt, sized}
-use Rattle.component.specs.Reading.{given}
-use Rattle.checks.specs.Checks.{failsBy}
-use Rattle.checks.proofs.ChecksLaws.{given-number, given-failed, given-passed}
+use Rattle.component.specs.declared.Record.{Record}
+use Rattle.component.specs.Reading.{given, Readable}
+use Rattle.checks.proofs.ChecksLaws.{given-failed, given-passed}
+use Rattle.checks.specs.Checks.{failsBy, IsFirst}
 use Rattle.flatten.specs.Verdict.{checks, refused, orLater, judged, verdict, verdictGives}
-use Rattle.flatten.specs.Searches.{failsAt, PassedBefore}
-use Rattle.flatten.proofs.Accepted.{Check, refused-not, noCheck}
+use Rattle.flatten.specs.Searches.{failsAt, PassedBefore, Judged}
+use Rattle.flatten.proofs.Accepted.{Check, not-accepted, refused-not, noCheck, passed-check}
 
 -- What is found is one of the positions looked at.
 first-below : (f : ℕ → Bool) (q k p : ℕ) → first f (from q k) ≡ some p → p < q + k
@@ -37,24 +37,40 @@ first-below f q (suc k) p e = by-test (f q) e (first-below f (suc q) k p)
     by-test true e later = let z : q ≡ p = cc in omega arith
     by-test false e later = omega (arith, later e)
 
-module _ (s : List ℕ) (n k : ℕ) where
-  -- the search for the first record that fails check k: its start; this record; the next; none
-  pub search-start : first (failsAt (recordAt s) n k) (from 0 (n - 0)) ≡ first (failsAt (recordAt s) n k) (from 0 n)
-  search-start = ap (λ (m : ℕ). first (failsAt (recordAt s) n k) (from 0 m)) (sub-zero n)
+-- The first position that fails is what a search finds.
+first-from : (f : ℕ → Bool) (q k r : ℕ) → q ≤ r → r < q + k → ((j : ℕ) → j < r → f j ≡ false) → f r ≡ true → first f (from q k) ≡ some r
+first-from f q zero r a b h e = absurd (omega arith)
+first-from f q (suc k) r a b h e = by-place (decLt q r) (λ l. first-from f (suc q) k r (omega arith) (omega arith) h e)
+  where
+    by-place : Dec (q < r) → (q < r → first f (from (suc q) k) ≡ some r) → first f (from q (suc k)) ≡ some r
+    by-place (yes l) later = rw (h q l) (later l)
+    by-place (no l) later = let z : q ≡ r = omega arith in rw (z, e)
 
-  module _ (q : ℕ) (x : Option ℕ) (inv : first (failsAt (recordAt s) n k) (from q (n - q)) ≡ x) where
-    pub search-here : (r : ℕ) → q < n → r ≡ given k (failsAt (recordAt s) n k q) → (r ≡ 0 → ⊥) → refused r q ≡ orLater k x Accepted
-    search-here r l e h =
-        ap (λ (m : ℕ). refused m q) (given-number k (failsAt (recordAt s) n k q) r e h)
-        ∙ ap (λ (y : Option ℕ). orLater k y Accepted)
-        (first-here (failsAt (recordAt s) n k) q n x inv l (given-failed k (failsAt (recordAt s) n k q) r e h))
+none-from : (f : ℕ → Bool) (q k : ℕ) → ((j : ℕ) → j < q + k → f j ≡ false) → first f (from q k) ≡ none
+none-from f q zero h = refl
+none-from f q (suc k) h = rw (h q (omega arith)) (none-from f (suc q) k (λ j l. h j (omega arith)))
 
-    pub search-next : (r : ℕ) → 3 ≤ k → q < n → r ≡ given k (failsAt (recordAt s) n k q) → r ≡ 0
-        → first (failsAt (recordAt s) n k) (from (q + 1) (n - (q + 1))) ≡ x
-    search-next r h l e z = first-next (failsAt (recordAt s) n k) q n x inv l (given-passed k (failsAt (recordAt s) n k q) r e z (omega arith))
+-- What check k says where p is the first record that fails it; where none does.
+module _ (f : ℕ → Bool) (n k p : ℕ) (h : IsFirst f n p) where
+  pub refused-first : p < n → refused k p ≡ orLater k (first f (from 0 n)) Accepted
+  refused-first l =
+      ap (λ (x : Option ℕ). orLater k x Accepted) (sym (first-from f 0 n p (omega arith) (omega arith) (h .before) (h .here l)))
 
-    pub search-none : n ≤ q → Accepted ≡ orLater k x Accepted
-    search-none l = ap (λ (y : Option ℕ). orLater k y Accepted) (first-none (failsAt (recordAt s) n k) q n x inv l)
+  pub accepted-first : n ≤ p → Accepted ≡ orLater k (first f (from 0 n)) Accepted
+  accepted-first l =
+      ap (λ (x : Option ℕ). orLater k x Accepted) (sym (none-from f 0 n (λ j g. h .before j (omega arith))))
+
+-- What the number that a check of one record gives says of it, where it is not 15: it fails; it passes.
+module _ (at : ℕ → Record) (n k p r : ℕ) (e : r ≡ given k (failsBy at n k p)) (h : 3 ≤ k) (h15 : k < 15) where
+  plain : failsAt at n k p ≡ failsBy at n k p
+  unfolding failsAt
+  plain = rw (ne-eqb k 15 (λ z. omega arith))
+
+  pub fails-here : (r ≡ 0 → ⊥) → true ≡ failsAt at n k p
+  fails-here z = sym (plain ∙ given-failed k (failsBy at n k p) r e z)
+
+  pub passes-here : r ≡ 0 → false ≡ failsAt at n k p
+  passes-here z = sym (plain ∙ given-passed k (failsBy at n k p) r e z (omega arith))
 
 -- Checks numbered from m on: the one at place j has number m + j, and F says what fails it, if F says that of each.
 pub number-at : (cs : List Check) (m j : ℕ) → map (λ (c : Check). c .0) cs ≡ from m (length cs) → j < length cs
@@ -125,6 +141,20 @@ module _ (s : List ℕ) (n k : ℕ) (passed : PassedBefore (recordAt s) n k) whe
       let z : k - 3 ≡ 13 = omega arith in
       sym (ap (λ (m : ℕ). judged n (take m (checks (recordAt s) n))) (sym z) ∙ passed)
 
+-- The checks up to some number: one has refused; all have passed.
+module _ (at : ℕ → Record) (n m : ℕ) where
+  pub judged-refused : (r : Refusal) → Refused r ≡ judged n (checks at n) → Judged m at n (Refused r)
+  judged-refused r e = record { passed = λ z. absurd (not-accepted r z); refused = λ q z. sym z ∙ e }
+
+  pub judged-passed : (k : ℕ) → PassedBefore at n k → k ≤ m → m ≤ k → Judged m at n Accepted
+  judged-passed k h a b =
+      let z : k ≡ m = omega arith in
+      record { passed = λ y. subst (PassedBefore at n) z h; refused = λ r y. absurd (not-accepted r (sym y)) }
+
+-- The checks before 4 and before 12 leave what the later ones ask.
+pub readable-before : (s : List ℕ) (k : ℕ) → 3 < k → PassedBefore (recordAt s) (length s / 24) k → Readable s
+readable-before s k h passed p l = passed-check (recordAt s) (length s / 24) k 3 p passed (omega arith) l
+
 -- Check 1.
 module _ (s : List ℕ) (b : Bool) (e : b ≡ sized s) where
   pub sized-most : not b ≡ false → length s / 24 ≤ 1024
@@ -142,6 +172,15 @@ module _ (s : List ℕ) (b : Bool) (e : b ≡ sized s) where
   pub verdict-judged : (v : Verdict) → not b ≡ false → v ≡ judged (length s / 24) (checks (recordAt s) (length s / 24)) → v ≡ verdict s
   unfolding verdict
   verdict-judged v h d = d ∙ rw (← e, not-false b h)
+
+  -- the checks before 12 refuse; those from 12 on refuse or accept
+  pub verdict-early : (v : Verdict) (r : Refusal) → not b ≡ false → Judged 12 (recordAt s) (length s / 24) v → v ≡ Refused r → Refused r ≡ verdict s
+  verdict-early v r h d z = verdict-judged (Refused r) h (d .refused r z)
+
+  pub verdict-late : (v : Verdict) → not b ≡ false → Judged 16 (recordAt s) (length s / 24) v → v ≡ verdict s
+  verdict-late Accepted h d =
+      verdict-judged Accepted h (judged-all s (length s / 24) 16 (d .passed refl) (omega arith) (omega arith))
+  verdict-late (Refused r) h d = verdict-judged (Refused r) h (d .refused r refl)
 
 -- Verdicts that give the same are the same.
 pub verdictGives-is : (a b : Verdict) → verdictGives a [] ≡ verdictGives b [] → a ≡ b

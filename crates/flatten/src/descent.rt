@@ -13,7 +13,7 @@ use crate::targets::lay_target;
 use component::Reading;
 use component::Says;
 use component::is_primitive_at;
-use component::record_at;
+use component::known_at;
 use index::child_of;
 use index::out_map_of;
 use index::stretch_of;
@@ -37,7 +37,7 @@ pub fn source_of(file: &[u8], index: &[u16], depth: u8, c: usize, i: u16) -> Pin
     if is_primitive_at(file, c) {
         return Pin { comp: c, port: i };
     }
-    let Reading::Taken { says, .. } = record_at(file, out_map_of(file, index, c, i)) else {
+    let Reading::Taken { says, .. } = known_at(file, out_map_of(file, index, c, i)) else {
         return Pin { comp: n, port: 0 };
     };
     let Says::OutputMap { from, output } = says else {
@@ -52,7 +52,7 @@ fn enter(file: &[u8], index: &[u16], c: usize, i: u16, q: usize) -> Entered
     requires { ⌜ IsIndex (now file) (now index) ⌝ }
     ensures { λ r. ⌜ r ≡ entered (recordAt (now (file .entry))) (recordCount (now (file .entry))) c i q ⌝ }
 {
-    let Reading::Taken { owner, says } = record_at(file, q) else {
+    let Reading::Taken { owner, says } = known_at(file, q) else {
         return Entered::Nothing;
     };
     let Says::InputMap { port, to, input } = says else {

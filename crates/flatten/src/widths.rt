@@ -5,7 +5,8 @@ ghost use lib.ListN.{length};
 ghost use Rattle.lists.specs.Lists.{any};
 ghost use Rattle.component.specs.Record.{recordAt, recordCount};
 ghost use Rattle.index.specs.Index.{IsIndex};
-ghost use Rattle.component.specs.Reading.{given};
+ghost use Rattle.component.specs.Reading.{Readable};
+ghost use Rattle.checks.specs.Checks.{IsFirst};
 ghost use Rattle.flatten.specs.Descent.{fails15};
 ghost use Rattle.flatten.specs.Searches.{unlike, PassedBefore};
 ghost use Rattle.flatten.specs.Targets.{targetPlace, targetsIn};
@@ -17,12 +18,12 @@ use component::Reading;
 use component::Says;
 use component::deepest;
 use component::fields_at;
-use component::given;
-use component::record_at;
+use component::known_at;
 use index::child_of;
 
 // Whether a target has another width.
 fn differs(file: &[u8], target: Pin, width: u64) -> bool
+    requires { ⌜ Readable (now file) ⌝ }
     ensures { λ r. ⌜ r ≡ unlike (recordAt (now (file .entry))) width target ⌝ }
 {
     width != kinds::input_width(fields_at(file, target.comp))
@@ -30,7 +31,7 @@ fn differs(file: &[u8], target: Pin, width: u64) -> bool
 
 // Whether one of the first `count` targets of a table has another width.
 fn any_differs(file: &[u8], targets: &[u16], count: usize, width: u64) -> bool
-    requires { ⌜ targetPlace count ≤ length (now targets) ⌝ }
+    requires { ⌜ Readable (now file) × (targetPlace count ≤ length (now targets)) ⌝ }
     ensures { λ r. ⌜ r ≡ any (unlike (recordAt (now (file .entry))) width) (targetsIn (now (targets .entry)) count) ⌝ }
 {
     let mut k: usize = 0;
@@ -43,14 +44,15 @@ fn any_differs(file: &[u8], targets: &[u16], count: usize, width: u64) -> bool
     false
 }
 
-// 15: a connection yields a wire whose ends differ in width. The checks before have passed, so that it has at most 1,024 targets.
-pub(crate) fn check15(file: &[u8], index: &[u16], p: usize) -> u32
-    requires { ⌜ IsIndex (now file) (now index) × (recordCount (now file) ≤ 1024) × (p < recordCount (now file)) ⌝ }
+// Whether the connection at p yields a wire whose ends differ in width; its targets are listed in the table. The checks before 15 have passed, so that
+// there are at most 1,024.
+fn yields_unlike(file: &[u8], index: &[u16], targets: &mut [u16], p: usize) -> bool
+    requires { ⌜ IsIndex (now file) (now index) × (p < recordCount (now file)) × (length (now targets) ≡ 2048) ⌝ }
     requires { ⌜ PassedBefore (recordAt (now file)) (recordCount (now file)) 15 ⌝ }
-    ensures { λ r. ⌜ r ≡ given 15 (fails15 (recordAt (now (file .entry))) (recordCount (now (file .entry))) p) ⌝ }
+    ensures { λ r. ⌜ (r ≡ fails15 (recordAt (now (file .entry))) (recordCount (now (file .entry))) p) × (length (now (targets .exit)) ≡ 2048) ⌝ }
 {
-    let Reading::Taken { owner, says } = record_at(file, p) else {
-        return 0;
+    let Reading::Taken { owner, says } = known_at(file, p) else {
+        return false;
     };
     let Says::Connection {
         from,
@@ -59,13 +61,29 @@ pub(crate) fn check15(file: &[u8], index: &[u16], p: usize) -> u32
         input,
     } = says
     else {
-        return 0;
+        return false;
     };
     let start = child_of(file, index, owner as usize, from);
     let source = source_of(file, index, deepest(), start, output);
     let width = kinds::output_width(fields_at(file, source.comp));
     let goal = child_of(file, index, owner as usize, to);
+    let count = list_targets(file, index, deepest(), goal, input, targets, 0);
+    any_differs(file, targets, count, width)
+}
+
+// 15: a connection yields a wire whose ends differ in width. The first record that fails; the number of records where none does.
+pub(crate) fn first15(file: &[u8], index: &[u16]) -> usize
+    requires { ⌜ IsIndex (now file) (now index) ⌝ }
+    requires { ⌜ PassedBefore (recordAt (now file)) (recordCount (now file)) 15 ⌝ }
+    ensures { λ r. ⌜ IsFirst (fails15 (recordAt (now (file .entry))) (recordCount (now (file .entry)))) (recordCount (now (file .entry))) r ⌝ }
+{
     let mut targets = [0u16; 2048];
-    let count = list_targets(file, index, deepest(), goal, input, &mut targets, 0);
-    given(15, any_differs(file, &targets, count, width))
+    let mut p: usize = 0;
+    while p < file.len() / 24 {
+        if yields_unlike(file, index, &mut targets, p) {
+            return p;
+        }
+        p += 1;
+    }
+    p
 }

@@ -12,7 +12,7 @@ use Rattle.flatten.proofs.descent.+source_of.Lts-source_of as source-of
 use Rattle.component.proofs.is_primitive_at.Reads as is-primitive-at-reads
 use Rattle.index.proofs.child_of.Reads as child-of-reads
 use Rattle.index.proofs.out_map_of.Reads as out-map-of-reads
-use Rattle.component.proofs.record_at.Reads as record-at-reads
+use Rattle.component.proofs.known_at.Reads as known-at-reads
 use Rattle.flatten.proofs.descent.+source_of.{statement}
 use Rattle.flatten.proofs.descent.+source_of.Tie.{close}
 
@@ -32,8 +32,8 @@ source-of-claims t = (
   is-primitive-at-reads.Learnt,
   out-map-of-reads.Asked,
   out-map-of-reads.Learnt,
-  record-at-reads.Asked,
-  record-at-reads.Learnt,
+  known-at-reads.Asked,
+  known-at-reads.Learnt,
   child-of-reads.Asked,
   child-of-reads.Learnt,
   source-of-below t,
@@ -52,8 +52,8 @@ source-of-returns-2 t c = search (source-here)
 source-of-out-map-of-requires : (t : ℕ) → source-of-lts.Need-out-map-of-requires (source-of-claims t) (source-of-at t) source-of.Post
 source-of-out-map-of-requires t c κs = search needs
 
-source-of-record-at-requires : (t : ℕ) → source-of-lts.Need-record-at-requires (source-of-claims t) (source-of-at t) source-of.Post
-source-of-record-at-requires t c κs = search needs
+source-of-known-at-requires : (t : ℕ) → source-of-lts.Need-known-at-requires (source-of-claims t) (source-of-at t) source-of.Post
+source-of-known-at-requires t c κs = search needs
 
 source-of-enum-known-says : (t : ℕ) → source-of-lts.Need-enum-known-says (source-of-claims t) (source-of-at t) source-of.Post
 source-of-enum-known-says t c = search needs
@@ -93,7 +93,7 @@ pub +source-of-spec : {M : Type 1} → statement M
     (source-of-is-primitive-at-requires t)
     (source-of-returns-2 t)
     (source-of-out-map-of-requires t)
-    (source-of-record-at-requires t)
+    (source-of-known-at-requires t)
     (source-of-enum-known-says t)
     (source-of-enum-told t)
     (source-of-returns-3 t)
