@@ -1,6 +1,7 @@
 // The component that a path of ids names. Rule: docs/SPECIFICATION.md, "Looking at a box".
 ghost use mathlib.Core.Path.{_≡_};
 ghost use Rattle.component.specs.Record.{recordAt, recordCount};
+ghost use Rattle.component.specs.Reading.{Readable};
 ghost use Rattle.component.specs.declared.Verdict.the-variants.{Accepted};
 ghost use Rattle.flatten.specs.Verdict.{verdict};
 ghost use Rattle.boxes.specs.Boxes.{childNamed, placeOf};
@@ -11,6 +12,7 @@ use kinds::Id;
 
 // Whether the record at q is a component of owner c that has this id.
 fn is_named(file: &[u8], c: usize, id: Id, q: usize) -> bool
+    requires { ⌜ Readable (now file) ⌝ }
     ensures { λ r. ⌜ r ≡ named (recordAt (now (file .entry))) c (id .0) q ⌝ }
 {
     let Stands::Component { owner, id: own, .. } = component_at(file, q) else {
@@ -21,6 +23,7 @@ fn is_named(file: &[u8], c: usize, id: Id, q: usize) -> bool
 
 // The child of component c that has this id; the number of records where there is none.
 fn child_named(file: &[u8], c: usize, id: Id) -> usize
+    requires { ⌜ Readable (now file) ⌝ }
     ensures { λ r. ⌜ r ≡ childNamed (recordAt (now (file .entry))) (recordCount (now (file .entry))) c (id .0) ⌝ }
 {
     let n = file.len() / 24;

@@ -21,6 +21,7 @@ use Rattle.kinds.specs.declared.answers.Refusal.{Refusal}
 use Rattle.component.specs.declared.Record.{Record}
 use Rattle.component.specs.declared.Verdict.the-variants.{Accepted, Refused}
 use Rattle.component.specs.Record.{noRecord, recordAt, recordCount, sized}
+use Rattle.component.specs.Reading.{Readable}
 use Rattle.flatten.specs.Verdict.{checks, refused, orLater, judged, verdict}
 use Rattle.flatten.specs.Searches.{PassedBefore}
 
@@ -108,6 +109,9 @@ module _ (file : List ℕ) (accepted : verdict file ≡ Accepted) where
   -- Of an accepted file no record p fails the check numbered k, for any p and k.
   pub accepted-check : (k p : ℕ) → p < recordCount file → checkNumbered (recordAt file) (recordCount file) k .1 p ≡ false
   accepted-check k p l = judged-place (recordCount file) (checks (recordAt file) (recordCount file)) judged-all (k - 3) p l
+
+  pub accepted-readable : Readable file
+  accepted-readable p l = accepted-check 3 p l
 
   pub accepted-passed : Passed (recordAt file) (recordCount file)
   accepted-passed = record { past = recordAt-past file; passes = λ k h. accepted-check k }

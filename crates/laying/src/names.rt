@@ -9,6 +9,7 @@ ghost use Rattle.lists.specs.Lists.{from, overlay};
 ghost use Rattle.kinds.specs.declared.Kind.the-variants.{Clock, Const};
 ghost use Rattle.kinds.specs.Kinds.{is};
 ghost use Rattle.component.specs.Record.{recordAt, recordCount};
+ghost use Rattle.component.specs.Reading.{Readable};
 ghost use Rattle.component.specs.declared.Verdict.the-variants.{Accepted};
 ghost use Rattle.flatten.specs.Verdict.{verdict};
 ghost use Rattle.laying.specs.Laid.{standingAtLoad};
@@ -91,7 +92,7 @@ pub fn lay_standing(file: &[u8], standing: &mut [u16]) -> usize
 // Fills the table of flat indexes: word c is the flat index of component c, the primitives before it. `lay_wires` calls it, and crate look, with a table of
 // 256 words.
 pub fn index_flat(file: &[u8], flat: &mut [u16])
-    requires { ⌜ length (now flat) ≡ 256 ⌝ }
+    requires { ⌜ Readable (now file) × (length (now flat) ≡ 256) ⌝ }
     ensures { λ _. ⌜ IsFlat (recordAt (now (file .entry))) (recordCount (now (file .entry))) (now (flat .exit)) ⌝ }
 {
     let mut count: u16 = 0;

@@ -6,6 +6,7 @@ ghost use lib.ListN.{length, replicate};
 ghost use lib.Seq.{sets};
 ghost use Rattle.lists.specs.Lists.{joined, overlay};
 ghost use Rattle.component.specs.Record.{recordAt, recordCount};
+ghost use Rattle.component.specs.Reading.{Readable};
 ghost use Rattle.component.specs.declared.Verdict.the-variants.{Accepted};
 ghost use Rattle.flatten.specs.Verdict.{verdict};
 ghost use Rattle.laying.specs.Laid.{primitives, primitiveWords};
@@ -32,6 +33,7 @@ pub struct Before {
 
 // The primitive at a position.
 pub(crate) fn drawn_at(file: &[u8], p: usize) -> Drawn
+    requires { ⌜ Readable (now file) ⌝ }
     ensures { λ r. ⌜ r ≡ seen (recordAt (now (file .entry)) p) ⌝ }
 {
     let Stands::Component { id, fields, .. } = component_at(file, p) else {

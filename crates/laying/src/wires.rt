@@ -18,7 +18,7 @@ use crate::names::index_flat;
 use component::Reading;
 use component::Says;
 use component::deepest;
-use component::record_at;
+use component::known_at;
 use flatten::Pin;
 use flatten::list_targets;
 use flatten::source_of;
@@ -72,21 +72,23 @@ fn lay_leads(
     at + count
 }
 
-// Writes the wires of the record at p, if it is a connection. The answer is the number of the next.
+// Writes the wires of the record at p, if it is a connection; its targets are listed in the table. The answer is the number of the next.
 fn connect(
     file: &[u8],
     index: &[u16],
     indexes: &[u16],
+    targets: &mut [u16],
     p: usize,
     wires: &mut [u16],
     at: usize,
 ) -> usize
-    requires { ⌜ Ready (now file) (now index) (now indexes) ⌝ }
+    requires { ⌜ Ready (now file) (now index) (now indexes) × (length (now targets) ≡ 2048) ⌝ }
     requires { ⌜ (p < recordCount (now file)) × (wirePlace at + length (wiresGiven (recordAt (now file)) (recordCount (now file)) p) ≤ length (now wires)) ⌝ }
     ensures { λ r. ⌜ Written (now (wires .entry)) (wirePlace at) (wiresGiven (recordAt (now (file .entry))) (recordCount (now (file .entry))) p)
         (now (wires .exit)) (wirePlace r) ⌝ }
+    ensures { λ _. ⌜ length (now (targets .exit)) ≡ 2048 ⌝ }
 {
-    let Reading::Taken { owner, says } = record_at(file, p) else {
+    let Reading::Taken { owner, says } = known_at(file, p) else {
         return at;
     };
     let Says::Connection {
@@ -102,9 +104,8 @@ fn connect(
     let source = source_of(file, index, deepest(), start, output);
     let flat = flat_pin(indexes, source);
     let goal = child_of(file, index, owner as usize, to);
-    let mut targets = [0u16; 2048];
-    let count = list_targets(file, index, deepest(), goal, input, &mut targets, 0);
-    lay_leads(indexes, flat, &targets, count, wires, at)
+    let count = list_targets(file, index, deepest(), goal, input, targets, 0);
+    lay_leads(indexes, flat, targets, count, wires, at)
 }
 
 // Writes the wires of all connections, in their order. The answer is how many there are.
@@ -115,10 +116,11 @@ fn connect_all(file: &[u8], index: &[u16], indexes: &[u16], wires: &mut [u16]) -
         (now (wires .entry)))
         × (r ≡ length (flatWires (recordAt (now (file .entry))) (recordCount (now (file .entry))))) ⌝ }
 {
+    let mut targets = [0u16; 2048];
     let mut at: usize = 0;
     let mut p: usize = 0;
     while p < file.len() / 24 {
-        at = connect(file, index, indexes, p, wires, at);
+        at = connect(file, index, indexes, &mut targets, p, wires, at);
         p += 1;
     }
     at

@@ -60,7 +60,7 @@ fn fill(
     }
 }
 
-// The verdict of a load: check 1, check 2, then the checks 3 to 15; the lent index, of 82,432 words, is filled where it is accepted. `load`
+// The verdict of a load: check 1, check 2, then the checks 3 to 15; the lent index, of 3,072 words, is filled where it is accepted. `load`
 // calls it, and crate look, whose refusals begin with a load's.
 pub fn judge_load(
     file: &[u8],
@@ -73,7 +73,7 @@ pub fn judge_load(
     standing: &[u16],
     index: &mut [u16],
 ) -> Verdict
-    requires { ⌜ length (now index) ≡ 82432 ⌝ }
+    requires { ⌜ length (now index) ≡ 3072 ⌝ }
     ensures { λ r. ⌜ ((m : Counts) → r ≡ loadVerdict (now (file .entry))
         (tablesOf (now (components .entry)) (now (inputs .entry)) (now (outputs .entry)) (now (wires .entry)) (now (current .entry))
         (now (following .entry)) (now (standing .entry)) m)) ⌝ }
@@ -115,7 +115,7 @@ pub fn load(
         (now (current .exit)) (now (following .exit)) (now (standing .exit)) in
         ⌜ ((m : Counts) → Loads (now (file .entry)) (before m) r (after (countsAfter r m))) ⌝ }
 {
-    let mut index = [0u16; 82432];
+    let mut index = [0u16; 3072];
     if let Verdict::Refused(refusal) = judge_load(
         file,
         components,

@@ -20,7 +20,7 @@ use tables::Counts;
 // Full size of the lists for the answer.
 const PORTS: usize = 256;
 
-// What is judged before the tables are looked into: a load's own verdict, and 2 for a short list. The lent index, of 82,432 words, is filled where
+// What is judged before the tables are looked into: a load's own verdict, and 2 for a short list. The lent index, of 3,072 words, is filled where
 // the file is accepted.
 fn judge_look(
     file: &[u8],
@@ -35,7 +35,7 @@ fn judge_look(
     widths: &[u64],
     index: &mut [u16],
 ) -> Verdict
-    requires { ⌜ length (now index) ≡ 82432 ⌝ }
+    requires { ⌜ length (now index) ≡ 3072 ⌝ }
     ensures { λ r. ⌜ ((m : Counts) → r ≡ loadsOwn (now (file .entry))
         (tablesOf (now (components .entry)) (now (inputs .entry)) (now (outputs .entry)) (now (wires .entry)) (now (current .entry))
         (now (following .entry)) (now (standing .entry)) m) (now (numbers .entry)) (now (widths .entry))) ⌝ }
@@ -124,7 +124,7 @@ pub fn look(
         ⌜ Looks (now (file .entry)) lent (now (path .entry)) (now (numbers .entry)) (now (widths .entry)) r (now (numbers .exit))
         (now (widths .exit)) ⌝ }
 {
-    let mut index = [0u16; 82432];
+    let mut index = [0u16; 3072];
     if let Verdict::Refused(refusal) = judge_look(
         file,
         components,

@@ -82,7 +82,7 @@ unfolding judgement
 judgement-judges s u v e d = ap (λ (x : Verdict). verdictGives x []) (d ∙ ap (against (recordAt s)) e)
 
 -- A verdict that is accepted, and one that is not, stay so.
-against-accepted : (at : ℕ → Record) (v : Verdict) → against at v ≡ Accepted → v ≡ Accepted
+pub against-accepted : (at : ℕ → Record) (v : Verdict) → against at v ≡ Accepted → v ≡ Accepted
 against-accepted at Accepted e = refl
 against-accepted at (Refused r) e = absurd (not-accepted _ e)
 

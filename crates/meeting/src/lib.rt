@@ -1,9 +1,9 @@
 // The judgement of a file's bytes: the verdict, and of two records that meet what they are and which is the earlier.
 // Rule: docs/SPECIFICATION.md, "Numbers given back", 13, 22 and 23.
 ghost use mathlib.Core.Path.{_≡_};
-ghost use mathlib.Core.Bool.{true};
 ghost use lib.ListN.{length};
-ghost use Rattle.component.specs.Record.{recordAt, sized};
+ghost use Rattle.component.specs.Record.{recordAt};
+ghost use Rattle.component.specs.declared.Verdict.the-variants.{Accepted};
 ghost use Rattle.component.specs.Reading.{formOf};
 ghost use Rattle.index.specs.Index.{IsIndex};
 ghost use Rattle.meeting.specs.Meeting.{metAs, meeting, against, Judges};
@@ -70,12 +70,12 @@ fn against(file: &[u8], verdict: Verdict) -> Verdict
     Verdict::Refused(meeting(file, refusal.position))
 }
 
-// What a file's bytes are judged to be; the lent index, of 82,432 words, is filled where the file is of a size that check 1 passes.
+// What a file's bytes are judged to be; the lent index, of 3,072 words, is filled where the file is accepted.
 // `judge` calls it, and crate load, which has the wires laid with the same index.
 pub fn judge_indexed(file: &[u8], index: &mut [u16]) -> Verdict
-    requires { ⌜ length (now index) ≡ 82432 ⌝ }
+    requires { ⌜ length (now index) ≡ 3072 ⌝ }
     ensures { λ r. ⌜ Judges (now (file .entry)) r ⌝ }
-    ensures { λ _. ⌜ (sized (now (file .entry)) ≡ true → IsIndex (now (file .entry)) (now (index .exit))) ⌝ }
+    ensures { λ r. ⌜ (r ≡ Accepted → IsIndex (now (file .entry)) (now (index .exit))) ⌝ }
 {
     let verdict = flatten::verdict_indexed(file, index);
     against(file, verdict)
@@ -85,6 +85,6 @@ pub fn judge_indexed(file: &[u8], index: &mut [u16]) -> Verdict
 pub fn judge(file: &[u8]) -> Verdict
     ensures { λ r. ⌜ Judges (now (file .entry)) r ⌝ }
 {
-    let mut index = [0u16; 82432];
+    let mut index = [0u16; 3072];
     judge_indexed(file, &mut index)
 }

@@ -21,7 +21,7 @@ abbrev μ-loop : tie.MeasureT-loop
 μ-loop file flat₀ count₀ c₀ flat count c = 256 - c
 
 loop-holds : tie.Need-loop-holds Inv-loop μ-loop
-loop-holds c = (omega arith, c .before .before .pre, refl, λ k h. absurd (omega arith))
+loop-holds c = (omega arith, c .before .before .pre .1, refl, λ k h. absurd (omega arith))
 
 mul-flat : tie.Need-mul-flat Inv-loop μ-loop
 mul-flat c = omega arith
@@ -67,7 +67,7 @@ loop-again c =
     (c .if1 .came)
 
 same-length : tie.Need-same-length Inv-loop μ-loop
-same-length c = c .before .loop .inv .1 ∙ sym (c .before .before .before .before .pre)
+same-length c = c .before .loop .inv .1 ∙ sym (c .before .before .before .before .pre .1)
 
 returns : tie.Need-returns Inv-loop μ-loop
 returns c =

@@ -1,5 +1,6 @@
 -- `lay_standing`: the Consts and Clocks passed so far are named by their flat indexes.
 -- Assumes nothing.
+use Rattle.flatten.proofs.Accepted.{accepted-readable}
 use mathlib.Core.Path.{_≡_, refl}
 use Prim.Native.Nat.{_-_, _≤_}
 use native.Mathlib.Omega.{arith}
@@ -68,7 +69,7 @@ lay-standing-spec =
     Inv-loop
     μ-loop
     loop-holds
-    (λ c κs. search needs)
+    (λ c κs. search (accepted-readable))
     stand-requires
     add-p
     loop-less

@@ -1,5 +1,6 @@
 -- `lay_components`: the entries of the primitives passed so far are laid, and what stands before the next is known.
 -- Assumes nothing.
+use Rattle.flatten.proofs.Accepted.{accepted-readable}
 use mathlib.Core.Path.{_≡_, refl}
 use Prim.Native.Nat.{_-_, _≤_}
 use native.Mathlib.Omega.{arith}
@@ -72,7 +73,7 @@ lay-components-spec =
     Inv-loop
     μ-loop
     loop-holds
-    (λ c κs. search needs)
+    (λ c κs. search (accepted-readable))
     lay-component-requires
     add-p
     loop-less

@@ -1,5 +1,6 @@
 -- `lay_outputs`: the starting values of the primitives passed so far are laid.
 -- Assumes nothing.
+use Rattle.flatten.proofs.Accepted.{accepted-readable}
 use Prim.Native.Nat.{_-_, _≤_}
 use native.Mathlib.Omega.{arith}
 use Rattle.component.specs.Record.{recordAt, recordCount}
@@ -62,7 +63,7 @@ lay-outputs-spec =
     Inv-loop
     μ-loop
     loop-holds
-    (λ c κs. search needs)
+    (λ c κs. search (accepted-readable))
     lay-output-requires
     add-p
     loop-less
