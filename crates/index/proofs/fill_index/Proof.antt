@@ -44,15 +44,20 @@ fill-ends-requires c κs = search needs
 
 guess-children-requires : tie.Need-guess-children-requires
 guess-children-requires c κs =
-    let s = c .before .before .before .before .before .before .before .before .before .before .before .before .before .before .before in
-    (s .pre .0, parts-size (s .args .file .now) (s .args .index .now) _ _ _ (s .pre .0) (s .pre .1) (s .pre .2)
-    (c .before .before .before .before .before .before .before .before .before .before .before .fill-numbers .ensures) (c .before .before .before .before .before .before .before .fill-numbers2 .ensures) (c .before .before .before .fill-ends .ensures))
+    let s = c .before .before .before .before .before .before .before .before .before .before .before .before .before .before .before in (
+      s .pre .0,
+      parts-size (s .args .file .now) (s .args .index .now) _ _ _ (s .pre .0) (s .pre .1) (s .pre .2)
+          (c .before .before .before .before .before .before .before .before .before .before .before .fill-numbers .ensures) (c .before .before .before .before .before .before .before .fill-numbers2 .ensures) (c .before .before .before .fill-ends .ensures),
+    )
 
 guess-maps-requires : tie.Need-guess-maps-requires
 guess-maps-requires c κs =
-    let s = c .before .before .before .before .before .before .before .before .before .before .before .before .before .before .before .before .before .before .before in
-    (s .pre .0, s .pre .1, c .before .before .before .guess-children .ensures .size ∙ parts-size (s .args .file .now) (s .args .index .now) _ _ _ (s .pre .0) (s .pre .1) (s .pre .2)
-    (c .before .before .before .before .before .before .before .before .before .before .before .before .before .before .before .fill-numbers .ensures) (c .before .before .before .before .before .before .before .before .before .before .before .fill-numbers2 .ensures) (c .before .before .before .before .before .before .before .fill-ends .ensures))
+    let s = c .before .before .before .before .before .before .before .before .before .before .before .before .before .before .before .before .before .before .before in (
+      s .pre .0,
+      s .pre .1,
+      c .before .before .before .guess-children .ensures .size ∙ parts-size (s .args .file .now) (s .args .index .now) _ _ _ (s .pre .0) (s .pre .1) (s .pre .2)
+          (c .before .before .before .before .before .before .before .before .before .before .before .before .before .before .before .fill-numbers .ensures) (c .before .before .before .before .before .before .before .before .before .before .before .fill-numbers2 .ensures) (c .before .before .before .before .before .before .before .fill-ends .ensures),
+    )
 
 same-length : tie.Need-same-length
 same-length c = search needs

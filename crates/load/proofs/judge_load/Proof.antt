@@ -41,7 +41,7 @@ returns-3 c =
       judge-file (a .file .now) (a .components .now) (a .inputs .now) (a .outputs .now) (a .wires .now) (a .current .now)
           (a .following .now) (a .standing .now) z
           (λ m. sym (e .before .full-size .ensures m) ∙ not-false _ (e .if2 .left)) _ (judges-judgement _ _ (j .judge-indexed .ensures .0)),
-      λ y. j .judge-indexed .ensures .1 z,
+      λ y. j .judge-indexed .ensures .1 y,
     )
 
 pub judge-load-spec : {M : Type 1} → statement M

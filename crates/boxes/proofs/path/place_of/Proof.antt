@@ -5,6 +5,7 @@ use Prim.Native.Nat.{_-_}
 use mathlib.Core.List.{foldl}
 use lib.ListN.{length, drop}
 use Rattle.component.specs.Record.{recordAt, recordCount}
+use Rattle.flatten.proofs.Accepted.{accepted-readable}
 use Rattle.boxes.specs.Boxes.{childNamed, placeOf}
 use Rattle.boxes.proofs.PathLaws.{place-next, place-missed, place-end}
 use borrow.Author.Needs.{needs}
@@ -38,7 +39,7 @@ place-of-spec =
     loop-holds
     (λ c. search needs)
     (λ c. search needs)
-    (λ c κs. search needs)
+    (λ c κs. search (accepted-readable))
     returns
     (λ c. search needs)
     (λ c. search needs)

@@ -24,9 +24,10 @@ enum-known-refusal c = search needs
 
 returns-2 : tie.Need-returns-2
 returns-2 c =
-    let a = c .before .before .before .before .before .before .before .before .args in
-    (verdict-early (a .file .now) _ (c .before .before .before .before .before .is-sized .ensures) _ _ (c .before .before .before .before .if1 .left) (c .before .before .before .judge-early .ensures) (c .before .refusal .given .1),
-    λ z. absurd (not-accepted _ z))
+    let a = c .before .before .before .before .before .before .before .before .args in (
+      verdict-early (a .file .now) _ (c .before .before .before .before .before .is-sized .ensures) _ _ (c .before .before .before .before .if1 .left) (c .before .before .before .judge-early .ensures) (c .before .refusal .given .1),
+      λ z. absurd (not-accepted _ z),
+    )
 
 enum-told : tie.Need-enum-told
 enum-told c = search needs

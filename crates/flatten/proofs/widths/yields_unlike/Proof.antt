@@ -53,9 +53,11 @@ any-differs-requires c κs =
     let s = r .before .before .before .before in
     let a = s .args in
     let at-p = connection-at (a .file .now) (length (a .file .now) / 24) (a .p) _ (r .known-at .ensures) _ _ _ _ _ _ (owner .owner .given .1)
-    (says .says .given .1) in
-    (s .pre .0 .0 .readable, connection-within (a .file .now) _ (passed-before (a .file .now) (s .pre .1)) (a .p) (s .pre .0 .1) _ _ _ _ _ at-p
-    _ _ (depth .deepest2 .ensures) (child .child-of2 .ensures) _ _ _ (listed .list-targets .ensures) (s .pre .0 .2))
+    (says .says .given .1) in (
+      s .pre .0 .0 .readable,
+      connection-within (a .file .now) _ (passed-before (a .file .now) (s .pre .1)) (a .p) (s .pre .0 .1) _ _ _ _ _ at-p
+          _ _ (depth .deepest2 .ensures) (child .child-of2 .ensures) _ _ _ (listed .list-targets .ensures) (s .pre .0 .2),
+    )
 
 -- a connection
 returns-3 : tie.Need-returns-3
@@ -76,10 +78,11 @@ returns-3 c =
     let at-p = connection-at (a .file .now) (length (a .file .now) / 24) (a .p) _ (r .known-at .ensures) _ _ _ _ _ _ (owner .owner .given .1)
     (says .says .given .1) in
     let read = connection-read (a .file .now) _ (passed-before (a .file .now) (s .pre .1)) (a .p) (s .pre .0 .1) _ _ _ _ _ at-p
-    _ _ (depth .deepest2 .ensures) (child .child-of2 .ensures) _ _ _ (listed .list-targets .ensures) (s .pre .0 .2) in
-    (fails15-connection (a .file .now) (a .p) _ _ _ _ _ at-p _ _ _ _ _ _ _ read (above .deepest .ensures) (start .child-of .ensures)
-    (source .source-of .ensures) (fields .fields-at .ensures) (width .output-width .ensures) (c .any-differs .ensures),
-    listed-length _ _ _ _ (listed .list-targets .ensures) ∙ s .pre .0 .2)
+    _ _ (depth .deepest2 .ensures) (child .child-of2 .ensures) _ _ _ (listed .list-targets .ensures) (s .pre .0 .2) in (
+      fails15-connection (a .file .now) (a .p) _ _ _ _ _ at-p _ _ _ _ _ _ _ read (above .deepest .ensures) (start .child-of .ensures)
+          (source .source-of .ensures) (fields .fields-at .ensures) (width .output-width .ensures) (c .any-differs .ensures),
+      listed-length _ _ _ _ (listed .list-targets .ensures) ∙ s .pre .0 .2,
+    )
 
 same-length : tie.Need-same-length
 same-length c = listed-length _ _ _ _ (c .before .before .before .before .list-targets .ensures)

@@ -100,11 +100,12 @@ returns-3 c =
     let s = r .before .before .before .before .before .before in
     let a = s .args in
     let at-p = connection-at (a .file .now) (length (a .file .now) / 24) (a .p) _ (r .known-at .ensures) _ _ _ _ _ _ (owner .owner .given .1)
-    (says .says .given .1) in
-    (connect-written (a .file .now) _ _ (s .pre .0 .0) (a .p) (s .pre .1 .0) _ _ _ _ _ at-p _ _ _ (above .deepest .ensures) (start .child-of .ensures)
-    (source .source-of .ensures) _ _ (depth .deepest2 .ensures) (child .child-of2 .ensures) _ _ _ (listed .list-targets .ensures) (s .pre .0 .1)
-    _ (flat .flat-pin .ensures .0) _ _ _ _ (laid .lay-leads .ensures),
-    listed-length _ _ _ _ (listed .list-targets .ensures) ∙ s .pre .0 .1)
+    (says .says .given .1) in (
+      connect-written (a .file .now) _ _ (s .pre .0 .0) (a .p) (s .pre .1 .0) _ _ _ _ _ at-p _ _ _ (above .deepest .ensures) (start .child-of .ensures)
+          (source .source-of .ensures) _ _ (depth .deepest2 .ensures) (child .child-of2 .ensures) _ _ _ (listed .list-targets .ensures) (s .pre .0 .1)
+          _ (flat .flat-pin .ensures .0) _ _ _ _ (laid .lay-leads .ensures),
+      listed-length _ _ _ _ (listed .list-targets .ensures) ∙ s .pre .0 .1,
+    )
 
 same-length : tie.Need-same-length
 same-length c = listed-length _ _ _ _ (c .before .before .before .before .before .before .before .list-targets .ensures)
