@@ -1,0 +1,114 @@
+/*
+ * Our side of tests/instructions: instructions FILE makes each call below on a drawing, between two marks for tests/plugin.c, TIMES
+ * times over. tests/instructions.rs is the Rust's side: the same calls in the same order. Prints what it loaded, and how many rounds
+ * it took to settle: both sides must print the same. Leaves with 1 where a call is refused or does not do what its name says.
+ */
+#include "berxundar.h"
+#include "file.h"
+
+#include <stdio.h>
+#include <string.h>
+
+enum { START = 1, STOP = 2, MARK = 0x6d61726b };
+
+/* The first is to warm up; the others must be counted alike. */
+#define TIMES 3
+#define TIME 5
+#define ROUNDS_MAX 10000
+
+static uint8_t bytes[FILE_ROOM];
+static size_t length;
+
+/* What a call works on, and the states that it is made on: after a load; settled, with an empty current list; settled, with all listed. */
+static berxundar_net net, loaded, quiet, idle;
+
+static uint32_t nothing(void) { return 0; }
+static uint32_t judge(void) { return berxundar_judge(bytes, length); }
+static uint32_t load(void) { return berxundar_net_load(&net, bytes, length); }
+static uint32_t run_round(void) { return berxundar_net_round(&net, TIME); }
+static uint32_t check(void) { return berxundar_net_check(&net); }
+
+static const struct {
+    const char *name;
+    const berxundar_net *from;
+    uint32_t (*call)(void);
+} calls[] = { { "empty", &loaded, nothing }, { "judge", &loaded, judge }, { "load", &loaded, load },
+    { "round, all listed", &loaded, run_round }, { "idle, all listed", &idle, run_round }, { "quiet", &quiet, run_round },
+    { "net check", &quiet, check } };
+
+/* A system call that no kernel has, which the plugin sees. */
+static void mark(long what, long name)
+{
+    long answer;
+    __asm__ volatile("syscall" : "=a"(answer) : "0"((long)MARK), "D"(what), "S"(name) : "rcx", "r11", "memory");
+    (void)answer;
+}
+
+static int same_values(const berxundar_net *a, const berxundar_net *b)
+{
+    return memcmp(a->inputs, b->inputs, sizeof a->inputs) == 0 && memcmp(a->outputs, b->outputs, sizeof a->outputs) == 0;
+}
+
+/* Runs the loaded net until its lists are empty, and lays the two settled states: how many rounds that took. */
+static int settle(void)
+{
+    uint64_t i, components = loaded.counts[BERXUNDAR_COUNT_COMPONENTS];
+    int rounds = 0;
+    net = loaded;
+    do {
+        if (berxundar_net_round(&net, TIME) != 0 || ROUNDS_MAX < ++rounds)
+            return -1;
+    } while (net.counts[BERXUNDAR_COUNT_CURRENT] + net.counts[BERXUNDAR_COUNT_FOLLOWING] + net.counts[BERXUNDAR_COUNT_STANDING]);
+    quiet = net;
+    idle = net;
+    for (i = 0; i < components; i++)
+        idle.current[i] = (uint16_t)i;
+    idle.counts[BERXUNDAR_COUNT_CURRENT] = components;
+    return rounds;
+}
+
+/* Makes one call TIMES times, each between marks. */
+static int measure(size_t which)
+{
+    int i;
+    for (i = 0; i < TIMES; i++) {
+        uint32_t answer;
+        net = *calls[which].from;
+        mark(START, (long)which);
+        answer = calls[which].call();
+        mark(STOP, (long)which);
+        if (answer != 0) {
+            fprintf(stderr, "instructions: %s: refused %u: %s\n", calls[which].name, berxundar_number(answer), berxundar_words(answer));
+            return 0;
+        }
+    }
+    return 1;
+}
+
+int main(int argc, char **argv)
+{
+    long read = argc == 2 ? file_read(argv[1], bytes) : -1;
+    int rounds;
+    size_t i;
+    if (read < 0) {
+        fprintf(stderr, "usage: instructions FILE\n");
+        return 1;
+    }
+    length = (size_t)read;
+    if (berxundar_net_load(&loaded, bytes, length) != 0 || (rounds = settle()) < 0) {
+        fprintf(stderr, "instructions: %s is refused, or does not settle\n", argv[1]);
+        return 1;
+    }
+    for (i = 0; i < sizeof calls / sizeof calls[0]; i++)
+        if (!measure(i))
+            return 1;
+    net = idle;
+    if (run_round() != 0 || !same_values(&net, &quiet) || net.counts[BERXUNDAR_COUNT_CURRENT]) {
+        fprintf(stderr, "instructions: an idle round changes something\n");
+        return 1;
+    }
+    printf("components %u inputs %u outputs %u wires %u rounds %d\n", (unsigned)loaded.counts[BERXUNDAR_COUNT_COMPONENTS],
+        (unsigned)loaded.counts[BERXUNDAR_COUNT_INPUTS], (unsigned)loaded.counts[BERXUNDAR_COUNT_OUTPUTS],
+        (unsigned)loaded.counts[BERXUNDAR_COUNT_WIRES], rounds);
+    return 0;
+}
