@@ -96,13 +96,13 @@ fn enters_again(file: &[u8], index: &[u16], marks: &mut [u8; 16384], p: usize) -
     let Entry::Of { owner, to, input } = entry_at(file, p) else {
         return false;
     };
-    let at = place_mark(file, index, owner, to, input);
-    if marks[at] != 0 {
+    let place = place_mark(file, index, owner, to, input);
+    if marks[place] != 0 {
         if earlier_of(file, p) != p {
             return true;
         }
     }
-    marks[at] = 1;
+    marks[place] = 1;
     false
 }
 

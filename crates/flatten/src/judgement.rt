@@ -42,14 +42,14 @@ fn first_indexed(file: &[u8], index: &[u16], k: u32) -> usize
     requires { ⌜ IsIndex (now file) (now index) × ((k ≡ 12) ⊎ (k ≡ 14)) × PassedBefore (recordAt (now file)) (recordCount (now file)) k ⌝ }
     ensures { λ r. ⌜ IsFirst (failsAt (recordAt (now (file .entry))) (recordCount (now (file .entry))) k) (recordCount (now (file .entry))) r ⌝ }
 {
-    let mut p: usize = 0;
-    while p < file.len() / 24 {
-        if check_indexed(file, index, k, p) != 0 {
-            return p;
+    let mut q: usize = 0;
+    while q < file.len() / 24 {
+        if check_indexed(file, index, k, q) != 0 {
+            return q;
         }
-        p += 1;
+        q += 1;
     }
-    p
+    q
 }
 
 // The same of the checks before the index is filled, 3 to 11.

@@ -162,14 +162,17 @@ fn word(index: &[u16], at: usize) -> usize
     index[at] as usize
 }
 
-// Guesses where the children of each owner start: behind those of the owners before.
-fn guess_starts(index: &mut [u16])
+// Guesses where the children of each owner start: behind those of the owners before, which are among n records.
+fn guess_starts(index: &mut [u16], n: usize)
     requires { ⌜ length (now index) ≡ 3072 ⌝ }
     ensures { λ _. ⌜ KeptBelow 2304 (now (index .entry)) (now (index .exit)) ⌝ }
 {
     let mut sum: usize = 0;
     let mut o: usize = 0;
-    while o < 256 {
+    while o < n {
+        if 256 <= o {
+            return;
+        }
         if 256 <= sum {
             return;
         }
@@ -199,7 +202,7 @@ fn guess_children(file: &[u8], index: &mut [u16])
     requires { ⌜ Readable (now file) × (length (now index) ≡ 3072) ⌝ }
     ensures { λ _. ⌜ KeptBelow 2304 (now (index .entry)) (now (index .exit)) ⌝ }
 {
-    guess_starts(index);
+    guess_starts(index, file.len() / 24);
     let mut q: usize = 1;
     while q < 256 {
         let Stands::Component { owner, .. } = component_at(file, q) else {

@@ -1,4 +1,4 @@
--- `first_indexed`: the invariant: no record before p fails.
+-- `first_indexed`: the invariant: no record before q fails.
 -- Assumes nothing.
 use mathlib.Core.Logic.{_⊎_, inl, inr}
 use mathlib.Core.Bool.{true, false}
@@ -20,10 +20,10 @@ kind (inl z) = (omega arith, omega arith)
 kind (inr z) = (omega arith, omega arith)
 
 abbrev Inv-loop : tie.InvT-loop
-Inv-loop file index k p₀ p = (p ≤ length file / 24) × NoneBefore (failsAt (recordAt file) (length file / 24) k) p
+Inv-loop file index k q₀ q = (q ≤ length file / 24) × NoneBefore (failsAt (recordAt file) (length file / 24) k) q
 
 abbrev μ-loop : tie.MeasureT-loop
-μ-loop file index k p₀ p = length file / 24 - p
+μ-loop file index k q₀ q = length file / 24 - q
 
 loop-holds : tie.Need-loop-holds Inv-loop μ-loop
 loop-holds c = (omega arith, none-start (failsAt (recordAt (c .before .before .args .file .now)) (length (c .before .before .args .file .now) / 24) (c .before .before .args .k)))
@@ -38,10 +38,10 @@ returns : tie.Need-returns Inv-loop μ-loop
 returns c =
     let a = c .before .before .before .before .before .before in
     first-this (failsAt (recordAt (c .before .before .before .before .before .before .args .file .now)) (length (c .before .before .before .before .before .before .args .file .now) / 24) (c .before .before .before .before .before .before .args .k)) _ _ (c .before .before .before .loop .inv .1) true
-    (fails-here (recordAt (a .args .file .now)) _ (a .args .k) (c .before .before .before .loop .p) _ (c .before .check-indexed .ensures) (omega (arith, kind (a .pre .1))) (kind (a .pre .1) .1) (c .if1 .taken)) refl (c .before .before .loop-test .taken)
+    (fails-here (recordAt (a .args .file .now)) _ (a .args .k) (c .before .before .before .loop .q) _ (c .before .check-indexed .ensures) (omega (arith, kind (a .pre .1))) (kind (a .pre .1) .1) (c .if1 .taken)) refl (c .before .before .loop-test .taken)
 
-add-p : tie.Need-add-p Inv-loop μ-loop
-add-p c = search needs
+add-q : tie.Need-add-q Inv-loop μ-loop
+add-q c = search needs
 
 loop-less : tie.Need-loop-less Inv-loop μ-loop
 loop-less c = search needs
@@ -50,8 +50,8 @@ loop-again : tie.Need-loop-again Inv-loop μ-loop
 loop-again c =
     let a = c .before .before .before .before .before .before in (
       omega arith,
-      none-next (failsAt (recordAt (c .before .before .before .before .before .before .args .file .now)) (length (c .before .before .before .before .before .before .args .file .now) / 24) (c .before .before .before .before .before .before .args .k)) (c .before .before .before .loop .p) 0 (c .before .before .before .loop .inv .1) false
-          (passes-here (recordAt (a .args .file .now)) _ (a .args .k) (c .before .before .before .loop .p) _ (c .before .check-indexed .ensures) (omega (arith, kind (a .pre .1))) (kind (a .pre .1) .1) (c .if1 .left)) refl,
+      none-next (failsAt (recordAt (c .before .before .before .before .before .before .args .file .now)) (length (c .before .before .before .before .before .before .args .file .now) / 24) (c .before .before .before .before .before .before .args .k)) (c .before .before .before .loop .q) 0 (c .before .before .before .loop .inv .1) false
+          (passes-here (recordAt (a .args .file .now)) _ (a .args .k) (c .before .before .before .loop .q) _ (c .before .check-indexed .ensures) (omega (arith, kind (a .pre .1))) (kind (a .pre .1) .1) (c .if1 .left)) refl,
     )
 
 returns-2 : tie.Need-returns-2 Inv-loop μ-loop
@@ -66,7 +66,7 @@ first-indexed-spec =
     loop-holds
     check-indexed-requires
     returns
-    add-p
+    add-q
     loop-less
     loop-again
     returns-2)
