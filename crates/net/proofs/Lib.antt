@@ -1,4 +1,5 @@
 pub mod LoopsLaws
+pub mod DownLaws
 pub mod MarksLaws
 pub mod ClausesLaws
 pub mod CircuitLaws

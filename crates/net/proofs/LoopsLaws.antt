@@ -1,5 +1,5 @@
--- Loops over what is still to come: a search for a number, a test that none stands twice, a part of a table, a sum.
--- Not here: a loop for one that does not pass a test (ListsLaws: every-fails, every-next, every-end).
+-- Loops over what is still to come: a search for a number, a part of a table, a sum.
+-- Not here: a test that none stands twice (DownLaws); a loop for one that does not pass a test (ListsLaws: every-fails, every-next, every-end).
 -- Assumes nothing.
 use mathlib.Core.Path.{_≡_, refl, sym, ap, _∙_}
 use mathlib.Core.Bool.{Bool, true, false, _&&_}
@@ -11,7 +11,7 @@ use native.Mathlib.Omega.{arith}
 use borrow.Author.Tests.{eq-eqb, ne-eqb}
 use lib.ListN.{length, getD}
 use lib.Seq.{slice, slice-cons, slice-empty}
-use Rattle.lists.specs.Lists.{from, every, total, has, distinct}
+use Rattle.lists.specs.Lists.{from, every, total, has}
 use Rattle.lists.proofs.ListsLaws.{from-step, from-end}
 use Rattle.lists.proofs.MembersLaws.{from-last, from-append, total-append}
 
@@ -43,23 +43,6 @@ module _ (g : ℕ → ℕ) (x q n : ℕ) (b : Bool) (so-far : has x (map g (from
 
   pub hasFrom-end : n ≤ q → false ≡ b
   hasFrom-end h = ap (λ (l : List ℕ). has x (map g l)) (sym (from-end q n h)) ∙ so-far
-
--- A search for one that stands again behind itself.
-module _ (g : ℕ → ℕ) (q n : ℕ) (b : Bool) (so-far : distinct (map g (from q (n - q))) ≡ b) where
-  pub distinctFrom-again : q < n → has (g q) (map g (from (q + 1) (n - (q + 1)))) ≡ true → false ≡ b
-  distinctFrom-again h e =
-      let z : distinct (map g (from q (n - q))) ≡ false = rw (from-step q n h, e) in
-      sym z ∙ so-far
-
-  pub distinctFrom-next : q < n → has (g q) (map g (from (q + 1) (n - (q + 1)))) ≡ false
-      → distinct (map g (from (q + 1) (n - (q + 1)))) ≡ b
-  distinctFrom-next h e =
-      let z : distinct (map g (from q (n - q))) ≡ distinct (map g (from (q + 1) (n - (q + 1)))) =
-      rw (from-step q n h, e) in
-      sym z ∙ so-far
-
-  pub distinctFrom-end : n ≤ q → true ≡ b
-  distinctFrom-end h = ap (λ (l : List ℕ). distinct (map g l)) (sym (from-end q n h)) ∙ so-far
 
 -- A test of the entries of a table from q on, up to n.
 module _ (f : ℕ → Bool) (t : List ℕ) (q n : ℕ) (b : Bool) (long : n ≤ length t)

@@ -6,7 +6,7 @@ ghost use Prim.Native.Nat.{_-_, _≤_};
 ghost use Rattle.lists.specs.Lists.{from, every, has, distinct};
 ghost use Rattle.value.specs.Value.{below};
 ghost use Rattle.net.specs.Net.{idsDistinct};
-ghost use Rattle.net.specs.Parts.{lent};
+ghost use Rattle.net.specs.Parts.{lent, IdsMarked};
 ghost use Rattle.tables.specs.Words.{idIn};
 use kinds::Id;
 use tables::Counts;
@@ -48,18 +48,33 @@ fn id_from(components: &[u64], id: Id, start: usize, count: usize) -> bool
     false
 }
 
-// Whether no two of the first count components have the same id.
+// Whether a component from `start` on has this id, where the ids of all these are marked: only an id whose mark is set is searched for.
+fn is_again(components: &[u64], marks: &[u8; 4096], id: Id, start: usize, count: usize) -> bool
+    requires { ⌜ (start ≤ count) × IdsMarked (now components) start count (now marks) ⌝ }
+    ensures { λ r. ⌜ r ≡ has (id .0) (map (idIn (now (components .entry))) (from start (count - start))) ⌝ }
+{
+    let at = kinds::mark_of(id);
+    if marks[at] == 0 {
+        return false;
+    }
+    id_from(components, id, start, count)
+}
+
+// Whether no two of the first count components have the same id. From the last to the first, each id is marked after its test.
 fn ids_apart(components: &[u64], count: usize) -> bool
     requires { ⌜ every (λ i. below (idIn (now components) i) 32) (from 0 count) ≡ true ⌝ }
     ensures { λ r. ⌜ r ≡ distinct (map (idIn (now (components .entry))) (from 0 count)) ⌝ }
 {
-    let mut i: usize = 0;
-    while i < count {
-        let id = id_at(components, i);
-        if id_from(components, id, i + 1, count) {
+    let mut marks = [0u8; 4096];
+    let mut i = count;
+    while 0 < i {
+        let id = id_at(components, i - 1);
+        if is_again(components, &marks, id, i, count) {
             return false;
         }
-        i += 1;
+        let at = kinds::mark_of(id);
+        marks[at] = 1;
+        i -= 1;
     }
     true
 }
