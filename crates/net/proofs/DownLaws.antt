@@ -1,39 +1,35 @@
 -- A loop from the last to the first that tests whether one stands again behind itself, with marks before the search.
 -- Assumes nothing.
 use mathlib.Core.Path.{_≡_, refl, sym, ap, _∙_}
-use mathlib.Core.Bool.{Bool, true, false, not, _&&_, and-false}
-use mathlib.Core.List.{List, [], _∷_, map}
+use mathlib.Core.Bool.{true, false, not, and-false}
+use mathlib.Core.List.{List, _∷_, map}
 use Prim.Native.Nat.{ℕ, zero, suc, _+_, _-_, _≤_, _<_}
 use native.Mathlib.Numerals.{add-one}
 use native.Mathlib.Omega.{arith}
-use borrow.Author.Tests.{ne-eqb}
 use lib.ListN.{getD}
 use Rattle.lists.specs.Lists.{from, has, distinct}
 use Rattle.lists.specs.Marks.{IsMarked}
 use Rattle.lists.proofs.ListsLaws.{from-step, from-end}
+use Rattle.lists.proofs.MembersLaws.{has-none, map-sound, from-sound}
 use Rattle.lists.proofs.KeysLaws.{unmarked-none}
 use Rattle.net.proofs.LoopsLaws.{from-start}
-
--- A number that none of those to come is.
-has-none : (g : ℕ → ℕ) (x q k : ℕ) → ((j : ℕ) → q ≤ j → j < q + k → x ≡ g j → ⊥) → has x (map g (from q k)) ≡ false
-has-none g x q zero h = refl
-has-none g x q (suc k) h =
-    rw (ne-eqb x (g q) (h q (omega arith) (omega arith)))
-    (has-none g x (suc q) k (λ j a b. h j (omega arith) (omega arith)))
 
 -- A number whose mark is not set is none of those that are marked.
 pub has-unmarked : (size : ℕ) (mark g : ℕ → ℕ) (marks : List ℕ) (x q n : ℕ) → q ≤ n
     → IsMarked size (λ j. true) (λ j. mark (g j)) q n marks → getD marks (mark x) 0 ≡ 0
     → has x (map g (from q (n - q))) ≡ false
 has-unmarked size mark g marks x q n h m e =
-    has-none g x q (n - q)
-    (λ j a b z. unmarked-none size (λ j. true) (λ j. mark (g j)) q n marks m (mark x) j e a (omega arith) refl (ap mark (sym z)))
+    has-none x (map g (from q (n - q))) (λ u.
+    let r = map-sound g x (from q (n - q)) u in
+    let p = from-sound q (n - q) (r .0) (r .1) in
+    unmarked-none size (λ j. true) (λ j. mark (g j)) q n marks m (mark x) (r .0) e (p .0) (omega (arith, p .1)) refl (ap mark (sym (r .2))))
 
 -- Nothing is behind the last.
 pub down-start : (g : ℕ → ℕ) (n : ℕ) → distinct (map g (from n (n - n))) ≡ true
 down-start g n = ap (λ (l : List ℕ). distinct (map g l)) (from-end n n (omega arith))
 
-down-step : (i n : ℕ) → 0 < i → i ≤ n → from (i - 1) (n - (i - 1)) ≡ (i - 1) ∷ from i (n - i)
+-- One more from the end.
+pub down-step : (i n : ℕ) → 0 < i → i ≤ n → from (i - 1) (n - (i - 1)) ≡ (i - 1) ∷ from i (n - i)
 down-step i n a b =
     let e : i - 1 + 1 ≡ i = omega arith in
     from-step (i - 1) n (omega arith) ∙ ap (λ (k : ℕ). (i - 1) ∷ from k (n - k)) e

@@ -35,7 +35,7 @@ pub fresh-again : (seen : List ℕ) (x : ℕ) (xs : List ℕ) → (getD seen x 0
 fresh-again seen x xs h = rw (ne-eqb (getD seen x 0) 0 h)
 
 -- With one mark more, the others are unmarked exactly if they were and are another number.
-mark-one : (seen : List ℕ) (x : ℕ) → x < length seen → (y : ℕ) → unmarked (set seen x 1) y
+pub mark-one : (seen : List ℕ) (x : ℕ) → x < length seen → (y : ℕ) → unmarked (set seen x 1) y
     ≡ (unmarked seen y && not (eqb x y))
 mark-one seen x h y = by-test (eqb x y) refl
   where

@@ -3,5 +3,7 @@ pub mod Evaluation
 pub mod Sound
 pub mod Held
 pub mod Left
+pub mod LinksLaws
+pub mod ListedLaws
 pub mod StepsLaws
 pub mod RoundLaws

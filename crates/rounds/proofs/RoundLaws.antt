@@ -1,21 +1,25 @@
 -- A whole round, from what a net gives to the tables that it leaves.
 -- Assumes nothing.
-use mathlib.Core.Path.{_≡_, sym, ap, _∙_}
+use mathlib.Core.Path.{_≡_, sym, ap, _∙_, subst}
+use mathlib.Core.Bool.{true}
 use mathlib.Core.List.{List, [], foldl}
-use Prim.Native.Nat.{ℕ, _≤_}
+use Prim.Native.Nat.{ℕ, _≤_, _<_}
 use native.Mathlib.Omega.{arith}
-use lib.ListN.{length, take}
-use lib.Seq.{length-take-le}
+use lib.ListN.{length, getD, take}
+use lib.Seq.{length-take-le, getD-take}
 use Rattle.lists.specs.Lists.{overlay}
+use Rattle.lists.proofs.MembersLaws.{In, in-getD}
+use Rattle.tables.specs.declared.Wire.{Wire}
 use Rattle.tables.specs.declared.Counts.{Counts}
 use Rattle.tables.specs.Tables.{Tables, tablesOf, wireAt, wiresIn, currentList, followingList, standingList}
 use Rattle.tables.proofs.NamedLaws.{overlay-list}
 use Rattle.net.specs.Net.{names, netNumber}
-use Rattle.net.proofs.NetLaws.{netNumber-net, netNumber-sizes}
+use Rattle.net.proofs.NetLaws.{names-existing, netNumber-net, netNumber-sizes}
 use Rattle.rounds.specs.declared.Sizes.{Sizes}
-use Rattle.rounds.specs.Round.{State, leave, turn, evaluated, send, visit, round, roundOf}
+use Rattle.rounds.specs.Round.{State, stateOf, leave, turn, evaluated, send, visit, round, roundOf}
+use Rattle.rounds.specs.Links.{SourcesFew}
 use Rattle.rounds.specs.Steps.{wiring, stateAt, CanRun, ListFits}
-use Rattle.rounds.proofs.Sound.{net-sound, net-within, current-in, following-in, wire-in, output-room, input-room}
+use Rattle.rounds.proofs.Sound.{net-sound, net-within, current-in, following-in, standing-in, wire-in, output-room, input-room}
 use Rattle.rounds.proofs.StepsLaws.{visits-current}
 
 -- A list copied to another table.
@@ -38,6 +42,10 @@ module _ (T : Tables) (z : netNumber T ≡ 0) where
         named = λ k h. g .target (wireAt T k) (wire-in T k h);
       }
 
+  -- Wires leave components of full size.
+  pub net-sources : SourcesFew (T .wires) (T .counts .wires)
+  net-sources k h = let g = net-sound T z in omega (arith, g .source (wireAt T k) (wire-in T k h), g .few)
+
   pub net-current : ListFits (wiring (T .components) (T .wires) (T .counts)) (T .counts .current) (T .current)
   unfolding names
   net-current =
@@ -46,6 +54,23 @@ module _ (T : Tables) (z : netNumber T ≡ 0) where
         count = current-in T z;
         named = netNumber-net T z .current;
       }
+
+  -- The entries of the following and of the standing list are components of full size.
+  pub net-named : ((j : ℕ) → j < T .counts .following → getD (T .following) j 0 < 256)
+      × ((j : ℕ) → j < T .counts .standing → getD (T .standing) j 0 < 256)
+  net-named = (
+    λ j h. named (T .counts .following) (T .following) (following-in T z) (netNumber-net T z .following) j h,
+    λ j h. named (T .counts .standing) (T .standing) (standing-in T z) (netNumber-net T z .standing) j h,
+  )
+    where
+      named : (n : ℕ) (t : List ℕ) → n ≤ length t → names T (take n t) ≡ true → (j : ℕ) → j < n → getD t j 0 < 256
+      named n t l e j h =
+          let b : j < length (take n t) = omega (arith, length-take-le n t l) in
+          omega (
+            arith,
+            names-existing T (take n t) e (getD t j 0) (subst (λ (x : ℕ). In x (take n t)) (getD-take n t j 0 h) (in-getD (take n t) j 0 b)),
+            net-within T z .components,
+          )
 
   -- The following list, copied to a table of full size.
   pub net-copied : (t t' : List ℕ) → 256 ≤ length t' → t' ≡ overlay (followingList T) t
@@ -83,31 +108,31 @@ round-ended cur fol std next left cur' fol' std' m n h k ec ef es =
     rw (ec, ef, es, a, b)
 
 -- The whole round: both lists copied out, every component of the current list visited, and the three copies at the end.
-module _ (T : Tables) (t : ℕ) where
+module _ (T : Tables) (t : ℕ) (vs : List Wire) where
   abbrev W : Tables
   W = wiring (T .components) (T .wires) (T .counts)
 
   round-visits : (s : State)
-      → s ≡ foldl (visit W (wiresIn W) t) (stateAt (T .inputs) (T .outputs) (followingList T) (standingList T))
+      → s ≡ foldl (visit W vs t) (stateAt (T .inputs) (T .outputs) (followingList T) (standingList T))
       (currentList T)
-      → roundOf t T ≡ leave T (turn s)
-  unfolding roundOf round visit evaluated send
+      → leave T (round T vs t (stateOf T)) ≡ leave T (turn s)
+  unfolding round visit evaluated send
   round-visits s e =
       ap (λ (u : State). leave T (turn u))
-      (visits-current T (wiresIn T) t (currentList T)
+      (visits-current T vs t (currentList T)
       (stateAt (T .inputs) (T .outputs) (followingList T) (standingList T)) (currentList T))
       ∙ ap (λ (u : State). leave T (turn u)) (sym e)
 
   pub round-made : (nx lf ins outs nx' lf' cur fol std : List ℕ) (n : Sizes) (r : Counts)
       → take (T .counts .following) nx ≡ followingList T → take (T .counts .standing) lf ≡ standingList T
       → stateAt ins outs (take (n .following) nx') (take (n .standing) lf')
-      ≡ foldl (visit W (wiresIn W) t)
+      ≡ foldl (visit W vs t)
       (stateAt (T .inputs) (T .outputs) (take (T .counts .following) nx) (take (T .counts .standing) lf))
       (currentList T)
       → tablesOf [] [] [] [] cur fol std r
       ≡ leave (tablesOf [] [] [] [] (T .current) (T .following) (T .standing) (T .counts))
       (turn (stateAt [] [] (take (n .following) nx') (take (n .standing) lf')))
-      → tablesOf (T .components) ins outs (T .wires) cur fol std r ≡ roundOf t T
+      → tablesOf (T .components) ins outs (T .wires) cur fol std r ≡ leave T (round T vs t (stateOf T))
   unfolding leave
   round-made nx lf ins outs nx' lf' cur fol std n r ef es v e =
       let c : cur ≡ overlay (take (n .following) nx') (T .current) = ap (λ (u : Tables). u .current) e in
@@ -117,3 +142,13 @@ module _ (T : Tables) (t : ℕ) where
       let s = stateAt ins outs (take (n .following) nx') (take (n .standing) lf') in
       let l : tablesOf (T .components) ins outs (T .wires) cur fol std r ≡ leave T (turn s) = rw (c, f, d, m) in
       l ∙ sym (round-visits s (v ∙ rw (ef, es)))
+
+-- In stored order, which leaves the count of wires.
+module _ (T U : Tables) (t : ℕ) where
+  pub round-stored : U ≡ leave T (round T (wiresIn T) t (stateOf T)) → U ≡ roundOf t T
+  unfolding roundOf
+  round-stored e = e
+
+  pub round-wires : U ≡ roundOf t T → U .counts .wires ≡ T .counts .wires
+  unfolding roundOf leave
+  round-wires e = ap (λ (u : Tables). u .counts .wires) e

@@ -3,9 +3,9 @@
 -- Assumes nothing.
 use mathlib.Core.Path.{_≡_, refl, sym, ap, _∙_, subst}
 use mathlib.Core.Bool.{Bool, true, false, cond}
-use mathlib.Core.List.{List, [], _∷_, _++_, map, foldl, append-assoc}
+use mathlib.Core.List.{List, [], _∷_, _++_, foldl, append-assoc}
 use Prim.Native.Nat.{ℕ, zero, suc, _+_, _-_, _≤_, _<_}
-use native.Mathlib.Nat.{zero-add, suc-add, sub-zero}
+use native.Mathlib.Nat.{zero-add, suc-add}
 use native.Mathlib.Numerals.{add-one}
 use native.Mathlib.Omega.{arith}
 use borrow.Rule.Slice.PartMut.{putMid, post-is}
@@ -13,9 +13,8 @@ use borrow.Author.Tests.{eq-eqb, ne-eqb}
 use lib.ListN.{length, getD, take, drop, set, length-take}
 use lib.Seq.{sets, sets-eq, take-nil, slice, slice-cons, slice-empty, getD-take, length-take-le}
 use lib.Dec.{eqb}
-use Rattle.lists.specs.Lists.{from, appendNew, strike, overlay}
-use Rattle.lists.proofs.ListsLaws.{from-step, from-end}
-use Rattle.lists.proofs.MembersLaws.{In, in-getD, keep-sound, map-sound, from0-sound}
+use Rattle.lists.specs.Lists.{has, appendNew, strike, overlay}
+use Rattle.lists.proofs.MembersLaws.{In, in-getD}
 use Rattle.lists.proofs.NamesLaws.{names-sound, names-complete, names-append, names-length}
 use Rattle.kinds.specs.declared.Kind.the-variants.{Clock}
 use Rattle.kinds.specs.declared.table.Fields.{Fields}
@@ -25,7 +24,7 @@ use Rattle.primitive.specs.Own.{Own}
 use Rattle.primitive.proofs.FitLaws.{outputsAfter-length}
 use Rattle.tables.specs.declared.Wire.{Wire}
 use Rattle.tables.specs.declared.Counts.{Counts}
-use Rattle.tables.specs.Tables.{Tables, fieldsAt, firstInput, firstOutput, numbers, inputsAt, outputsAt, inputPlace, outputPlace, wireAt, wiresIn}
+use Rattle.tables.specs.Tables.{Tables, fieldsAt, firstInput, firstOutput, numbers, inputsAt, outputsAt, inputPlace, outputPlace}
 use Rattle.tables.proofs.NamedLaws.{overlay-list, overlay-count}
 use Rattle.tables.specs.Words.{uncounted, wireIn}
 use Rattle.net.specs.Net.{names}
@@ -33,7 +32,8 @@ use Rattle.net.proofs.NetLaws.{names-existing}
 use Rattle.rounds.specs.Round.{State, withCurrent, withStanding, wiresFrom, evaluated, send, visit}
 use Rattle.rounds.specs.Steps.{wiring, stateAt, CanEvaluate, CanSend, CanRun, ListFits, Step}
 use Rattle.rounds.proofs.Ports.{numbers-length}
-use Rattle.rounds.proofs.Held.{foldl-keeps, carried, received, written, SendCase, agrees, writes, send-case}
+use Rattle.rounds.proofs.ListedLaws.{strike-none}
+use Rattle.rounds.proofs.Held.{carried, received, written, SendCase, agrees, writes, send-case}
 
 -- One wire, whose output and input hold the numbers x and y.
 module _ (T : Tables) (ins outs fol : List ℕ) (n : ℕ) (w : Wire) (a b x y : ℕ) (pa : a ≡ outputPlace T (w .src))
@@ -128,7 +128,19 @@ module _ (T : Tables) (ins outs : List ℕ) (i : ℕ) (v : CanEvaluate T ins out
         ∙ ap (λ (k : ℕ). take (firstOutput T i) outs ++ (w ++ drop (firstOutput T i + k) outs)) l in
         r ∙ rw (eb, z, ef) (sym q)
 
-    -- A Clock stays in the standing list,
+    -- A component that is not in the standing list is not there to be struck,
+    pub evaluated-unstood : (t n : ℕ) (zs std : List ℕ) → zs ≡ outputsAfter f xs ys t → has i (take n std) ≡ false → n ≤ length std
+        → Step n std (stateAt ins (putMid b (b + f .outputs - b) outs zs) [] (take n std))
+        (evaluated T t i (stateAt ins outs [] (take n std)))
+    unfolding evaluated
+    evaluated-unstood t n zs std e c h =
+        record { count = h; state = rw (outputs-put t zs e, strike-none i (take n std) c, either (is Clock (fieldsAt T i)) (take n std)) }
+      where
+        either : (k : Bool) (l : List ℕ) → cond k l l ≡ l
+        either true l = refl
+        either false l = refl
+
+    -- a Clock stays in it,
     pub evaluated-clock : (t n : ℕ) (zs std : List ℕ) → zs ≡ outputsAfter f xs ys t → is Clock (fieldsAt T i) ≡ true → n ≤ length std
         → Step n std (stateAt ins (putMid b (b + f .outputs - b) outs zs) [] (take n std))
         (evaluated T t i (stateAt ins outs [] (take n std)))
@@ -173,33 +185,6 @@ module _ (T : Tables) where
       by-case : SendCase T s w → names T (send T s w .following) ≡ true
       by-case (agrees p q) = rw q e
       by-case (writes p q) = rw q (append-names (w .dst .comp .0) (s .following) e h)
-
--- A loop over all wires, of which those of component i are sent: what is still to come.
-module _ (T : Tables) (i q n : ℕ) (s : State) (x : State) where
-  abbrev pub to-come : State → ℕ → State
-  to-come u k = foldl (send T) u (wiresFrom i (map (wireAt T) (from k (n - k))))
-
-  pub sends-taken : (u : State) (c : ℕ) → q < n → c ≡ wireAt T q .src .comp .0 → c ≡ i → u ≡ send T s (wireAt T q)
-      → to-come s q ≡ x → to-come u (q + 1) ≡ x
-  sends-taken u c h e t eu so-far =
-      let z : eqb (wireAt T q .src .comp .0) i ≡ true = eq-eqb (wireAt T q .src .comp .0) i (sym e ∙ t) in
-      let y : to-come s q ≡ to-come (send T s (wireAt T q)) (q + 1) = rw (from-step q n h, z) in
-      rw eu (sym y ∙ so-far)
-
-  pub sends-passed : (c : ℕ) → q < n → c ≡ wireAt T q .src .comp .0 → (c ≡ i → ⊥) → to-come s q ≡ x
-      → to-come s (q + 1) ≡ x
-  sends-passed c h e t so-far =
-      let z : eqb (wireAt T q .src .comp .0) i ≡ false = ne-eqb (wireAt T q .src .comp .0) i (λ p. t (e ∙ p)) in
-      let y : to-come s q ≡ to-come s (q + 1) = rw (from-step q n h, z) in
-      sym y ∙ so-far
-
-  pub sends-start : foldl (send T) s (wiresFrom i (map (wireAt T) (from 0 (n - 0))))
-      ≡ foldl (send T) s (wiresFrom i (map (wireAt T) (from 0 n)))
-  sends-start = ap (λ (k : ℕ). foldl (send T) s (wiresFrom i (map (wireAt T) (from 0 k)))) (sub-zero n)
-
-  pub sends-end : n ≤ q → to-come s q ≡ x → s ≡ x
-  sends-end h so-far =
-      ap (λ (l : List ℕ). foldl (send T) s (wiresFrom i (map (wireAt T) l))) (sym (from-end q n h)) ∙ so-far
 
 -- A step of the bare components and wires is one of those with their counts.
 module _ (cs ws : List ℕ) (m : Counts) where
@@ -297,29 +282,7 @@ module _ (T : Tables) where
       (wiresFrom i ws))
       ∙ ap (λ (u : State). foldl (send T) u (wiresFrom i ws)) v
 
-  -- The following list stays one of names.
-  sends-names : (ws : List Wire) → ((w : Wire) → In w ws → w .dst .comp .0 < T .counts .components) → (s : State)
-      → names T (s .following) ≡ true → names T (foldl (send T) s ws .following) ≡ true
-  sends-names ws f =
-      foldl-keeps (λ (s : State). names T (s .following) ≡ true) (send T) ws (λ u w m. send-names T u w (f w m))
-
-  pub visit-names : (ws : List Wire) (t i : ℕ) → ((w : Wire) → In w ws → w .dst .comp .0 < T .counts .components)
-      → (s : State)
-      → names T (s .following) ≡ true → names T (visit T ws t s i .following) ≡ true
-  unfolding visit evaluated
-  visit-names ws t i f s e =
-      sends-names (wiresFrom i ws) (λ w m. f w (keep-sound (λ (x : Wire). eqb (x .src .comp .0) i) w ws m .1))
-      (evaluated T t i s) e
-
-  -- A wire of the table is one of those by number.
-  pub wires-named : ((k : ℕ) → k < T .counts .wires → wireAt T k .dst .comp .0 < T .counts .components)
-      → (w : Wire) → In w (wiresIn T) → w .dst .comp .0 < T .counts .components
-  wires-named f w m =
-      let r = map-sound (wireAt T) w (from 0 (T .counts .wires)) m in
-      subst (λ (x : Wire). x .dst .comp .0 < T .counts .components) (sym (r .2))
-      (f (r .0) (from0-sound (T .counts .wires) (r .0) (r .1)))
-
--- What visits need at a turn, and keep.
+-- What visits need at a turn.
 module _ (cs ws : List ℕ) (m : Counts) where
   pub runs-evaluates : (ins outs : List ℕ) (i : ℕ) → CanRun (wiring cs ws m) ins outs → i < m .components
       → CanEvaluate (uncounted cs []) ins outs i
@@ -334,21 +297,6 @@ module _ (cs ws : List ℕ) (m : Counts) where
   pub evaluated-bare : (t i : ℕ) (s : State) → evaluated (uncounted cs []) t i s ≡ evaluated (wiring cs ws m) t i s
   unfolding evaluated
   evaluated-bare t i s = refl
-
-  pub visited-listed : (ins outs fol std : List ℕ) (s : State) (i t n r : ℕ) (fol' : List ℕ)
-      → CanRun (wiring cs ws m) ins outs
-      → ListFits (wiring cs ws m) n fol → s .following ≡ take r fol'
-      → s ≡ visit (wiring cs ws m) (wiresIn (wiring cs ws m)) t (stateAt ins outs (take n fol) std) i
-      → r ≤ length fol' → length fol' ≡ length fol → ListFits (wiring cs ws m) r fol'
-  visited-listed ins outs fol std s i t n r fol' g l q e b k =
-      record {
-        whole = omega (arith, l .whole);
-        count = b;
-        named =
-            ap (names (wiring cs ws m)) (sym q) ∙ ap (λ (u : State). names (wiring cs ws m) (u .following)) e
-            ∙ visit-names (wiring cs ws m) (wiresIn (wiring cs ws m)) t i (wires-named (wiring cs ws m) (g .named))
-            (stateAt ins outs (take n fol) std) (l .named);
-      }
 
   pub listed-at : (n : ℕ) (t : List ℕ) (k i : ℕ) → ListFits (wiring cs ws m) n t → k < n → i ≡ getD t k 0
       → i < m .components

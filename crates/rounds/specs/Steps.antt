@@ -16,7 +16,6 @@ use Rattle.tables.specs.declared.Wire.{Wire}
 use Rattle.tables.specs.declared.Counts.{Counts}
 use Rattle.tables.specs.Tables.{Tables, tablesOf, fieldsAt, firstInput, firstOutput, inputPlace, outputPlace, wireAt}
 use Rattle.net.specs.Net.{names}
-use Rattle.rounds.specs.declared.Sizes.{Sizes}
 use Rattle.rounds.specs.Round.{State}
 
 -- The components and the wires, and how many there are.
@@ -62,10 +61,4 @@ pub record ListFits (T : Tables) (n : ℕ) (t : List ℕ) : Type 0 where
 -- The count is within the table, and the state is what it should be.
 pub record Step (n : ℕ) (t : List ℕ) (s should : State) : Type 0 where
   pub count : n ≤ length t
-  pub state : s ≡ should
-
--- The same of both lists.
-pub record Visited (n : Sizes) (f t : List ℕ) (s should : State) : Type 0 where
-  pub following : n .following ≤ length f
-  pub standing : n .standing ≤ length t
   pub state : s ≡ should

@@ -1,19 +1,28 @@
 // A round of a net: each component of the current list evaluated, its wires sent, and the lists turned. Rule:
 // docs/SPECIFICATION.md, "Rounds". Source: simulator.rs, one pass of the loop in `start`, as with `keep_running` true.
 // Each step is the definition of the same name in specs/Round.antt.
+mod links;
+mod marks;
+
 ghost use Rattle.kinds.specs.Kinds.{is};
 ghost use Rattle.kinds.specs.declared.Kind.the-variants.{Clock};
 ghost use Rattle.lists.specs.Lists.{every};
 ghost use mathlib.Core.Path.{_≡_};
-ghost use mathlib.Core.List.{[], foldl};
+ghost use mathlib.Core.List.{List, [], foldl};
 ghost use Prim.Native.Nat.{_≤_, _<_};
 ghost use lib.ListN.{length, take};
-ghost use Rattle.tables.specs.Tables.{tablesOf, wiresIn};
+ghost use Rattle.tables.specs.declared.Wire.{Wire};
+ghost use Rattle.tables.specs.Tables.{tablesOf};
 ghost use Rattle.tables.specs.Words.{uncounted, fieldsIn};
 ghost use Rattle.net.specs.Net.{netNumber};
-ghost use Rattle.rounds.specs.Round.{wiresFrom, turn, leave, send, evaluated, visit, roundOf};
-ghost use Rattle.rounds.specs.Steps.{wiring, stateAt, CanEvaluate, CanSend, CanRun, ListFits, Step, Visited};
+ghost use Rattle.rounds.specs.Round.{stateOf, wiresFrom, turn, leave, send, evaluated, visit, round};
+ghost use Rattle.rounds.specs.Steps.{wiring, stateAt, CanEvaluate, CanSend, CanRun, ListFits, Step};
+ghost use Rattle.rounds.specs.Links.{Follows, HasLinks, IsListed, ListMarked, ListCovered};
+use crate::marks::append_marked;
+use crate::marks::mark;
 use kinds::Kind;
+pub use links::NO_WIRE;
+pub use links::link_once;
 use tables::Counts;
 use tables::Wire;
 
@@ -30,13 +39,16 @@ fn send_along(
     inputs: &mut [u64],
     outputs: &[u64],
     following: &mut [u16],
+    listed: &mut [u8; 256],
     count: usize,
     wire: Wire,
 ) -> usize
-    requires { ⌜ CanSend (uncounted (now components) []) (now inputs) (now outputs) count (now following) wire ⌝ }
+    requires { ⌜ CanSend (uncounted (now components) []) (now inputs) (now outputs) count (now following) wire
+        × IsListed (now listed) (take count (now following)) ⌝ }
     ensures { λ r. ⌜ Step r (now (following .exit)) (stateAt (now (inputs .exit)) (now (outputs .entry)) (take r (now (following .exit))) [])
         (send (uncounted (now (components .entry)) []) (stateAt (now (inputs .entry)) (now (outputs .entry))
-        (take count (now (following .entry))) []) wire) ⌝ }
+        (take count (now (following .entry))) []) wire)
+        × IsListed (now (listed .exit)) (take r (now (following .exit))) ⌝ }
 {
     let to = wire.dst.comp.0;
     let source = tables::first_output(components, wire.src.comp.0) + wire.src.port as usize;
@@ -46,54 +58,66 @@ fn send_along(
         return count;
     }
     inputs[target] = number;
-    tables::append_new(following, count, to as u16)
+    append_marked(following, listed, count, to)
 }
 
-// All wires of component i, in stored order. The answer is the following list's new count.
+// A wire's number in the links, as an index.
+fn wide(k: u16) -> usize
+    ensures { λ r. ⌜ r ≡ k ⌝ }
+{
+    k as usize
+}
+
+// All wires of component i, in the order in which they are linked. The answer is the following list's new count.
 fn send_wires(
     components: &[u64],
     wires: &[u16],
+    head: &[u16; 256],
+    after: &[u16; 1024],
     inputs: &mut [u64],
     outputs: &[u64],
     following: &mut [u16],
+    listed: &mut [u8; 256],
     count: usize,
     counts: Counts,
     i: usize,
 ) -> usize
     requires { ⌜ CanRun (wiring (now components) (now wires) counts) (now inputs) (now outputs)
-        × ListFits (wiring (now components) (now wires) counts) count (now following) ⌝ }
-    ensures { λ r. ⌜ Step r (now (following .exit)) (stateAt (now (inputs .exit)) (now (outputs .entry)) (take r (now (following .exit))) [])
-        (foldl (send (wiring (now (components .entry)) (now (wires .entry)) counts))
-        (stateAt (now (inputs .entry)) (now (outputs .entry)) (take count (now (following .entry))) [])
-        (wiresFrom i (wiresIn (wiring (now (components .entry)) (now (wires .entry)) counts)))) ⌝ }
+        × ListMarked (wiring (now components) (now wires) counts) count (now following) (now listed)
+        × HasLinks (now wires) (counts .wires) (now head) (now after) × (i < 256) ⌝ }
+    ensures { λ r. ⌜ ((vs : List Wire) → Follows (now (wires .entry)) (counts .wires) (now (head .entry)) (now (after .entry)) vs
+        → stateAt (now (inputs .exit)) (now (outputs .entry)) (take r (now (following .exit))) []
+        ≡ foldl (send (wiring (now (components .entry)) (now (wires .entry)) counts))
+        (stateAt (now (inputs .entry)) (now (outputs .entry)) (take count (now (following .entry))) []) (wiresFrom i vs))
+        × ListMarked (wiring (now (components .entry)) (now (wires .entry)) counts) r (now (following .exit)) (now (listed .exit)) ⌝ }
 {
     let mut filled = count;
-    let mut k: usize = 0;
+    let mut k = wide(head[i]);
     while k < counts.wires {
         let wire = tables::wire_at(wires, k);
-        if wire.src.comp.0 == i {
-            filled = send_along(components, inputs, outputs, following, filled, wire);
-        }
-        k += 1;
+        filled = send_along(components, inputs, outputs, following, listed, filled, wire);
+        k = wide(after[k]);
     }
     filled
 }
 
 // Evaluates component i in the tables of ports and, unless it is a Clock, strikes it from the standing list. The answer is that
-// list's new count.
+// list's new count. What the list named at the round's start is marked in `stood`: any other component is not there to be struck.
 fn evaluate_at(
     components: &[u64],
     inputs: &[u64],
     outputs: &mut [u64],
     standing: &mut [u16],
+    stood: &[u8; 256],
     count: usize,
     i: usize,
     time: u64,
 ) -> usize
-    requires { ⌜ (count ≤ length (now standing)) × CanEvaluate (uncounted (now components) []) (now inputs) (now outputs) i ⌝ }
+    requires { ⌜ ListCovered count (now standing) (now stood) × CanEvaluate (uncounted (now components) []) (now inputs) (now outputs) i ⌝ }
     ensures { λ r. ⌜ Step r (now (standing .exit)) (stateAt (now (inputs .entry)) (now (outputs .exit)) [] (take r (now (standing .exit))))
         (evaluated (uncounted (now (components .entry)) []) time i (stateAt (now (inputs .entry)) (now (outputs .entry)) []
-        (take count (now (standing .entry))))) ⌝ }
+        (take count (now (standing .entry)))))
+        × ListCovered r (now (standing .exit)) (now (stood .entry)) ⌝ }
 {
     let f = tables::fields_at(components, i);
     let input = tables::first_input(components, i);
@@ -106,6 +130,9 @@ fn evaluate_at(
         &mut outputs[output..output_end],
         time,
     );
+    if stood[i] == 0 {
+        return count;
+    }
     if tables::is_kind(components, i, Kind::Clock) {
         return count;
     }
@@ -116,29 +143,37 @@ fn evaluate_at(
 fn visit(
     components: &[u64],
     wires: &[u16],
+    head: &[u16; 256],
+    after: &[u16; 1024],
     inputs: &mut [u64],
     outputs: &mut [u64],
     following: &mut [u16],
+    listed: &mut [u8; 256],
     standing: &mut [u16],
+    stood: &[u8; 256],
     counts: Counts,
     sizes: Sizes,
     i: usize,
     time: u64,
 ) -> Sizes
     requires { ⌜ CanRun (wiring (now components) (now wires) counts) (now inputs) (now outputs)
-        × ListFits (wiring (now components) (now wires) counts) (sizes .following) (now following) × (sizes .standing ≤ length (now standing))
-        × (i < counts .components) ⌝ }
-    ensures { λ r. ⌜ Visited r (now (following .exit)) (now (standing .exit))
-        (stateAt (now (inputs .exit)) (now (outputs .exit)) (take (r .following) (now (following .exit))) (take (r .standing) (now (standing .exit))))
-        (visit (wiring (now (components .entry)) (now (wires .entry)) counts) (wiresIn (wiring (now (components .entry)) (now (wires .entry)) counts))
+        × ListMarked (wiring (now components) (now wires) counts) (sizes .following) (now following) (now listed)
+        × ListCovered (sizes .standing) (now standing) (now stood)
+        × HasLinks (now wires) (counts .wires) (now head) (now after) × (i < counts .components) ⌝ }
+    ensures { λ r. ⌜ ((vs : List Wire) → Follows (now (wires .entry)) (counts .wires) (now (head .entry)) (now (after .entry)) vs
+        → stateAt (now (inputs .exit)) (now (outputs .exit)) (take (r .following) (now (following .exit))) (take (r .standing) (now (standing .exit)))
+        ≡ visit (wiring (now (components .entry)) (now (wires .entry)) counts) vs
         time (stateAt (now (inputs .entry)) (now (outputs .entry)) (take (sizes .following) (now (following .entry)))
-        (take (sizes .standing) (now (standing .entry)))) i) ⌝ }
+        (take (sizes .standing) (now (standing .entry)))) i)
+        × ListMarked (wiring (now (components .entry)) (now (wires .entry)) counts) (r .following) (now (following .exit)) (now (listed .exit))
+        × ListCovered (r .standing) (now (standing .exit)) (now (stood .entry)) ⌝ }
 {
     let left = evaluate_at(
         components,
         inputs,
         outputs,
         standing,
+        stood,
         sizes.standing,
         i,
         time,
@@ -146,9 +181,12 @@ fn visit(
     let filled = send_wires(
         components,
         wires,
+        head,
+        after,
         inputs,
         outputs,
         following,
+        listed,
         sizes.following,
         counts,
         i,
@@ -163,25 +201,31 @@ fn visit(
 fn visit_all(
     components: &[u64],
     wires: &[u16],
+    head: &[u16; 256],
+    after: &[u16; 1024],
     list: &[u16],
     count: usize,
     inputs: &mut [u64],
     outputs: &mut [u64],
     following: &mut [u16],
+    listed: &mut [u8; 256],
     standing: &mut [u16],
+    stood: &[u8; 256],
     counts: Counts,
     sizes: Sizes,
     time: u64,
 ) -> Sizes
     requires { ⌜ CanRun (wiring (now components) (now wires) counts) (now inputs) (now outputs)
         × ListFits (wiring (now components) (now wires) counts) count (now list)
-        × ListFits (wiring (now components) (now wires) counts) (sizes .following) (now following) × (sizes .standing ≤ length (now standing)) ⌝ }
-    ensures { λ r. ⌜ Visited r (now (following .exit)) (now (standing .exit))
-        (stateAt (now (inputs .exit)) (now (outputs .exit)) (take (r .following) (now (following .exit))) (take (r .standing) (now (standing .exit))))
-        (foldl (visit (wiring (now (components .entry)) (now (wires .entry)) counts)
-        (wiresIn (wiring (now (components .entry)) (now (wires .entry)) counts)) time)
+        × ListMarked (wiring (now components) (now wires) counts) (sizes .following) (now following) (now listed)
+        × ListCovered (sizes .standing) (now standing) (now stood)
+        × (0 < count → HasLinks (now wires) (counts .wires) (now head) (now after)) ⌝ }
+    ensures { λ r. ⌜ ((vs : List Wire) → (0 < count → Follows (now (wires .entry)) (counts .wires) (now (head .entry)) (now (after .entry)) vs)
+        → stateAt (now (inputs .exit)) (now (outputs .exit)) (take (r .following) (now (following .exit))) (take (r .standing) (now (standing .exit)))
+        ≡ foldl (visit (wiring (now (components .entry)) (now (wires .entry)) counts) vs time)
         (stateAt (now (inputs .entry)) (now (outputs .entry)) (take (sizes .following) (now (following .entry)))
-        (take (sizes .standing) (now (standing .entry)))) (take count (now (list .entry)))) ⌝ }
+        (take (sizes .standing) (now (standing .entry)))) (take count (now (list .entry))))
+        × (r .following ≤ length (now (following .exit))) × (r .standing ≤ length (now (standing .exit))) ⌝ }
 {
     let mut reached = sizes;
     let mut k: usize = 0;
@@ -190,10 +234,14 @@ fn visit_all(
         reached = visit(
             components,
             wires,
+            head,
+            after,
             inputs,
             outputs,
             following,
+            listed,
             standing,
+            stood,
             counts,
             reached,
             i,
@@ -235,28 +283,38 @@ fn end_round(
     }
 }
 
-// A round of a net. The answer is the new counts. Crate simulator calls it where no check refuses the tables.
+// A round of a net, which takes the wires in the order in which they are linked. The answer is the new counts. Crate simulator calls it
+// where no check refuses the tables; where the current list is empty no link is looked at.
 pub fn net_round(
     components: &[u64],
     inputs: &mut [u64],
     outputs: &mut [u64],
     wires: &[u16],
+    head: &[u16; 256],
+    after: &[u16; 1024],
     current: &mut [u16],
     following: &mut [u16],
     standing: &mut [u16],
     counts: Counts,
     time: u64,
 ) -> Counts
-    requires { ⌜ netNumber (tablesOf (now components) (now inputs) (now outputs) (now wires) (now current) (now following) (now standing) counts) ≡ 0 ⌝ }
-    ensures { λ r. ⌜ tablesOf (now (components .entry)) (now (inputs .exit)) (now (outputs .exit)) (now (wires .entry)) (now (current .exit))
-        (now (following .exit)) (now (standing .exit)) r ≡ roundOf time
-        (tablesOf (now (components .entry)) (now (inputs .entry)) (now (outputs .entry)) (now (wires .entry)) (now (current .entry))
-        (now (following .entry)) (now (standing .entry)) counts) ⌝ }
+    requires { ⌜ (netNumber (tablesOf (now components) (now inputs) (now outputs) (now wires) (now current) (now following) (now standing) counts) ≡ 0)
+        × (0 < counts .current → HasLinks (now wires) (counts .wires) (now head) (now after)) ⌝ }
+    ensures { λ r.
+        let before = tablesOf (now (components .entry)) (now (inputs .entry)) (now (outputs .entry)) (now (wires .entry)) (now (current .entry))
+        (now (following .entry)) (now (standing .entry)) counts in
+        ⌜ ((vs : List Wire) → (0 < counts .current → Follows (now (wires .entry)) (counts .wires) (now (head .entry)) (now (after .entry)) vs)
+        → tablesOf (now (components .entry)) (now (inputs .exit)) (now (outputs .exit)) (now (wires .entry)) (now (current .exit))
+        (now (following .exit)) (now (standing .exit)) r ≡ leave before (round before vs time (stateOf before))) ⌝ }
 {
     let mut next = [0u16; 256];
     let mut left = [0u16; 256];
     tables::copy(following, counts.following, &mut next);
     tables::copy(standing, counts.standing, &mut left);
+    let mut listed = [0u8; 256];
+    let mut stood = [0u8; 256];
+    mark(following, counts.following, &mut listed);
+    mark(standing, counts.standing, &mut stood);
     let sizes = Sizes {
         following: counts.following,
         standing: counts.standing,
@@ -264,12 +322,16 @@ pub fn net_round(
     let reached = visit_all(
         components,
         wires,
+        head,
+        after,
         current,
         counts.current,
         inputs,
         outputs,
         &mut next,
+        &mut listed,
         &mut left,
+        &stood,
         counts,
         sizes,
         time,

@@ -6,6 +6,8 @@ ghost use Rattle.net.specs.Net.{netNumber};
 ghost use Rattle.simulator.specs.Calls.{Rounds, run, countsAfterRun, Runs};
 use crate::Ran;
 use kinds::refused_by;
+use rounds::NO_WIRE;
+use rounds::link_once;
 use rounds::net_round;
 use rounds::only_clocks;
 use tables::Answer;
@@ -43,11 +45,23 @@ pub fn round(
     if number != 0 {
         return Answer::Refused(refused_by(number));
     }
+    let mut head = [NO_WIRE; 256];
+    let mut after = [0u16; 1024];
+    link_once(
+        wires,
+        counts.wires,
+        counts.current,
+        false,
+        &mut head,
+        &mut after,
+    );
     Answer::Done(net_round(
         components,
         inputs,
         outputs,
         wires,
+        &head,
+        &after,
         current,
         following,
         standing,
@@ -63,7 +77,8 @@ struct Run {
     evaluations: u32,
 }
 
-// Rounds of a net, one after the other, at most `limit` of them, until the first that leaves calm.
+// Rounds of a net, one after the other, at most `limit` of them, until the first that leaves calm. The wires are linked once, before the
+// first round that visits a component.
 fn net_run(
     components: &[u64],
     inputs: &mut [u64],
@@ -86,17 +101,30 @@ fn net_run(
         ≡ run limit time (tablesOf (now (components .entry)) (now (inputs .entry)) (now (outputs .entry)) (now (wires .entry)) (now (current .entry))
         (now (following .entry)) (now (standing .entry)) counts) ⌝ }
 {
+    let mut head = [NO_WIRE; 256];
+    let mut after = [0u16; 1024];
+    let mut linked = false;
     let mut reached = counts;
     let mut rounds: u16 = 0;
     let mut evaluations: u32 = 0;
     let mut calm = false;
     while !calm & (rounds < limit) {
         evaluations += reached.current as u32;
+        linked = link_once(
+            wires,
+            reached.wires,
+            reached.current,
+            linked,
+            &mut head,
+            &mut after,
+        );
         reached = net_round(
             components,
             inputs,
             outputs,
             wires,
+            &head,
+            &after,
             current,
             following,
             standing,

@@ -8,6 +8,7 @@ use native.Mathlib.Omega.{arith}
 use Rattle.tables.specs.Tables.{Tables, inputPlace, outputPlace}
 use Rattle.tables.specs.Words.{uncounted}
 use Rattle.rounds.proofs.StepsLaws.{send-agrees, send-writes}
+use Rattle.rounds.proofs.ListedLaws.{listed-overlay}
 use borrow.Author.Needs.{needs}
 use Rattle.rounds.proofs.send_along.Statement.{statement}
 use Rattle.rounds.proofs.send_along.Tie as tie
@@ -27,39 +28,39 @@ target-place : (c : tie.After-first-input) →
 target-place c = ap (λ (x : ℕ). x + c .before .before .before .before .before .before .before .args .wire .dst .port) (c .first-input .ensures)
 
 add-source : tie.Need-add-source
-add-source c = omega (arith, c .before .before .before .before .before .before .pre .source, source-place (c .before))
+add-source c = omega (arith, c .before .before .before .before .before .before .pre .0 .source, source-place (c .before))
 
 add-target : tie.Need-add-target
-add-target c = omega (arith, c .before .before .before .before .before .before .before .before .pre .target, target-place (c .before))
+add-target c = omega (arith, c .before .before .before .before .before .before .before .before .pre .0 .target, target-place (c .before))
 
 returns : tie.Need-returns
 returns c =
     let s = c .before .before .before .before .before .before .before .before .before .before .before .before in
-    let a = s .args in
-    send-agrees (T s) (a .inputs .now) (a .outputs .now) (a .following .now) (a .count) (a .wire) _ _ _ _
-    (source-place (c .before .before .before .before .before .before .before)) (target-place (c .before .before .before .before .before))
-    (c .before .before .before .word .ensures) (c .before .word2 .ensures) (c .if1 .taken) (s .pre .count)
+    let a = s .args in (
+      send-agrees (T s) (a .inputs .now) (a .outputs .now) (a .following .now) (a .count) (a .wire) _ _ _ _
+          (source-place (c .before .before .before .before .before .before .before)) (target-place (c .before .before .before .before .before)) (c .before .before .before .word .ensures) (c .before .word2 .ensures) (c .if1 .taken) (s .pre .0 .count),
+      s .pre .1,
+    )
 
 mul-inputs : tie.Need-mul-inputs
-mul-inputs c = omega (arith, c .before .before .before .before .before .before .before .before .before .before .before .before .pre .target, target-place (c .before .before .before .before .before))
+mul-inputs c = omega (arith, c .before .before .before .before .before .before .before .before .before .before .before .before .pre .0 .target, target-place (c .before .before .before .before .before))
 
 slice-write-inputs : tie.Need-slice-write-inputs
-slice-write-inputs c = omega (arith, c .before .before .before .before .before .before .before .before .before .before .before .before .pre .target, target-place (c .before .before .before .before .before))
+slice-write-inputs c = omega (arith, c .before .before .before .before .before .before .before .before .before .before .before .before .pre .0 .target, target-place (c .before .before .before .before .before))
 
-cast-append-new : tie.Need-cast-append-new
-cast-append-new c = omega (arith, c .before .before .before .before .before .before .before .before .before .before .before .before .before .pre .few)
-
-append-new-requires : tie.Need-append-new-requires
-append-new-requires c κs = let p = c .before .before .before .before .before .before .before .before .before .before .before .before .before .pre in (p .count, p .room)
+append-marked-requires : tie.Need-append-marked-requires
+append-marked-requires c κs = let p = c .before .before .before .before .before .before .before .before .before .before .before .before .before .before .pre in (p .0 .few, p .0 .count, p .0 .room, p .1)
 
 returns-2 : tie.Need-returns-2
 returns-2 c =
-    let s = c .before .before .before .before .before .before .before .before .before .before .before .before .before .before .before .before in
+    let s = c .before .before .before .before .before .before .before .before .before .before .before .before .before .before .before .before .before in
     let a = s .args in
-    send-writes (T s) (a .inputs .now) (a .outputs .now) (a .following .now) (a .count) (a .wire) _ _ _ _
-    (source-place (c .before .before .before .before .before .before .before .before .before .before .before)) (target-place (c .before .before .before .before .before .before .before .before .before))
-    (c .before .before .before .before .before .before .before .word .ensures) (c .before .before .before .before .before .word2 .ensures) (c .before .before .before .before .if1 .left) _ _ _ refl
-    (c .before .before .append-new .ensures .0) (c .before .before .append-new .ensures .1)
+    let r = c .before .before .append-marked .ensures in (
+      send-writes (T s) (a .inputs .now) (a .outputs .now) (a .following .now) (a .count) (a .wire) _ _ _ _
+          (source-place (c .before .before .before .before .before .before .before .before .before .before .before .before)) (target-place (c .before .before .before .before .before .before .before .before .before .before)) (c .before .before .before .before .before .before .before .before .word .ensures) (c .before .before .before .before .before .before .word2 .ensures) (c .before .before .before .before .before .if1 .left) _ _ _ refl
+          (r .0) (r .1),
+      listed-overlay _ _ (a .following .now) _ _ (r .0) (r .1) (r .2),
+    )
 
 pub send-along-spec : {M : Type 1} → statement M
 send-along-spec =
@@ -77,8 +78,7 @@ send-along-spec =
     returns
     mul-inputs
     slice-write-inputs
-    cast-append-new
-    append-new-requires
+    append-marked-requires
     (λ c. search needs)
     (λ c. search needs)
     returns-2)

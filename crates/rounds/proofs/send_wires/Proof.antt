@@ -1,102 +1,109 @@
--- `send_wires`: what the wires still to come make of the state is what all of them make of the state that came in.
+-- `send_wires`: what the wires still met make of the state is what all that are met make of the state that came in.
 -- Assumes nothing.
-use mathlib.Core.Path.{_≡_, refl, ap, _∙_}
-use mathlib.Core.Logic.{⊎-elim}
-use mathlib.Core.List.{[], map, foldl}
-use Prim.Native.Nat.{_≤_, _-_}
+use mathlib.Core.Path.{_≡_, refl, sym, ap, _∙_}
+use mathlib.Core.List.{[], foldl}
 use native.Mathlib.Omega.{arith}
-use lib.ListN.{length, take}
-use Rattle.lists.specs.Lists.{from}
-use Rattle.tables.specs.declared.Wire.{Wire}
-use Rattle.tables.specs.Tables.{wireAt, wiresIn}
-use Rattle.rounds.specs.Round.{wiresFrom, send}
-use Rattle.rounds.specs.Steps.{wiring, stateAt, ListFits}
-use Rattle.rounds.proofs.StepsLaws.{send-bare, runs-kept, runs-sends, sent-listed, sends-start, sends-taken, sends-passed, sends-end}
+use lib.ListN.{length, getD, take}
+use Rattle.tables.specs.Tables.{Tables}
+use Rattle.rounds.specs.Round.{State, send}
+use Rattle.rounds.specs.Steps.{wiring, stateAt, CanRun}
+use Rattle.rounds.specs.Links.{numbersFrom, ListMarked}
+use Rattle.rounds.proofs.LinksLaws.{met, Sending, sending-start, sending-next, sending-falls, sending-end, follows-from}
+use Rattle.rounds.proofs.StepsLaws.{send-bare, runs-kept, runs-sends, sent-listed}
 use borrow.Author.Needs.{needs}
 use Rattle.rounds.proofs.send_wires.Statement.{statement}
 use Rattle.rounds.proofs.send_wires.Tie as tie
 
 abbrev Inv-loop : tie.InvT-loop
-Inv-loop components wires inputs₀ outputs following₀ count counts i filled₀ k₀ inputs following filled k =
-    (k ≤ counts .wires) × (length inputs ≡ length inputs₀) × (length following ≡ length following₀)
-    × ListFits (wiring components wires counts) filled following
-    × (foldl (send (wiring components wires counts)) (stateAt inputs outputs (take filled following) [])
-    (wiresFrom i (map (wireAt (wiring components wires counts)) (from k (counts .wires - k))))
-    ≡ foldl (send (wiring components wires counts)) (stateAt inputs₀ outputs (take count following₀) [])
-    (wiresFrom i (wiresIn (wiring components wires counts))))
+Inv-loop components wires head after inputs₀ outputs following₀ listed₀ count counts i filled₀ k₀ inputs following listed filled k =
+    (length inputs ≡ length inputs₀) × (length following ≡ length following₀)
+    × ListMarked (wiring components wires counts) filled following listed
+    × Sending (wiring components wires counts) wires after (counts .wires) (getD head i 0)
+    (stateAt inputs₀ outputs (take count following₀) []) k (stateAt inputs outputs (take filled following) [])
 
 abbrev μ-loop : tie.MeasureT-loop
-μ-loop components wires inputs₀ outputs following₀ count counts i filled₀ k₀ inputs following filled k =
-    counts .wires - k
+μ-loop components wires head after inputs₀ outputs following₀ listed₀ count counts i filled₀ k₀ inputs following listed filled k =
+    met (counts .wires) after (counts .wires) k
+
+-- The components and the wires, and the state that came in.
+abbrev T : tie.Start Inv-loop μ-loop → Tables
+T s = wiring (s .args .components .now) (s .args .wires .now) (s .args .counts)
+
+abbrev came : tie.Start Inv-loop μ-loop → State
+came s = stateAt (s .args .inputs .now) (s .args .outputs .now) (take (s .args .count) (s .args .following .now)) []
 
 loop-holds : tie.Need-loop-holds Inv-loop μ-loop
 loop-holds c =
-    let s = c .before .before .before .before .before in
-    let T = wiring (s .args .components .now) (s .args .wires .now) (s .args .counts) in (
-      omega arith,
+    let s = c .before .before .before .before .before .before .before in
+    let f = s .pre .2 .1 in (
       refl,
       refl,
       s .pre .1,
-      sends-start T (s .args .i) 0 (s .args .counts .wires)
-          (stateAt (s .args .inputs .now) (s .args .outputs .now) (take (s .args .count) (s .args .following .now)) [])
-          (stateAt [] [] [] []),
+      sending-start (T s) (s .args .wires .now) (s .args .after .now) (s .args .counts .wires) (getD (s .args .head .now) (s .args .i) 0)
+          (came s) _ (numbersFrom (s .args .wires .now) (s .args .i) (f .order)) (c .wide .ensures) (f .links .linked (s .args .i) (s .pre .3)),
     )
+
+-- What a net gives at a turn.
+runs : (c : tie.At-loop Inv-loop μ-loop) → CanRun (T (c .before .before .before .before .before .before .before .before)) (c .loop .inputs) (c .before .before .before .before .before .before .before .before .args .outputs .now)
+runs c =
+    let s = c .before .before .before .before .before .before .before .before in
+    runs-kept (s .args .components .now) (s .args .wires .now) (s .args .counts) (s .args .inputs .now)
+    (s .args .outputs .now) (c .loop .inputs) (s .args .outputs .now) (s .pre .0) (c .loop .inv .0) refl
 
 send-along-requires : tie.Need-send-along-requires Inv-loop μ-loop
 send-along-requires c κs =
-    let at-if1 = c .before .before .before .before .before in
-    let at-loop = at-if1 .before .before in
-    let s = at-loop .before .before .before .before .before .before in
-    let l = at-loop .loop in
-    let g =
-    runs-kept (s .args .components .now) (s .args .wires .now) (s .args .counts) (s .args .inputs .now)
-    (s .args .outputs .now) (l .inputs) (s .args .outputs .now) (s .pre .0) (l .inv .1) refl in
-    rw (c .before .before .before .before .wire-at .ensures)
-    (runs-sends (s .args .components .now) (s .args .wires .now) (s .args .counts) (l .inputs) (s .args .outputs .now)
-    (l .following) (l .filled) (l .k) g (l .inv .3) (at-if1 .if1 .taken))
+    let s = c .before .before .before .before .before .before .before .before .before .before .before .before .before .before in
+    let l = c .before .before .before .before .before .before .loop in (
+      rw (c .before .before .before .wire-at .ensures)
+          (runs-sends (s .args .components .now) (s .args .wires .now) (s .args .counts) (l .inputs) (s .args .outputs .now)
+          (l .following) (l .filled) (l .k) (runs (c .before .before .before .before .before .before)) (l .inv .2 .fits) (c .before .before .before .before .if1 .taken)),
+      l .inv .2 .marked,
+    )
+
+mul-wide-2 : tie.Need-mul-wide-2 Inv-loop μ-loop
+mul-wide-2 c = omega (arith, c .before .before .before .before .before .before .before .before .before .if1 .taken, c .before .before .before .before .before .before .before .before .before .before .before .before .before .before .before .before .before .before .before .pre .0 .few-wires)
+
+element-copy-out-wide-2 : tie.Need-element-copy-out-wide-2 Inv-loop μ-loop
+element-copy-out-wide-2 c = omega (arith, c .before .before .before .before .before .before .before .before .before .if1 .taken, c .before .before .before .before .before .before .before .before .before .before .before .before .before .before .before .before .before .before .before .pre .0 .few-wires)
+
+loop-less : tie.Need-loop-less Inv-loop μ-loop
+loop-less c =
+    let s = c .before .before .before .before .before .before .before .before .before .before .before .before .before .before .before .before .before .before .before .before .before in
+    let l = c .before .before .before .before .before .before .before .before .before .before .before .before .before .loop in
+    sending-falls (T s) (s .args .wires .now) (s .args .after .now) (s .args .counts .wires) _ (came s) (l .k) _ _ (c .before .before .before .before .before .before .before .before .before .before .before .if1 .taken)
+    (c .wide2 .ensures) (l .inv .3)
 
 loop-again : tie.Need-loop-again Inv-loop μ-loop
 loop-again c =
-    let at-loop = c .before .before .before .before .before in
-    let w-at = c .before .before .wire-at .ensures in
-    let s = at-loop .before .before .before .before .before .before in
-    let l = at-loop .loop in
-    let T = wiring (s .args .components .now) (s .args .wires .now) (s .args .counts) in
-    let b = c .before .before .before .if1 .taken in
-    let g =
-    runs-kept (s .args .components .now) (s .args .wires .now) (s .args .counts) (s .args .inputs .now)
-    (s .args .outputs .now) (l .inputs) (s .args .outputs .now) (s .pre .0) (l .inv .1) refl in
-    ⊎-elim
-    (λ w. rw (w .8, w .9, w .10) (
-      omega arith,
-      w .3 .kept .1 .0 ∙ l .inv .1,
-      w .3 .kept .1 .1 .1 .0 ∙ l .inv .2,
-      sent-listed (s .args .components .now) (s .args .wires .now) (s .args .counts) (l .inputs) (s .args .outputs .now)
-          (l .following) _ _ (l .filled) (l .k) _ g (l .inv .3) b (rw w-at at (w .3 .ensures)) (w .3 .kept .1 .1 .1 .0),
-      sends-taken T (s .args .i) (l .k) (s .args .counts .wires) _ _ _ _ b (ap (λ (x : Wire). x .src .comp .0) w-at) (w .0 .taken)
-          (rw w-at at (w .3 .ensures .state) ∙ send-bare (s .args .components .now) (s .args .wires .now) (s .args .counts) _ _)
-          (l .inv .4),
-    ))
-    (λ w. rw (w .1, w .2, w .3) (
-      omega arith,
-      l .inv .1,
-      l .inv .2,
-      l .inv .3,
-      sends-passed T (s .args .i) (l .k) (s .args .counts .wires) _ _ _ b (ap (λ (x : Wire). x .src .comp .0) w-at) (w .0 .left)
-          (l .inv .4),
-    ))
-    (c .if2 .came)
+    let s = c .before .before .before .before .before .before .before .before .before .before .before .before .before .before .before .before .before .before .before .before .before in
+    let l = c .before .before .before .before .before .before .before .before .before .before .before .before .before .loop in
+    let w = c .before .before .before .before .before .before .before .before .before .before .wire-at .ensures in
+    let b = c .before .before .before .before .before .before .before .before .before .before .before .if1 .taken in
+    let r = c .before .before .before .before .before .before .send-along in (
+      r .kept .1 .0 ∙ l .inv .0,
+      r .kept .1 .1 .1 .0 ∙ l .inv .1,
+      record {
+        fits = sent-listed (s .args .components .now) (s .args .wires .now) (s .args .counts) (l .inputs) (s .args .outputs .now)
+            (l .following) _ _ (l .filled) (l .k) _ (runs (c .before .before .before .before .before .before .before .before .before .before .before .before .before)) (l .inv .2 .fits) b (rw w at (r .ensures .0)) (r .kept .1 .1 .1 .0);
+        marked = r .ensures .1;
+      },
+      sending-next (T s) (s .args .wires .now) (s .args .after .now) (s .args .counts .wires) _ (came s) (l .k) _ _ _ b
+          (c .wide2 .ensures)
+          (rw w at (r .ensures .0 .state) ∙ send-bare (s .args .components .now) (s .args .wires .now) (s .args .counts) _ _)
+          (l .inv .3),
+    )
 
 returns : tie.Need-returns Inv-loop μ-loop
 returns c =
-    let s = c .before .before .before .before .before .before .before .before in
+    let s = c .before .before .before .before .before .before .before .before .before .before in
     let l = c .before .before .loop in
-    record {
-      count = l .inv .3 .count;
-      state = sends-end
-          (wiring (s .args .components .now) (s .args .wires .now) (s .args .counts)) (s .args .i) (l .k)
-          (s .args .counts .wires) _ _ (omega arith) (l .inv .4);
-    }
+    let a = s .args in (
+      λ vs f. sending-end (T s) (a .wires .now) (a .after .now) (a .counts .wires) (getD (a .head .now) (a .i) 0) (came s) (l .k) _
+          (omega arith) (l .inv .3) (numbersFrom (a .wires .now) (a .i) (f .order)) (f .links .linked (a .i) (s .pre .3))
+          ∙ ap (foldl (send (T s)) (came s))
+          (sym (follows-from (a .wires .now) (a .counts .wires) (a .head .now) (a .after .now) vs f (a .i))),
+      l .inv .2,
+    )
 
 pub send-wires-spec : {M : Type 1} → statement M
 send-wires-spec =
@@ -104,11 +111,16 @@ send-wires-spec =
     (tie.spec
     Inv-loop
     μ-loop
+    (λ c. omega (arith, c .before .before .before .before .before .pre .3))
+    (λ c. c .before .before .before .before .before .pre .3)
+    (λ c κs. search needs)
     loop-holds
     (λ c κs. search needs)
     send-along-requires
-    (λ c. search needs)
-    (λ c. search needs)
+    mul-wide-2
+    element-copy-out-wide-2
+    (λ c κs. search needs)
+    loop-less
     loop-again
     (λ c. search needs)
     (λ c. search needs)

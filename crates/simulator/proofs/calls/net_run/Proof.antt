@@ -1,22 +1,26 @@
 -- `net_run`: the rounds so far, before the run that is still to come, are the whole run; each round leaves a net.
 -- Assumes nothing.
-use mathlib.Core.Path.{_≡_, refl, _∙_}
-use Prim.Native.Nat.{_*_, _≤_, _-_}
+use mathlib.Core.Path.{_≡_, refl, sym, _∙_, subst}
+use Prim.Native.Nat.{ℕ, _*_, _≤_, _-_}
 use native.Mathlib.Omega.{arith}
 use lib.ListN.{length}
-use Rattle.tables.specs.Tables.{Tables, tablesOf}
+use Rattle.tables.specs.Tables.{Tables, tablesOf, wiresIn}
 use Rattle.net.specs.Net.{netNumber}
 use Rattle.net.proofs.NetLaws.{netNumber-sizes}
 use Rattle.simulator.specs.Calls.{run}
+use Rattle.rounds.specs.Round.{roundOf}
+use Rattle.rounds.specs.Links.{Ready}
 use Rattle.rounds.proofs.Sound.{net-within}
+use Rattle.rounds.proofs.LinksLaws.{linked-none, ready-follows}
+use Rattle.rounds.proofs.RoundLaws.{net-sources, round-stored, round-wires}
 use Rattle.simulator.proofs.RunLaws.{onTop, stopped, run-start, round-net, run-turn, test-going, test-below, run-end, calm-list}
 use borrow.Author.Needs.{needs}
 use Rattle.simulator.proofs.calls.net_run.Statement.{statement}
 use Rattle.simulator.proofs.calls.net_run.Tie as tie
 
 abbrev Inv-loop : tie.InvT-loop
-Inv-loop components inputs₀ outputs₀ wires current₀ following₀ standing₀ time limit reached₀ rounds₀ evaluations₀ calm₀
-    inputs outputs current following standing reached rounds evaluations calm =
+Inv-loop components inputs₀ outputs₀ wires current₀ following₀ standing₀ time limit head₀ after₀ linked₀ reached₀ rounds₀ evaluations₀ calm₀
+    inputs outputs current following standing head after linked reached rounds evaluations calm =
     (rounds ≤ limit) × (evaluations ≤ 256 * rounds) × (length inputs ≡ length inputs₀)
     × (length outputs ≡ length outputs₀)
     × (length current ≡ length current₀) × (length following ≡ length following₀) × (length standing ≡ length standing₀)
@@ -24,10 +28,11 @@ Inv-loop components inputs₀ outputs₀ wires current₀ following₀ standing�
     × (onTop rounds evaluations (stopped calm (limit - rounds) time
     (tablesOf components inputs outputs wires current following standing reached))
     ≡ run limit time (tablesOf components inputs₀ outputs₀ wires current₀ following₀ standing₀ reached₀))
+    × Ready linked wires (reached .wires) head after
 
 abbrev μ-loop : tie.MeasureT-loop
-μ-loop components inputs₀ outputs₀ wires current₀ following₀ standing₀ time limit reached₀ rounds₀ evaluations₀ calm₀
-    inputs outputs current following standing reached rounds evaluations calm =
+μ-loop components inputs₀ outputs₀ wires current₀ following₀ standing₀ time limit head₀ after₀ linked₀ reached₀ rounds₀ evaluations₀ calm₀
+    inputs outputs current following standing head after linked reached rounds evaluations calm =
     limit - rounds
 
 -- The tables at the loop's head.
@@ -42,7 +47,20 @@ here c =
 loop-holds : tie.Need-loop-holds Inv-loop μ-loop
 loop-holds c =
     let s = c .before .before .before .before .before .before .before in
-    (omega arith, omega arith, refl, refl, refl, refl, refl, s .pre, run-start (s .args .limit) (s .args .time) _)
+    let T =
+    tablesOf (s .args .components .now) (s .args .inputs .now) (s .args .outputs .now) (s .args .wires .now) (s .args .current .now)
+    (s .args .following .now) (s .args .standing .now) (s .args .counts) in (
+      omega arith,
+      omega arith,
+      refl,
+      refl,
+      refl,
+      refl,
+      refl,
+      s .pre,
+      run-start (s .args .limit) (s .args .time) _,
+      linked-none (s .args .wires .now) (s .args .counts .wires) (net-within T (s .pre) .wires),
+    )
 
 cast-evaluations : tie.Need-cast-evaluations Inv-loop μ-loop
 cast-evaluations c =
@@ -60,73 +78,78 @@ add-evaluations c =
       c .before .before .loop .inv .1,
     )
 
+link-once-requires : tie.Need-link-once-requires Inv-loop μ-loop
+link-once-requires c κs =
+    let T = here (c .before .before .before .before) in
+    let l = c .before .before .before .before .loop in
+    (net-within T (l .inv .7) .wires, net-sources T (l .inv .7), l .inv .9)
+
 net-round-requires : tie.Need-net-round-requires Inv-loop μ-loop
-net-round-requires c κs = c .before .before .before .before .before .before .before .loop .inv .7
+net-round-requires c κs =
+    let s = c .before .before .before .before .before .before .before .before .before .before .before .before .before .before .before .before .before .before .before .before in
+    let l = c .before .before .before .before .before .before .before .before .before .before .before .before .loop in
+    let k = c .before .before .before .before .before .before .before .link-once in
+    (l .inv .7, λ h. (_, ready-follows _ (s .args .wires .now) (l .reached .wires) _ _ (k .ensures .0 h) (k .ensures .1)))
 
 add-rounds : tie.Need-add-rounds Inv-loop μ-loop
 add-rounds c =
-    let p = c .before .before .before .before .before .before .before .before .before .before in
-    let at-loop-test = p .before .before .before .before .before .before .before in
-    let at-loop = at-loop-test .before in
-    let s = at-loop .before .before .before .before .before .before .before .before in
-    omega (
-      arith,
-      test-below (at-loop .loop .calm) (at-loop .loop .rounds) (s .args .limit)
-          (at-loop-test .loop-test .taken),
-      s .fits,
-    )
+    let s = c .before .before .before .before .before .before .before .before .before .before .before .before .before .before .before .before .before .before .before .before .before .before .before .before .before .before .before .before .before .before .before in
+    let l = c .before .before .before .before .before .before .before .before .before .before .before .before .before .before .before .before .before .before .before .before .before .before .before .loop in
+    omega (arith, test-below (l .calm) (l .rounds) (s .args .limit) (c .before .before .before .before .before .before .before .before .before .before .before .before .before .before .before .before .before .before .before .before .before .before .loop-test .taken), s .fits)
+
+-- The tables after the round.
+abbrev then : tie.After-net-round Inv-loop μ-loop → Tables
+then c =
+    let s = c .before .before .before .before .before .before .before .before .before .before .before .before .before .before .before .before .before .before .before .before .before in
+    let r = c .net-round in
+    tablesOf (s .args .components .now) (r .last .1 .0) (r .last .1 .1 .0) (s .args .wires .now)
+    (r .last .1 .1 .1 .1 .1 .1 .0) (r .last .1 .1 .1 .1 .1 .1 .1 .0) (r .last .1 .1 .1 .1 .1 .1 .1 .1 .0) (r .result)
+
+made : (c : tie.After-net-round Inv-loop μ-loop) → then c ≡ roundOf (c .before .before .before .before .before .before .before .before .before .before .before .before .before .before .before .before .before .before .before .before .before .args .time) (here (c .before .before .before .before .before .before .before .before .before .before .before .before .before))
+made c =
+    let s = c .before .before .before .before .before .before .before .before .before .before .before .before .before .before .before .before .before .before .before .before .before in
+    let T = here (c .before .before .before .before .before .before .before .before .before .before .before .before .before) in
+    let k = c .before .before .before .before .before .before .before .before .link-once in
+    round-stored T (then c) (s .args .time)
+    (c .net-round .ensures (wiresIn T)
+    (λ h. ready-follows _ (s .args .wires .now) (T .counts .wires) _ _ (k .ensures .0 h) (k .ensures .1)))
 
 only-clocks-requires : tie.Need-only-clocks-requires Inv-loop μ-loop
 only-clocks-requires c κs =
-    let at-net-round = c .before .before .before .before .before .before .before .before .before .before .before in
-    let at-loop = at-net-round .before .before .before .before .before .before .before .before in
-    let s = at-loop .before .before .before .before .before .before .before .before in
-    let r = at-net-round .net-round in
-    let U =
-    tablesOf (s .args .components .now) (r .last .1 .0) (r .last .1 .1 .0) (s .args .wires .now)
-    (r .last .1 .1 .1 .1 .0) (r .last .1 .1 .1 .1 .1 .0) (r .last .1 .1 .1 .1 .1 .1 .0) (r .result) in
-    let z = round-net (s .args .time) (here at-loop) U (at-loop .loop .inv .7) (r .ensures) in
+    let s = c .before .before .before .before .before .before .before .before .before .before .before .before .before .before .before .before .before .before .before .before .before .before .before .before .before .before .before .before .before .before .before .before in
+    let U = then (c .before .before .before .before .before .before .before .before .before .before .before) in
+    let z = round-net (s .args .time) (here (c .before .before .before .before .before .before .before .before .before .before .before .before .before .before .before .before .before .before .before .before .before .before .before .before)) U (c .before .before .before .before .before .before .before .before .before .before .before .before .before .before .before .before .before .before .before .before .before .before .before .before .loop .inv .7) (made (c .before .before .before .before .before .before .before .before .before .before .before)) in
     omega (arith, net-within U z .current, netNumber-sizes U z .current)
 
 loop-less : tie.Need-loop-less Inv-loop μ-loop
 loop-less c =
-    let p = c .before .before .before .before .before .before .before .before .before .before in
-    let at-loop-test = p .before .before .before .before .before .before .before .before .before in
-    let at-loop = at-loop-test .before in
-    let s = at-loop .before .before .before .before .before .before .before .before in
-    omega (
-      arith,
-      test-below (at-loop .loop .calm) (at-loop .loop .rounds) (s .args .limit)
-          (at-loop-test .loop-test .taken),
-    )
+    let s = c .before .before .before .before .before .before .before .before .before .before .before .before .before .before .before .before .before .before .before .before .before .before .before .before .before .before .before .before .before .before .before .before .before in
+    let l = c .before .before .before .before .before .before .before .before .before .before .before .before .before .before .before .before .before .before .before .before .before .before .before .before .before .loop in
+    omega (arith, test-below (l .calm) (l .rounds) (s .args .limit) (c .before .before .before .before .before .before .before .before .before .before .before .before .before .before .before .before .before .before .before .before .before .before .before .before .loop-test .taken))
 
 loop-again : tie.Need-loop-again Inv-loop μ-loop
 loop-again c =
-    let at-net-round =
-    c .before .before .before .before .before .before .before .before .before .before .before .before in
-    let at-loop-test = at-net-round .before .before .before .before .before .before .before in
-    let at-loop = at-loop-test .before in
-    let s = at-loop .before .before .before .before .before .before .before .before in
-    let l = at-loop .loop in
-    let r = at-net-round .net-round in
-    let T = here at-loop in
-    let U =
-    tablesOf (s .args .components .now) (r .last .1 .0) (r .last .1 .1 .0) (s .args .wires .now)
-    (r .last .1 .1 .1 .1 .0) (r .last .1 .1 .1 .1 .1 .0) (r .last .1 .1 .1 .1 .1 .1 .0) (r .result) in
-    let w = net-within (here at-loop) (at-loop .loop .inv .7) in
-    let b =
-    test-below (at-loop .loop .calm) (at-loop .loop .rounds) (s .args .limit) (at-loop-test .loop-test .taken) in (
+    let s = c .before .before .before .before .before .before .before .before .before .before .before .before .before .before .before .before .before .before .before .before .before .before .before .before .before .before .before .before .before .before .before .before .before in
+    let l = c .before .before .before .before .before .before .before .before .before .before .before .before .before .before .before .before .before .before .before .before .before .before .before .before .before .loop in
+    let r = c .before .before .before .before .before .before .before .before .before .before .before .before .net-round in
+    let k = c .before .before .before .before .before .before .before .before .before .before .before .before .before .before .before .before .before .before .before .before .link-once in
+    let T = here (c .before .before .before .before .before .before .before .before .before .before .before .before .before .before .before .before .before .before .before .before .before .before .before .before .before) in
+    let U = then (c .before .before .before .before .before .before .before .before .before .before .before .before) in
+    let w = net-within T (l .inv .7) in
+    let b = test-below (l .calm) (l .rounds) (s .args .limit) (c .before .before .before .before .before .before .before .before .before .before .before .before .before .before .before .before .before .before .before .before .before .before .before .before .loop-test .taken) in (
       omega (arith, b),
       omega (arith, l .inv .1),
       r .kept .1 .0 ∙ l .inv .2,
       r .kept .1 .1 .0 ∙ l .inv .3,
-      r .kept .1 .1 .1 .1 .0 ∙ l .inv .4,
-      r .kept .1 .1 .1 .1 .1 .0 ∙ l .inv .5,
-      r .kept .1 .1 .1 .1 .1 .1 .0 ∙ l .inv .6,
-      round-net (s .args .time) T U (l .inv .7) (r .ensures),
-      run-turn (s .args .time) T U (l .inv .7) (r .ensures) (s .args .limit) (l .rounds) (l .evaluations) _ _ b
+      r .kept .1 .1 .1 .1 .1 .1 .0 ∙ l .inv .4,
+      r .kept .1 .1 .1 .1 .1 .1 .1 .0 ∙ l .inv .5,
+      r .kept .1 .1 .1 .1 .1 .1 .1 .1 .0 ∙ l .inv .6,
+      round-net (s .args .time) T U (l .inv .7) (made (c .before .before .before .before .before .before .before .before .before .before .before .before)),
+      run-turn (s .args .time) T U (l .inv .7) (made (c .before .before .before .before .before .before .before .before .before .before .before .before)) (s .args .limit) (l .rounds) (l .evaluations) _ _ b
           (c .only-clocks .ensures ∙ calm-list U)
-          (rw (test-going (l .calm) (l .rounds) (s .args .limit) (at-loop-test .loop-test .taken)) at (l .inv .8)),
+          (rw (test-going (l .calm) (l .rounds) (s .args .limit) (c .before .before .before .before .before .before .before .before .before .before .before .before .before .before .before .before .before .before .before .before .before .before .before .before .loop-test .taken)) at (l .inv .8)),
+      subst (λ (n : ℕ). Ready (k .result) (s .args .wires .now) n (k .last .1 .1 .1 .1 .0) (k .last .1 .1 .1 .1 .1 .0)) (sym (round-wires T U (s .args .time) (made (c .before .before .before .before .before .before .before .before .before .before .before .before))))
+          (k .ensures .1),
     )
 
 returns : tie.Need-returns Inv-loop μ-loop
@@ -145,6 +168,7 @@ net-run-spec =
     loop-holds
     cast-evaluations
     add-evaluations
+    link-once-requires
     net-round-requires
     add-rounds
     only-clocks-requires

@@ -1,7 +1,11 @@
 -- `round`: the number decides; where it is 0 the tables are a net, and the round is made.
 -- Assumes nothing.
-use mathlib.Core.Path.{sym, _∙_}
-use Rattle.tables.specs.Tables.{Tables, tablesOf}
+use mathlib.Core.Path.{_≡_, sym, _∙_}
+use Rattle.tables.specs.Tables.{Tables, tablesOf, wiresIn}
+use Rattle.net.specs.Net.{netNumber}
+use Rattle.rounds.proofs.Sound.{net-within}
+use Rattle.rounds.proofs.LinksLaws.{linked-none, ready-follows}
+use Rattle.rounds.proofs.RoundLaws.{net-sources, round-stored}
 use Rattle.simulator.proofs.CallsLaws.{round-refused, round-made}
 use borrow.Author.Needs.{needs}
 use Rattle.simulator.proofs.calls.round.Statement.{statement}
@@ -20,26 +24,37 @@ returns c =
     let s = p .before .before .before .before in
     rw (c .refused-by .ensures) (round-refused (came s) (s .args .time) _ (c .before .before .net-number .ensures) (c .before .if1 .taken))
 
+-- The tables are a net.
+is-net : (c : tie.Else1) → netNumber (came (c .before .before .before .before .before .before .before .before .before .before .before .before .before .before)) ≡ 0
+is-net c = sym (c .before .net-number .ensures) ∙ c .if1 .left
+
+link-once-requires : tie.Need-link-once-requires
+link-once-requires c κs =
+    let s = c .before .before .before .before .before .before .before .before .before .before .before .before .before .before .before .before in
+    let z = is-net (c .before .before) in (
+      net-within (came s) z .wires,
+      net-sources (came s) z,
+      linked-none (s .args .wires .now) (s .args .counts .wires) (net-within (came s) z .wires),
+    )
+
 net-round-requires : tie.Need-net-round-requires
 net-round-requires c κs =
-    let at-if1 = c .before .before .before .before .before in
-    let at-net-number = at-if1 .before in
-    sym (at-net-number .net-number .ensures) ∙ at-if1 .if1 .left
+    let s = c .before .before .before .before .before .before .before .before .before .before .before .before .before .before .before .before .before .before .before .before .before .before .before .before in
+    let k = c .before .before .before .before .before .before .before .link-once in
+    (is-net (c .before .before .before .before .before .before .before .before .before .before), λ h. (_, ready-follows _ (s .args .wires .now) (s .args .counts .wires) _ _ (k .ensures .0 h) (k .ensures .1)))
 
 returns-2 : tie.Need-returns-2
 returns-2 c =
-    let at-net-round = c .before .before .before .before .before .before .before .before .before .before in
-    let at-if1 = at-net-round .before .before .before .before .before .before in
-    let at-net-number = at-if1 .before in
-    let p = at-net-number .before .before .before .before .before .before .before .before .before .before in
-    let s = p .before .before .before in
-    let e = at-net-number .net-number .ensures in
-    let z = at-if1 .if1 .left in
-    let r = at-net-round .net-round in
+    let s = c .before .before .before .before .before .before .before .before .before .before .before .before .before .before .before .before .before .before .before .before .before .before .before .before .before .before .before .before .before .before .before .before .before .before .before in
+    let k = c .before .before .before .before .before .before .before .before .before .before .before .before .before .before .before .before .before .before .link-once in
+    let r = c .before .before .before .before .before .before .before .before .before .before .net-round in
     let U =
     tablesOf (s .args .components .now) (r .last .1 .0) (r .last .1 .1 .0) (s .args .wires .now)
-    (r .last .1 .1 .1 .1 .0) (r .last .1 .1 .1 .1 .1 .0) (r .last .1 .1 .1 .1 .1 .1 .0) (r .result) in
-    round-made (came s) (s .args .time) _ e z U (r .result) (r .ensures)
+    (r .last .1 .1 .1 .1 .1 .1 .0) (r .last .1 .1 .1 .1 .1 .1 .1 .0) (r .last .1 .1 .1 .1 .1 .1 .1 .1 .0) (r .result) in
+    round-made (came s) (s .args .time) _ (c .before .before .before .before .before .before .before .before .before .before .before .before .before .before .before .before .before .before .before .before .before .before .net-number .ensures) (c .before .before .before .before .before .before .before .before .before .before .before .before .before .before .before .before .before .before .before .before .before .if1 .left) U (r .result)
+    (round-stored (came s) U (s .args .time)
+    (r .ensures (wiresIn (came s))
+    (λ h. ready-follows _ (s .args .wires .now) (s .args .counts .wires) _ _ (k .ensures .0 h) (k .ensures .1))))
 
 pub round-spec : {M : Type 1} → statement M
 round-spec =
@@ -53,6 +68,7 @@ round-spec =
     (λ c. search needs)
     (λ c. search needs)
     returns
+    link-once-requires
     net-round-requires
     (λ c. search needs)
     (λ c. search needs)
