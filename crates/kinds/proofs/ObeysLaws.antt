@@ -1,20 +1,23 @@
 -- What a component that obeys the table of kinds has.
 -- Assumes nothing.
-use mathlib.Core.Path.{_≡_, ap, _∙_}
+use mathlib.Core.Path.{_≡_, refl, ap, _∙_}
 use mathlib.Core.Bool.{Bool, true, not, _&&_}
 use Prim.Native.Nat.{ℕ, _≤_}
 use native.Mathlib.Omega.{arith}
-use borrow.Author.Tests.{leb-true}
+use borrow.Author.Tests.{leb-true, le-leb}
 use lib.Dec.{leb}
+use Rattle.lists.specs.Lists.{within}
 use Rattle.lists.proofs.ListsLaws.{within-least, within-most}
 use Rattle.lists.proofs.TestsLaws.{and-left, and-right}
+use Rattle.value.specs.Value.{widest}
 use Rattle.kinds.specs.declared.Kind.{Kind}
+use Rattle.kinds.specs.declared.Kind.the-variants.{Composite, And, Or, Not, Nand, Nor, Xor, Switch, Input, Output, Splitter, Joiner, Clock, Const}
 use Rattle.kinds.specs.declared.Seen.{Seen}
 use Rattle.kinds.specs.declared.Seen.the-variants.{Known, Kept, Unknown}
 use Rattle.kinds.specs.declared.table.Fields.{Fields}
 use Rattle.kinds.specs.declared.table.Span.{Span}
 use Rattle.kinds.specs.declared.table.Row.{Row}
-use Rattle.kinds.specs.Kinds.{numberOf, seenAs, forCustom, unknown, kindOf, primitive, row, rowOf, spans, obeys}
+use Rattle.kinds.specs.Kinds.{numberOf, seenAs, forCustom, unknown, kindOf, primitive, row, rowOf, _to_, spans, obeys}
 use Rattle.kinds.proofs.KindsLaws.{isKind, kindOf-numberOf, seenAs-kind}
 
 -- x lies in a span.
@@ -64,6 +67,30 @@ module _ (f : Fields) (o : obeys f ≡ true) where
         width = inside (rowOf f .width) (f .width) (and-right (to-inputs && outputsRight f) (widthRight f) w);
         parameter = inside (rowOf f .parameter) (f .parameter) (and-right to-width (parameterRight f) o);
       }
+
+-- A port has so many bits.
+abbrev pub Bits : ℕ → Type 0
+Bits w = within 1 widest w ≡ true
+
+bits : (w : ℕ) → Inside (1 to widest) w → Bits w
+bits w i = rw (le-leb 1 w (i .least), le-leb w widest (i .most))
+
+pub row-bits : (f : Fields) (k : Kind) → InRow (row k (f .width) (f .parameter)) f
+    → Bits (row k (f .width) (f .parameter) .inward) × Bits (row k (f .width) (f .parameter) .outward)
+row-bits f Composite r = (refl, refl)
+row-bits f And r = (refl, refl)
+row-bits f Or r = (refl, refl)
+row-bits f Not r = (refl, refl)
+row-bits f Nand r = (refl, refl)
+row-bits f Nor r = (refl, refl)
+row-bits f Xor r = (refl, refl)
+row-bits f Switch r = (refl, refl)
+row-bits f Input r = (bits (f .parameter) (r .parameter), bits (f .parameter) (r .parameter))
+row-bits f Output r = (bits (f .parameter) (r .parameter), bits (f .parameter) (r .parameter))
+row-bits f Splitter r = (bits (f .parameter) (r .parameter), refl)
+row-bits f Joiner r = (refl, bits (f .parameter) (r .parameter))
+row-bits f Clock r = (refl, refl)
+row-bits f Const r = (refl, bits (f .width) (r .width))
 
 -- A primitive of kind k that obeys the table lies in the row of k.
 pub obeyed-row : (f : Fields) (k : Kind) → (primitive f && obeys f) ≡ true → f .kind ≡ numberOf k

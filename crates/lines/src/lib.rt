@@ -3,7 +3,7 @@ ghost use mathlib.Core.List.{[], _∷_, _++_};
 ghost use Prim.Native.Nat.{_≤_};
 ghost use lib.ListN.{length, take};
 ghost use Rattle.tables.specs.Tables.{tablesOf, countsOf};
-ghost use Rattle.tables.specs.Words.{fieldsIn, idIn};
+ghost use Rattle.tables.specs.Words.{RowInside, RowsInside, WiresInside, fieldsIn, idIn};
 ghost use Rattle.text.specs.Text.{numeral, Puts};
 ghost use Rattle.lines.specs.Lines.{componentLine, componentsText, wireLine, wiresText, roundLine, againstText, refusedLine};
 use kinds::Refusal;
@@ -21,6 +21,7 @@ fn put_ended(out: &mut [u8], at: usize, number: u64, byte: u8) -> usize
 
 // A component: its index, its kind and its id.
 fn put_component(out: &mut [u8], at: usize, components: &[u64], i: usize) -> usize
+    requires { ⌜ RowInside (now components) i ⌝ }
     ensures { λ r. ⌜ Puts (now (out .entry)) at (componentLine i (fieldsIn (now (components .entry)) i .kind) (idIn (now (components .entry)) i))
         (now (out .exit)) r ⌝ }
 {
@@ -52,6 +53,7 @@ fn put_counted(out: &mut [u8], at: usize, word: &[u8], count: usize) -> usize
 
 // The components: how many, and a line for each.
 fn put_components(out: &mut [u8], at: usize, components: &[u64], count: usize) -> usize
+    requires { ⌜ RowsInside (now components) count ⌝ }
     ensures { λ r. ⌜ Puts (now (out .entry)) at (componentsText (tablesOf (now (components .entry)) [] [] [] [] [] [] (countsOf count 0 0 0 0 0 0)))
         (now (out .exit)) r ⌝ }
 {
@@ -66,6 +68,7 @@ fn put_components(out: &mut [u8], at: usize, components: &[u64], count: usize) -
 
 // The wires: how many, and a line for each.
 fn put_wires(out: &mut [u8], at: usize, wires: &[u16], count: usize) -> usize
+    requires { ⌜ WiresInside (now wires) count ⌝ }
     ensures { λ r. ⌜ Puts (now (out .entry)) at (wiresText (tablesOf [] [] [] (now (wires .entry)) [] [] [] (countsOf 0 0 0 count 0 0 0)))
         (now (out .exit)) r ⌝ }
 {
@@ -78,7 +81,7 @@ fn put_wires(out: &mut [u8], at: usize, wires: &[u16], count: usize) -> usize
     next
 }
 
-// The components and the wires of tables.
+// The components and the wires of tables. Crate listing calls it for the net that a load left.
 pub fn put_net(
     out: &mut [u8],
     at: usize,
@@ -86,6 +89,7 @@ pub fn put_net(
     wires: &[u16],
     counts: Counts,
 ) -> usize
+    requires { ⌜ RowsInside (now components) (counts .components) × WiresInside (now wires) (counts .wires) ⌝ }
     ensures { λ r.
         let net = tablesOf (now (components .entry)) [] [] (now (wires .entry)) [] [] [] counts in
         ⌜ Puts (now (out .entry)) at (componentsText net ++ wiresText net) (now (out .exit)) r ⌝ }

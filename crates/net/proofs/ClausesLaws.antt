@@ -3,23 +3,22 @@
 use mathlib.Core.Path.{_≡_, refl, sym, ap}
 use mathlib.Core.Bool.{Bool, true, false, _&&_, true≢false}
 use mathlib.Core.List.{List, [], _∷_, map}
-use Prim.Native.Nat.{ℕ, _+_, _-_, _≤_, _<_}
+use Prim.Native.Nat.{ℕ, _+_, _≤_, _<_}
 use native.Mathlib.Omega.{arith}
 use borrow.Author.Tests.{leb-true, le-leb, eqb-true}
-use lib.ListN.{length}
 use lib.Dec.{leb, ltb, eqb}
 use Rattle.lists.specs.Lists.{from, every, distinct}
-use Rattle.lists.proofs.ListsLaws.{every-from, every-end}
+use Rattle.lists.proofs.ListsLaws.{every-from}
 use Rattle.lists.proofs.TestsLaws.{and-left, and-right}
 use Rattle.kinds.specs.Kinds.{primitive, obeys, inputWidth, outputWidth}
 use Rattle.tables.specs.declared.Wire.{Wire}
 use Rattle.tables.specs.declared.Counts.{Counts}
 use Rattle.tables.specs.Tables.{Tables, fieldsAt, firstInput, firstOutput, inputPlace, wireAt}
-use Rattle.tables.specs.Words.{fieldsFit, wireIn, uncounted}
+use Rattle.tables.specs.Words.{fieldsFit, wireIn}
 use Rattle.tables.proofs.RowsLaws.{obeyed-fit, fieldsFit-inputs, fieldsFit-outputs}
 use Rattle.tables.proofs.PartsLaws.{AllTrue, parts-sound}
 use Rattle.net.specs.Net.{countsWithin, kindsObeyed, portsFollow, wiresFit, inputsOnce}
-use Rattle.net.specs.Parts.{lent, placeIn, PortsInside, obeyedAt, followAt}
+use Rattle.net.specs.Parts.{lent, placeIn, obeyedAt, followAt}
 use Rattle.net.proofs.LoopsLaws.{every-map, map-map, total-room}
 use Rattle.net.specs.Net.{inputSum, outputSum, wireFits}
 
@@ -79,24 +78,7 @@ module _ (T : Tables) (e : kindsObeyed T ≡ true) (i : ℕ) (h : i < T .counts 
   pub kindsObeyed-outputs : fieldsAt T i .outputs < 65536
   kindsObeyed-outputs = fieldsFit-outputs (fieldsAt T i) kindsObeyed-fit
 
--- "ports follow each other without gaps": one component's do not; and what the loop over them all leaves to be tested.
-pub portsFollow-fails : (cs : List ℕ) (m : Counts) → false ≡ every (followAt cs) (from 0 (m .components))
-    → false ≡ portsFollow (lent cs [] [] [] m)
-unfolding portsFollow
-portsFollow-fails cs m e = let z : every (followAt cs) (from 0 (m .components)) ≡ false = sym e in rw z
-
-pub portsFollow-end : (cs : List ℕ) (m : Counts) (i ins outs : ℕ) → i ≡ m .components → ins ≡ inputSum (uncounted cs []) i
-    → outs ≡ outputSum (uncounted cs []) i → every (followAt cs) (from i (m .components - i))
-    ≡ every (followAt cs) (from 0 (m .components))
-    → (eqb (m .inputs) ins && eqb (m .outputs) outs) ≡ portsFollow (lent cs [] [] [] m)
-unfolding portsFollow
-portsFollow-end cs m i ins outs e p q so-far =
-    let z : every (followAt cs) (from 0 (m .components)) ≡ true =
-    sym (every-end (followAt cs) i (m .components) (every (followAt cs) (from 0 (m .components)))
-    (omega arith) so-far) in
-    rw (p, q, e, z)
-
--- What it says of component i: where its ports start, and that they end within the counts.
+-- "ports follow each other without gaps": where the ports of component i start, and that they end within the counts.
 module _ (T : Tables) (e : portsFollow T ≡ true) where
   abbrev cs : List ℕ
   cs = T .components
@@ -203,11 +185,15 @@ module _ (cs ws : List ℕ) (m : Counts) where
   unfolding inputsOnce
   inputsOnce-places = ap distinct (map-map (λ (w : Wire). inputPlace T (w .dst)) (wireAt T) (from 0 (m .wires)))
 
--- What the clauses before it give the test of values.
-pub portsInside : (cs : List ℕ) (m : Counts) → countsWithin m ≡ true → portsFollow (lent cs [] [] [] m) ≡ true
-    → (is os : List ℕ) → 1024 ≤ length is → 1024 ≤ length os → PortsInside cs is os (m .components)
-portsInside cs m few follow is os a b i h =
-    let w = countsWithin-sound m few in (
-      omega (arith, portsFollow-inputs (lent cs [] [] [] m) follow i h),
-      omega (arith, portsFollow-outputs (lent cs [] [] [] m) follow i h),
-    )
+-- Two tests together: where one fails, and where none does.
+pub left-fails : (a b : Bool) → false ≡ a → false ≡ (a && b)
+left-fails true b e = absurd (true≢false (sym e))
+left-fails false b e = refl
+
+pub right-fails : (a b : Bool) → false ≡ b → false ≡ (a && b)
+right-fails true b e = e
+right-fails false b e = refl
+
+pub none-fails : (a b : Bool) → true ≡ a → true ≡ b → true ≡ (a && b)
+none-fails true b e f = f
+none-fails false b e f = absurd (true≢false e)

@@ -1,6 +1,6 @@
 pub mod LoopsLaws
-pub mod DownLaws
 pub mod MarksLaws
 pub mod ClausesLaws
+pub mod PassLaws
 pub mod CircuitLaws
 pub mod NetLaws

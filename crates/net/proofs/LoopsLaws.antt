@@ -1,5 +1,5 @@
 -- Loops over what is still to come: a search for a number, a part of a table, a sum.
--- Not here: a test that none stands twice (DownLaws); a loop for one that does not pass a test (ListsLaws: every-fails, every-next, every-end).
+-- Not here: a test that none stands twice (PassLaws); a loop for one that does not pass a test (ListsLaws: every-fails, every-next, every-end).
 -- Assumes nothing.
 use mathlib.Core.Path.{_≡_, refl, sym, ap, _∙_}
 use mathlib.Core.Bool.{Bool, true, false, _&&_}

@@ -14,18 +14,17 @@ use lib.Dec.{eqb, ltb}
 use Rattle.lists.specs.Lists.{from, every, distinct}
 use Rattle.lists.proofs.ListsLaws.{every-from, refusal-first, refusal-rest}
 use Rattle.lists.proofs.TestsLaws.{and-left, and-right}
-use Rattle.lists.proofs.MembersLaws.{In, Distinct, every-sound, map-complete, distinct-sound, distinct-bound, from-length, from0-complete}
+use Rattle.lists.proofs.MembersLaws.{In, Distinct, every-sound, distinct-sound, distinct-bound, from-length, from0-complete}
 use Rattle.value.specs.Value.{allFit}
 use Rattle.kinds.specs.declared.Kind.the-variants.{Const}
 use Rattle.kinds.specs.Kinds.{is, inputWidth, outputWidth}
 use Rattle.tables.specs.declared.End.{End}
 use Rattle.tables.specs.declared.Wire.{Wire}
-use Rattle.tables.specs.declared.Counts.{Counts}
-use Rattle.tables.specs.Tables.{Tables, fullSize, fieldsAt, firstOutput, inputPlace, inputsAt, outputsAt, wireAt, wiresIn, currentList, followingList, standingList}
+use Rattle.tables.specs.Tables.{Tables, fullSize, fieldsAt, firstOutput, inputPlace, inputsAt, outputsAt, wiresIn, currentList, followingList, standingList}
 use Rattle.tables.proofs.PartsLaws.{AllTrue, parts-sound, parts-complete}
 use Rattle.tables.proofs.SizesLaws.{Full, fullSize-sound}
 use Rattle.net.specs.Net.{countsWithin, kindsObeyed, idsDistinct, portsFollow, valuesFit, constsHeld, isOutput, isInput, wiresFit, inputsOnce, names, isCircuit, isNet, netNumber, onNet}
-use Rattle.net.specs.Parts.{lent, PlacesInside, fitAt, heldAt}
+use Rattle.net.specs.Parts.{lent, fitAt, heldAt}
 use Rattle.net.specs.Net.{wireFits}
 use Rattle.net.proofs.ClausesLaws.{Within, countsWithin-sound, portsFollow-inputs}
 
@@ -167,17 +166,19 @@ module _ (T : Tables) (e : wiresFit T ≡ true) (w : Wire) (h : In w (wiresIn T)
   pub wiresFit-widths : outputWidth (fieldsAt T (w .src .comp .0)) ≡ inputWidth (fieldsAt T (w .dst .comp .0))
   wiresFit-widths = eqb-true _ _ (wire-parts .1 .1 .0)
 
--- What the clauses before it give the test of inputs.
-pub placesInside : (cs : List ℕ) (m : Counts) → countsWithin m ≡ true → portsFollow (lent cs [] [] [] m) ≡ true
-    → (ws : List ℕ) → wiresFit (lent cs [] [] ws m) ≡ true → PlacesInside cs ws (m .wires)
-placesInside cs m few follow ws e k h =
-    let w = countsWithin-sound m few in
-    let T : Tables = lent cs [] [] ws m in
-    let stored = map-complete (wireAt T) k (from 0 (m .wires)) (from0-complete (m .wires) k h) in
-    let there = wiresFit-target T e (wireAt T k) stored in
-    let t = isInput-comp T (wireAt T k .dst) there in
-    let p = isInput-port T (wireAt T k .dst) there in
-    omega (arith, portsFollow-inputs (lent cs [] [] [] m) follow (wireAt T k .dst .comp .0) t)
+-- So the input that a wire enters stands among full size.
+module _ (T : Tables) (w : Wire) (fits : wireFits T w ≡ true) where
+  target-exists : isInput T (w .dst) ≡ true
+  target-exists =
+      parts-sound (isOutput T (w .src)) (isInput T (w .dst)
+      ∷ eqb (outputWidth (fieldsAt T (w .src .comp .0))) (inputWidth (fieldsAt T (w .dst .comp .0))) ∷ []) fits .1 .0
+
+  pub wireFits-target : w .dst .comp .0 < T .counts .components
+  wireFits-target = isInput-comp T (w .dst) target-exists
+
+  pub wireFits-place : portsFollow T ≡ true → T .counts .inputs ≤ 1024 → inputPlace T (w .dst) < 1024
+  wireFits-place follow few =
+      omega (arith, isInput-port T (w .dst) target-exists, portsFollow-inputs T follow (w .dst .comp .0) wireFits-target)
 
 -- "no input has two wires"
 pub inputsOnce-sound : (T : Tables) → inputsOnce T ≡ true

@@ -1,5 +1,6 @@
-// Whether lent tables are a net: a function for each clause. Rule: docs/SPECIFICATION.md, "Numbers given back", 16.
-// A clause is handed only the tables that it looks at, and its `requires` says how it rests on clauses before it.
+// Whether lent tables are a net, in a pass over the components, one over the wires and one over each list. Rule: docs/SPECIFICATION.md,
+// "Numbers given back", 16. What a clause asks of one component or wire has a function of its own, whose `requires` says how it rests on
+// clauses before it.
 mod ids;
 mod limits;
 mod naming;

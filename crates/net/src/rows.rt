@@ -1,14 +1,29 @@
-// "components are of kinds 1 to 13, obey the table of kinds", and "ports follow each other without gaps"
+// The components of a net, in one pass: a function for each clause that asks something of one component. "components are of kinds 1 to 13,
+// obey the table of kinds, have distinct ids, ports follow each other without gaps, values fit, each Const's output is its value"
 ghost use mathlib.Core.Path.{_≡_};
-ghost use mathlib.Core.Bool.{true};
+ghost use mathlib.Core.Bool.{true, _&&_};
 ghost use mathlib.Core.List.{[]};
-ghost use Prim.Native.Nat.{_<_, _≤_};
-ghost use Rattle.net.specs.Net.{kindsObeyed, portsFollow};
-ghost use Rattle.net.specs.Parts.{lent, obeyedAt};
+ghost use Prim.Native.Nat.{_+_, _<_, _≤_};
+ghost use lib.ListN.{length, set};
+ghost use Rattle.kinds.specs.Kinds.{inputWidth, outputWidth};
+ghost use Rattle.tables.specs.Words.{RowInside, RowsInside, fieldsIn, uncounted};
+ghost use Rattle.net.specs.Net.{inputSum, outputSum};
+ghost use Rattle.net.specs.Parts.{lent, obeyedAt, followAt, withinAt, rowRight, rowsRight, Widths};
+use crate::ids::id_fits;
+use crate::ids::id_new;
+use crate::values::row_fits;
+use crate::values::row_held;
 use tables::Counts;
+
+// Where the next component's inputs and outputs start.
+struct Next {
+    input: usize,
+    output: usize,
+}
 
 // Whether component i is a primitive and obeys the table of kinds. A word that no field can hold obeys nothing.
 fn row_obeyed(components: &[u64], i: usize) -> bool
+    requires { ⌜ RowInside (now components) i ⌝ }
     ensures { λ r. ⌜ r ≡ obeyedAt (now (components .entry)) i ⌝ }
 {
     if !tables::fields_fit(components, i) {
@@ -18,39 +33,97 @@ fn row_obeyed(components: &[u64], i: usize) -> bool
     kinds::is_primitive(f) & kinds::obeys(f)
 }
 
-// Whether all components are and do.
-pub(crate) fn kinds_obeyed(components: &[u64], counts: Counts) -> bool
-    ensures { λ r. ⌜ r ≡ kindsObeyed (lent (now (components .entry)) [] [] [] counts) ⌝ }
+// Where the ports behind those of component i start.
+fn next_after(components: &[u64], next: Next, i: usize) -> Next
+    requires { ⌜ RowInside (now components) i × (obeyedAt (now components) i ≡ true) × (next .input ≤ 1024) × (next .output ≤ 1024) ⌝ }
+    ensures { λ r. ⌜ (r .input ≡ next .input + fieldsIn (now (components .entry)) i .inputs)
+        × (r .output ≡ next .output + fieldsIn (now (components .entry)) i .outputs) ⌝ }
 {
-    let n = counts.components;
-    let mut i: usize = 0;
-    while i < n {
-        if !row_obeyed(components, i) {
-            return false;
-        }
-        i += 1;
-    }
-    true
+    let input = next.input + tables::input_count(components, i);
+    let output = next.output + tables::output_count(components, i);
+    Next { input, output }
 }
 
-// Whether each component's ports start where those before it end, the first at 0 and the last ending at the counts.
-pub(crate) fn ports_follow(components: &[u64], counts: Counts) -> bool
-    requires { ⌜ (counts .components ≤ 256) × (kindsObeyed (lent (now components) [] [] [] counts) ≡ true) ⌝ }
-    ensures { λ r. ⌜ r ≡ portsFollow (lent (now (components .entry)) [] [] [] counts) ⌝ }
+// Whether the ports of component i start where those before it end, and end within the counts.
+fn row_follows(components: &[u64], counts: Counts, next: Next, i: usize) -> bool
+    requires { ⌜ RowInside (now components) i × (obeyedAt (now components) i ≡ true) × (next .input ≤ 1024) × (next .output ≤ 1024)
+        × (next .input ≡ inputSum (uncounted (now components) []) i) × (next .output ≡ outputSum (uncounted (now components) []) i) ⌝ }
+    ensures { λ r. ⌜ r ≡ (followAt (now (components .entry)) i && withinAt (now (components .entry)) counts i) ⌝ }
+{
+    let after = next_after(components, next, i);
+    let first_input = tables::first_input(components, i);
+    let first_output = tables::first_output(components, i);
+    (first_input == next.input)
+        & (first_output == next.output)
+        & ((after.input <= counts.inputs) & (after.output <= counts.outputs))
+}
+
+// Whether component i is what a net asks of it, but that no other has its id. Later tests rest on earlier ones: the order matters.
+fn row_right(
+    components: &[u64],
+    inputs: &[u64],
+    outputs: &[u64],
+    counts: Counts,
+    next: Next,
+    i: usize,
+) -> bool
+    requires { ⌜ RowInside (now components) i × (counts .inputs ≤ length (now inputs)) × (counts .outputs ≤ length (now outputs))
+        × (next .input ≤ 1024) × (next .output ≤ 1024)
+        × (next .input ≡ inputSum (uncounted (now components) []) i) × (next .output ≡ outputSum (uncounted (now components) []) i) ⌝ }
+    ensures { λ r. ⌜ r ≡ rowRight (now (components .entry)) (now (inputs .entry)) (now (outputs .entry)) counts i ⌝ }
+{
+    if !row_obeyed(components, i) {
+        return false;
+    }
+    if !(id_fits(components, i) & row_follows(components, counts, next, i)) {
+        return false;
+    }
+    row_fits(components, inputs, outputs, i) & row_held(components, outputs, i)
+}
+
+// Notes the widths of component i's ports, for the pass over the wires.
+fn note_widths(components: &[u64], i: usize, entering: &mut [u8; 256], leaving: &mut [u8; 256])
+    requires { ⌜ RowInside (now components) i × (obeyedAt (now components) i ≡ true) × (i < 256) ⌝ }
+    ensures { λ _. ⌜ (now (entering .exit) ≡ set (now (entering .entry)) i (inputWidth (fieldsIn (now (components .entry)) i)))
+        × (now (leaving .exit) ≡ set (now (leaving .entry)) i (outputWidth (fieldsIn (now (components .entry)) i))) ⌝ }
+{
+    let f = tables::fields_at(components, i);
+    entering[i] = kinds::input_width(f) as u8;
+    leaving[i] = kinds::output_width(f) as u8;
+}
+
+// Whether all components are what a net asks of them, and no two have the same id. The widths of their ports are left in the two tables.
+pub(crate) fn rows_right(
+    components: &[u64],
+    inputs: &[u64],
+    outputs: &[u64],
+    counts: Counts,
+    entering: &mut [u8; 256],
+    leaving: &mut [u8; 256],
+) -> bool
+    requires { ⌜ (counts .components ≤ 256) × (counts .inputs ≤ 1024) × (counts .outputs ≤ 1024)
+        × RowsInside (now components) (counts .components) × (1024 ≤ length (now inputs)) × (1024 ≤ length (now outputs))
+        × Widths (now components) 0 (now entering) (now leaving) ⌝ }
+    ensures { λ r. ⌜ (r ≡ rowsRight (lent (now (components .entry)) (now (inputs .entry)) (now (outputs .entry)) [] counts))
+        × (r ≡ true → Widths (now (components .entry)) (counts .components) (now (entering .exit)) (now (leaving .exit))) ⌝ }
 {
     let n = counts.components;
-    let mut inputs: usize = 0;
-    let mut outputs: usize = 0;
+    let mut marks = [0u8; 4096];
+    let mut next = Next {
+        input: 0,
+        output: 0,
+    };
     let mut i: usize = 0;
     while i < n {
-        let first_input = tables::first_input(components, i);
-        let first_output = tables::first_output(components, i);
-        if !((first_input == inputs) & (first_output == outputs)) {
+        if !row_right(components, inputs, outputs, counts, next, i) {
             return false;
         }
-        inputs += tables::input_count(components, i);
-        outputs += tables::output_count(components, i);
+        if !id_new(components, &mut marks, i) {
+            return false;
+        }
+        note_widths(components, i, entering, leaving);
+        next = next_after(components, next, i);
         i += 1;
     }
-    (counts.inputs == inputs) & (counts.outputs == outputs)
+    (counts.inputs == next.input) & (counts.outputs == next.output)
 }

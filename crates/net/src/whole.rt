@@ -1,4 +1,4 @@
-// All clauses of a net, in the order of the definition, and the numbers 2 and 16.
+// All clauses of a net, and the numbers 2 and 16.
 ghost use mathlib.Core.Path.{_≡_};
 ghost use mathlib.Core.Bool.{true};
 ghost use Prim.Native.Nat.{_≤_};
@@ -6,18 +6,13 @@ ghost use lib.ListN.{length};
 ghost use Rattle.tables.specs.Tables.{tablesOf, fullSize};
 ghost use Rattle.net.specs.Net.{isCircuit, isNet, Checks};
 ghost use Rattle.net.specs.Parts.{lent};
-use crate::ids::ids_distinct;
 use crate::limits::counts_within;
 use crate::naming::names;
-use crate::rows::kinds_obeyed;
-use crate::rows::ports_follow;
-use crate::values::consts_held;
-use crate::values::values_fit;
-use crate::wires::inputs_once;
-use crate::wires::wires_fit;
+use crate::rows::rows_right;
+use crate::wires::wires_right;
 use tables::Counts;
 
-// Whether components, ports and wires are those of a net. Later tests rest on earlier ones: the order matters.
+// Whether components, ports and wires are those of a net: a pass over the components, and one over the wires, which rests on it.
 fn is_circuit(
     components: &[u64],
     inputs: &[u64],
@@ -25,24 +20,25 @@ fn is_circuit(
     wires: &[u16],
     counts: Counts,
 ) -> bool
-    requires { ⌜ (1024 ≤ length (now inputs)) × (1024 ≤ length (now outputs)) ⌝ }
+    requires { ⌜ (2048 ≤ length (now components)) × (1024 ≤ length (now inputs)) × (1024 ≤ length (now outputs)) × (4096 ≤ length (now wires)) ⌝ }
     ensures { λ r. ⌜ r ≡ isCircuit (lent (now (components .entry)) (now (inputs .entry)) (now (outputs .entry)) (now (wires .entry)) counts) ⌝ }
 {
     if !counts_within(counts) {
         return false;
     }
-    if !kinds_obeyed(components, counts) {
+    let mut entering = [0u8; 256];
+    let mut leaving = [0u8; 256];
+    if !rows_right(
+        components,
+        inputs,
+        outputs,
+        counts,
+        &mut entering,
+        &mut leaving,
+    ) {
         return false;
     }
-    if !(ids_distinct(components, counts) & ports_follow(components, counts)) {
-        return false;
-    }
-    if !(values_fit(components, inputs, outputs, counts)
-        & consts_held(components, outputs, counts)
-        & wires_fit(components, wires, counts)) {
-        return false;
-    }
-    inputs_once(components, wires, counts)
+    wires_right(components, wires, counts, &entering, &leaving)
 }
 
 // Whether tables of full size are a net.

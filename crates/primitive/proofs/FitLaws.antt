@@ -6,51 +6,27 @@ use mathlib.Core.Bool.{Bool, true, false, not, false≢true}
 use mathlib.Core.List.{List, [], _∷_, map}
 use Prim.Native.Nat.{ℕ, zero, suc, _<_, _^_}
 use native.Mathlib.Omega.{arith}
-use borrow.Author.Tests.{le-leb, lt-ltb}
+use borrow.Author.Tests.{lt-ltb}
 use lib.ListN.{length, getD}
-use Rattle.lists.specs.Lists.{within, from, every}
+use Rattle.lists.specs.Lists.{from, every}
 use Rattle.lists.proofs.TestsLaws.{and-left, and-right}
-use Rattle.value.specs.Value.{widest, below, ofWidth, allFit, bitOf, complement}
+use Rattle.value.specs.Value.{below, ofWidth, allFit, bitOf, complement}
 use Rattle.value.proofs.ValueLaws.{bitOf-fits, complement-fits}
 use Rattle.kinds.specs.declared.Kind.{Kind}
 use Rattle.kinds.specs.declared.Kind.the-variants.{Composite, And, Or, Not, Nand, Nor, Xor, Switch, Input, Output, Splitter, Joiner, Clock, Const}
 use Rattle.kinds.specs.declared.table.Fields.{Fields}
-use Rattle.kinds.specs.Kinds.{numberOf, kindOf, row, only, _to_, primitive, obeys, inputWidth, outputWidth}
+use Rattle.kinds.specs.Kinds.{numberOf, kindOf, row, only, primitive, obeys, inputWidth, outputWidth}
 use Rattle.primitive.specs.Evaluate.{one, clockHigh, join, rule, outputsAfter}
 use Rattle.primitive.specs.Own.{allHigh, anyHigh, oddHigh}
 use Rattle.primitive.specs.Own.{Own}
 use Rattle.kinds.proofs.KindsLaws.{numberOf-kindOf}
 use Rattle.primitive.proofs.RulesLaws.{join-lt}
 use Rattle.primitive.proofs.UpdateLaws.{leaves, outputsAfter-rule, outputsAfter-left}
-use Rattle.kinds.proofs.ObeysLaws.{Inside, InRow, obeys-row, obeyed-row, obeyed-primitive, obeyed-kind}
+use Rattle.kinds.proofs.ObeysLaws.{Inside, InRow, obeys-row, row-bits, obeyed-row, obeyed-primitive, obeyed-kind}
 
 -- All numbers of a list lie below 2^w.
 abbrev pub allBelow : ℕ → List ℕ → Bool
 allBelow w xs = every (λ x. below x w) xs
-
--- A port has so many bits.
-abbrev Bits : ℕ → Type 0
-Bits w = within 1 widest w ≡ true
-
-bits : (w : ℕ) → Inside (1 to widest) w → Bits w
-bits w i = rw (le-leb 1 w (i .least), le-leb w widest (i .most))
-
-row-bits : (f : Fields) (k : Kind) → InRow (row k (f .width) (f .parameter)) f
-    → Bits (row k (f .width) (f .parameter) .inward) × Bits (row k (f .width) (f .parameter) .outward)
-row-bits f Composite r = (refl, refl)
-row-bits f And r = (refl, refl)
-row-bits f Or r = (refl, refl)
-row-bits f Not r = (refl, refl)
-row-bits f Nand r = (refl, refl)
-row-bits f Nor r = (refl, refl)
-row-bits f Xor r = (refl, refl)
-row-bits f Switch r = (refl, refl)
-row-bits f Input r = (bits (f .parameter) (r .parameter), bits (f .parameter) (r .parameter))
-row-bits f Output r = (bits (f .parameter) (r .parameter), bits (f .parameter) (r .parameter))
-row-bits f Splitter r = (bits (f .parameter) (r .parameter), refl)
-row-bits f Joiner r = (refl, bits (f .parameter) (r .parameter))
-row-bits f Clock r = (refl, refl)
-row-bits f Const r = (refl, bits (f .width) (r .width))
 
 -- So numbers fit the ports of a component that obeys the table exactly where they lie below 2^width.
 module _ (f : Fields) (o : obeys f ≡ true) (xs : List ℕ) where

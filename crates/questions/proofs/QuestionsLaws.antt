@@ -11,7 +11,7 @@ use borrow.Author.Tests.{ne-eqb, le-leb, lt-leb, leb-false, lt-ltb, le-ltb, ltb-
 use lib.ListN.{length, getD}
 use lib.Dec.{eqb, leb, ltb}
 use Rattle.lists.specs.Lists.{every, first, overlay}
-use Rattle.lists.proofs.TestsLaws.{or-left, or-right}
+use Rattle.lists.proofs.TestsLaws.{or-right}
 use Rattle.value.specs.declared.Value.{Value}
 use Rattle.value.specs.Value.{level, ofWidth}
 use Rattle.kinds.specs.declared.Kind.the-variants.{Clock}
@@ -39,6 +39,7 @@ use Rattle.questions.specs.declared.Tip.{Tip}
 use Rattle.questions.specs.declared.Tip.the-variants.{Source, Target}
 use Rattle.questions.specs.Asked.{endOf, met, RowRight}
 use Rattle.rounds.proofs.Sound.{net-sound, wire-in}
+use Rattle.rounds.proofs.RoundLaws.{net-rows}
 use Rattle.net.proofs.NetLaws.{number-refused, number-net, number-passed}
 use Rattle.questions.proofs.EndsLaws.{sources-met, targets-met}
 
@@ -47,6 +48,7 @@ module _ (T : Tables) (z : netNumber T ≡ 0) where
   pub net-row : (i : ℕ) → i < T .counts .components → RowRight (T .components) (T .inputs) (T .outputs) i
   net-row i h =
       record {
+        row = omega (arith, net-rows T z, h);
         fit = kindsObeyed-fit T (netNumber-net T z .kinds) i h;
         inputs-in = net-sound T z .inputs-in i h;
         outputs-in = net-sound T z .outputs-in i h;
@@ -135,9 +137,6 @@ module _ (T : Tables) (side : Side) (i p m : ℕ) (w : m ≡ portCount (uncounte
   value-none h = rw (← e, h)
 
   module _ (h : (leb (T .counts .components) i || leb m p) ≡ false) where
-    pub value-component : i < T .counts .components
-    value-component = leb-false (T .counts .components) i (or-left _ _ h)
-
     pub value-port : p < portCount (uncounted (T .components) []) side i
     value-port = omega (arith, w, leb-false m p (or-right (leb (T .counts .components) i) _ h))
 

@@ -5,7 +5,7 @@
 --   meets ws m near far i j  one of m wires has component i at its end `near` and component j at its end `far`
 --   met ws m near far i n    the components below n that wires join to component i so
 --   markedBelow marks n           the numbers below n that are marked
---   RowRight cs is os i      component i's words fit its fields, and its ports stand in their tables
+--   RowRight cs is os i      component i's words stand in the table and fit its fields, and its ports stand in their tables
 -- Assumes nothing.
 use Prim.Native.Nat.{ℕ}
 use mathlib.Core.Path.{_≡_}
@@ -16,7 +16,7 @@ use lib.Dec.{eqb}
 use Rattle.lists.specs.Lists.{from, keep, any}
 use Rattle.kinds.specs.Kinds.{is}
 use Rattle.tables.specs.declared.Wire.{Wire}
-use Rattle.tables.specs.Words.{fieldsIn, wireIn, fieldsFit}
+use Rattle.tables.specs.Words.{RowInside, fieldsIn, wireIn, fieldsFit}
 use Rattle.net.specs.Parts.{InputsInside, OutputsInside}
 use Rattle.questions.specs.declared.Tip.{Tip}
 use Rattle.questions.specs.declared.Tip.the-variants.{Source, Target}
@@ -42,8 +42,9 @@ met ws m near far i n = keep (meets ws m near far i) (from 0 n)
 abbrev pub markedBelow : List ℕ → ℕ → List ℕ
 markedBelow marks n = keep (λ j. eqb (getD marks j 0) 1) (from 0 n)
 
--- Component i's words fit its fields, and its ports stand in their tables.
+-- Component i's words stand in the table and fit its fields, and its ports stand in their tables.
 pub record RowRight (cs is os : List ℕ) (i : ℕ) : Type 0 where
+  pub row : RowInside cs i
   pub fit : fieldsFit (fieldsIn cs i) ≡ true
   pub inputs-in : InputsInside cs is i
   pub outputs-in : OutputsInside cs os i

@@ -8,7 +8,7 @@ ghost use lib.ListN.{length, getD};
 ghost use lib.Dec.{eqb};
 ghost use Rattle.lists.specs.Lists.{from, first, overlay};
 ghost use Rattle.tables.specs.Tables.{tablesOf};
-ghost use Rattle.tables.specs.Words.{noCounts, uncounted, idIn};
+ghost use Rattle.tables.specs.Words.{RowInside, RowsInside, WiresInside, noCounts, uncounted, idIn};
 ghost use Rattle.net.specs.Parts.{lent};
 ghost use Rattle.questions.specs.Questions.{AsksCalm, indexGives, indexFound, AsksIndex, portCount, valueAt, valueGives, valueOnNet, AsksValue};
 ghost use Rattle.questions.specs.Questions.{listNumber, Listing, AsksSources, AsksTargets};
@@ -73,6 +73,7 @@ fn comp_at(wire: Wire, tip: Tip) -> usize
 
 // The search by id, among the first `count` components: the sole way from an id to a flat index.
 fn search_id(components: &[u64], count: usize, id: Id) -> Index
+    requires { ⌜ RowsInside (now components) count ⌝ }
     ensures { λ r. ⌜ indexGives r ≡ indexFound (first (λ i. eqb (idIn (now (components .entry)) i) (id .0)) (from 0 count)) ⌝ }
 {
     let mut i: usize = 0;
@@ -87,7 +88,7 @@ fn search_id(components: &[u64], count: usize, id: Id) -> Index
 
 // Marks the component at the far end of each wire that has component i at its near end.
 fn mark_ends(wires: &[u16], count: usize, near: Tip, far: Tip, i: usize, marks: &mut [u8])
-    requires { ⌜ ((k : ℕ) → k < count → endOf (now wires) k far < length (now marks)) ⌝ }
+    requires { ⌜ ((k : ℕ) → k < count → endOf (now wires) k far < length (now marks)) × WiresInside (now wires) count ⌝ }
     ensures { λ _. ⌜ ((j : ℕ) → getD (now (marks .exit)) j 0 ≡ cond (meets (now (wires .entry)) count near far i j) 1 (getD (now (marks .entry)) j 0)) ⌝ }
 {
     let mut k: usize = 0;
@@ -130,7 +131,7 @@ fn list_ends(
     list: &mut [u16],
 ) -> usize
     requires { ⌜ (counts .components ≤ 256) × (256 ≤ length (now list))
-        × ((k : ℕ) → k < counts .wires → endOf (now wires) k far < 256) ⌝ }
+        × ((k : ℕ) → k < counts .wires → endOf (now wires) k far < 256) × WiresInside (now wires) (counts .wires) ⌝ }
     ensures { λ r. ⌜ (r ≡ length (met (now (wires .entry)) (counts .wires) near far i (counts .components)))
         × (now (list .exit) ≡ overlay (met (now (wires .entry)) (counts .wires) near far i (counts .components)) (now (list .entry))) ⌝ }
 {
@@ -141,6 +142,7 @@ fn list_ends(
 
 // How many ports component i has on a side.
 fn port_count(components: &[u64], side: Side, i: usize) -> usize
+    requires { ⌜ RowInside (now components) i ⌝ }
     ensures { λ r. ⌜ r ≡ portCount (uncounted (now (components .entry)) []) side i ⌝ }
 {
     match side {
@@ -195,7 +197,10 @@ fn value_in(
     requires { ⌜ (i < counts .components → RowRight (now components) (now inputs) (now outputs) i) ⌝ }
     ensures { λ r. ⌜ valueGives r ≡ valueOnNet (lent (now (components .entry)) (now (inputs .entry)) (now (outputs .entry)) [] counts) side i port ⌝ }
 {
-    if (counts.components <= i) | (port_count(components, side, i) <= port) {
+    if counts.components <= i {
+        return Port::Refused(refused_by(17));
+    }
+    if port_count(components, side, i) <= port {
         return Port::Refused(refused_by(17));
     }
     Port::Is(value_at(components, inputs, outputs, side, i, port))

@@ -7,7 +7,7 @@ use mathlib.Core.Path.{_≡_, refl, sym, ap, _∙_, subst}
 use mathlib.Core.Logic.{inl, inr}
 use mathlib.Core.Bool.{Bool, true, false, cond, _||_, true≢false}
 use mathlib.Core.List.{List, [], _∷_, map, foldl}
-use Prim.Native.Nat.{ℕ, zero, suc, _-_, _≤_, _<_}
+use Prim.Native.Nat.{ℕ, zero, suc, _+_, _-_, _≤_, _<_}
 use native.Mathlib.Nat.{sub-zero}
 use native.Mathlib.Omega.{arith}
 use borrow.Author.Tests.{eqb-true, eqb-false, lt-ltb, le-ltb}
@@ -15,13 +15,12 @@ use lib.ListN.{length, getD, set, replicate, length-set, length-replicate, getD-
 use lib.Seq.{getD-set-same, getD-set-other}
 use lib.Dec.{eqb, ltb}
 use Rattle.lists.specs.Lists.{from, keep, has}
-use Rattle.lists.proofs.ListsLaws.{from-end}
+use Rattle.lists.proofs.ListsLaws.{from-step, from-end}
 use Rattle.lists.proofs.MembersLaws.{In, Distinct, keep-sound, has-complete, has-none, from-sound}
 use Rattle.lists.proofs.NamesLaws.{names-length}
 use Rattle.tables.specs.declared.Wire.{Wire}
 use Rattle.tables.specs.Tables.{Tables}
 use Rattle.tables.specs.Words.{wireIn}
-use Rattle.net.proofs.DownLaws.{down-step}
 use Rattle.rounds.specs.Round.{State, wiresFrom, send}
 use Rattle.rounds.specs.Links.{sourceIn, Chain, numbersFrom, IsLinked, Follows, Ready}
 
@@ -134,9 +133,14 @@ module _ (ws : List ℕ) (n : ℕ) (head after : List ℕ) where
   pub links-start : IsLinked ws n head after [] → IsLinked ws n head after (from n (n - n))
   links-start l = subst (IsLinked ws n head after) (sym (from-end n n (omega arith))) l
 
+  one-before : (k : ℕ) → 0 < k → k ≤ n → from (k - 1) (n - (k - 1)) ≡ (k - 1) ∷ from k (n - k)
+  one-before k a b =
+      let e : k - 1 + 1 ≡ k = omega arith in
+      from-step (k - 1) n (omega arith) ∙ ap (λ (j : ℕ). (k - 1) ∷ from j (n - j)) e
+
   pub links-next : (k : ℕ) → 0 < k → k ≤ n → IsLinked ws n head after ((k - 1) ∷ from k (n - k))
       → IsLinked ws n head after (from (k - 1) (n - (k - 1)))
-  links-next k a b l = subst (IsLinked ws n head after) (sym (down-step k n a b)) l
+  links-next k a b l = subst (IsLinked ws n head after) (sym (one-before k a b)) l
 
   -- A wire that is put first is not linked yet.
   pub links-new : (k : ℕ) → 0 < k → has (k - 1) (from k (n - k)) ≡ false

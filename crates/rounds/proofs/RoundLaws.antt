@@ -12,6 +12,7 @@ use Rattle.lists.proofs.MembersLaws.{In, in-getD}
 use Rattle.tables.specs.declared.Wire.{Wire}
 use Rattle.tables.specs.declared.Counts.{Counts}
 use Rattle.tables.specs.Tables.{Tables, tablesOf, wireAt, wiresIn, currentList, followingList, standingList}
+use Rattle.tables.specs.Words.{RowInside, RowsInside, WiresInside}
 use Rattle.tables.proofs.NamedLaws.{overlay-list}
 use Rattle.net.specs.Net.{names, netNumber}
 use Rattle.net.proofs.NetLaws.{names-existing, netNumber-net, netNumber-sizes}
@@ -28,17 +29,27 @@ copy-list n l t t' h e = rw e (overlay-list (take n l) t n (sym (length-take-le 
 
 -- What a net gives.
 module _ (T : Tables) (z : netNumber T ≡ 0) where
+  -- The words of its components and of its wires stand in the tables.
+  pub net-rows : RowsInside (T .components) (T .counts .components)
+  net-rows = omega (arith, net-within T z .components, netNumber-sizes T z .components)
+
+  pub net-wires : WiresInside (T .wires) (T .counts .wires)
+  net-wires = omega (arith, net-within T z .wires, netNumber-sizes T z .wires)
+
   pub net-runs : CanRun (wiring (T .components) (T .wires) (T .counts)) (T .inputs) (T .outputs)
   net-runs =
       let g = net-sound T z in
       record {
         few = g .few;
         few-wires = net-within T z .wires;
+        rows = net-rows;
+        wires-in = net-wires;
         obeyed = g .obeyed;
         inputs-in = g .inputs-in;
         outputs-in = g .outputs-in;
         source = λ k h. output-room T g (wireAt T k) (wire-in T k h);
         target = λ k h. input-room T g (wireAt T k) (wire-in T k h);
+        leaves = λ k h. g .source (wireAt T k) (wire-in T k h);
         named = λ k h. g .target (wireAt T k) (wire-in T k h);
       }
 
@@ -54,6 +65,17 @@ module _ (T : Tables) (z : netNumber T ≡ 0) where
         count = current-in T z;
         named = netNumber-net T z .current;
       }
+
+  -- The words of the components that the current list names stand in the table.
+  pub net-listed : (j : ℕ) → j < T .counts .current → RowInside (T .components) (getD (T .current) j 0)
+  net-listed j h =
+      let b : j < length (take (T .counts .current) (T .current)) = omega (arith, length-take-le (T .counts .current) (T .current) (current-in T z)) in
+      omega (
+        arith,
+        net-rows,
+        names-existing T (currentList T) (netNumber-net T z .current) (getD (T .current) j 0)
+            (subst (λ (x : ℕ). In x (currentList T)) (getD-take (T .counts .current) (T .current) j 0 h) (in-getD (currentList T) j 0 b)),
+      )
 
   -- The entries of the following and of the standing list are components of full size.
   pub net-named : ((j : ℕ) → j < T .counts .following → getD (T .following) j 0 < 256)

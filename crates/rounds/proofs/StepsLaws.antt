@@ -198,6 +198,8 @@ module _ (cs ws : List ℕ) (m : Counts) where
       → CanSend (uncounted cs []) ins outs n fol (wireIn ws k)
   runs-sends ins outs fol n k g l h =
       record {
+        source-row = omega (arith, g .leaves k h, g .rows);
+        target-row = omega (arith, g .named k h, g .rows);
         source = g .source k h;
         target = g .target k h;
         few = omega (arith, g .named k h, g .few);
@@ -231,11 +233,14 @@ module _ (cs ws : List ℕ) (m : Counts) where
       record {
         few = g .few;
         few-wires = g .few-wires;
+        rows = g .rows;
+        wires-in = g .wires-in;
         obeyed = g .obeyed;
         inputs-in = λ i h. omega (arith, g .inputs-in i h);
         outputs-in = λ i h. omega (arith, g .outputs-in i h);
         source = λ k h. omega (arith, g .source k h);
         target = λ k h. omega (arith, g .target k h);
+        leaves = g .leaves;
         named = g .named;
       }
 
@@ -289,6 +294,7 @@ module _ (cs ws : List ℕ) (m : Counts) where
   runs-evaluates ins outs i g h =
       record {
         few = omega (arith, g .few);
+        row = omega (arith, g .rows, h);
         obeyed = g .obeyed i h;
         inputs-in = g .inputs-in i h;
         outputs-in = g .outputs-in i h;

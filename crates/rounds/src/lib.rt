@@ -9,11 +9,11 @@ ghost use Rattle.kinds.specs.declared.Kind.the-variants.{Clock};
 ghost use Rattle.lists.specs.Lists.{every};
 ghost use mathlib.Core.Path.{_≡_};
 ghost use mathlib.Core.List.{List, [], foldl};
-ghost use Prim.Native.Nat.{_≤_, _<_};
-ghost use lib.ListN.{length, take};
+ghost use Prim.Native.Nat.{ℕ, _≤_, _<_};
+ghost use lib.ListN.{length, getD, take};
 ghost use Rattle.tables.specs.declared.Wire.{Wire};
 ghost use Rattle.tables.specs.Tables.{tablesOf};
-ghost use Rattle.tables.specs.Words.{uncounted, fieldsIn};
+ghost use Rattle.tables.specs.Words.{RowInside, uncounted, fieldsIn};
 ghost use Rattle.net.specs.Net.{netNumber};
 ghost use Rattle.rounds.specs.Round.{stateOf, wiresFrom, turn, leave, send, evaluated, visit, round};
 ghost use Rattle.rounds.specs.Steps.{wiring, stateAt, CanEvaluate, CanSend, CanRun, ListFits, Step};
@@ -341,7 +341,7 @@ pub fn net_round(
 
 // Whether the first `count` entries of a list name only Clocks. Crates simulator and questions call it for the current list of a net.
 pub fn only_clocks(components: &[u64], list: &[u16], count: usize) -> bool
-    requires { ⌜ count ≤ length (now list) ⌝ }
+    requires { ⌜ (count ≤ length (now list)) × ((j : ℕ) → j < count → RowInside (now components) (getD (now list) j 0)) ⌝ }
     ensures { λ r. ⌜ r ≡ every (λ i. is Clock (fieldsIn (now (components .entry)) i)) (take count (now (list .entry))) ⌝ }
 {
     let mut k: usize = 0;

@@ -5,6 +5,7 @@ ghost use mathlib.Core.Bool.{true, false};
 ghost use mathlib.Core.List.{List, [], _∷_};
 ghost use Prim.Native.Nat.{ℕ, _≤_, _<_};
 ghost use Rattle.lists.specs.Lists.{from, has};
+ghost use Rattle.tables.specs.Words.{WireInside, WiresInside};
 ghost use Rattle.rounds.specs.Links.{sourceIn, IsLinked, Ready, SourcesFew};
 
 // The head of a component that no wire leaves: past the wires of every net.
@@ -12,7 +13,7 @@ pub const NO_WIRE: u16 = 65535;
 
 // Puts wire k before the wires of its source that are linked already.
 fn link_first(wires: &[u16], k: usize, head: &mut [u16; 256], after: &mut [u16; 1024])
-    requires { ⌜ (k < 1024) × (sourceIn (now wires) k < 256) ⌝ }
+    requires { ⌜ (k < 1024) × (sourceIn (now wires) k < 256) × WireInside (now wires) k ⌝ }
     ensures { λ _. ⌜ ((n : ℕ) (order : List ℕ) → k < n → has k order ≡ false
         → IsLinked (now (wires .entry)) n (now (head .entry)) (now (after .entry)) order
         → IsLinked (now (wires .entry)) n (now (head .exit)) (now (after .exit)) (k ∷ order)) ⌝ }
@@ -26,7 +27,8 @@ fn link_first(wires: &[u16], k: usize, head: &mut [u16; 256], after: &mut [u16; 
 
 // Links the first `count` wires in stored order: the last is put first, and each before those behind it.
 fn link(wires: &[u16], count: usize, head: &mut [u16; 256], after: &mut [u16; 1024])
-    requires { ⌜ (count ≤ 1024) × SourcesFew (now wires) count × IsLinked (now wires) count (now head) (now after) [] ⌝ }
+    requires { ⌜ (count ≤ 1024) × SourcesFew (now wires) count × IsLinked (now wires) count (now head) (now after) []
+        × WiresInside (now wires) count ⌝ }
     ensures { λ _. ⌜ IsLinked (now (wires .entry)) count (now (head .exit)) (now (after .exit)) (from 0 count) ⌝ }
 {
     let mut k = count;
@@ -46,7 +48,8 @@ pub fn link_once(
     head: &mut [u16; 256],
     after: &mut [u16; 1024],
 ) -> bool
-    requires { ⌜ (count ≤ 1024) × SourcesFew (now wires) count × Ready linked (now wires) count (now head) (now after) ⌝ }
+    requires { ⌜ (count ≤ 1024) × SourcesFew (now wires) count × Ready linked (now wires) count (now head) (now after)
+        × WiresInside (now wires) count ⌝ }
     ensures { λ r. ⌜ (0 < current → r ≡ true) × Ready r (now (wires .entry)) count (now (head .exit)) (now (after .exit)) ⌝ }
 {
     if linked | (current == 0) {

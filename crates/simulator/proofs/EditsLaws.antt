@@ -22,12 +22,13 @@ use Rattle.kinds.specs.Given.{refusedBy}
 use Rattle.tables.specs.declared.Counts.{Counts}
 use Rattle.tables.specs.declared.Answer.the-variants.{Done, Refused}
 use Rattle.tables.specs.Tables.{Tables, tablesOf, fieldsAt, firstInput, firstOutput, standingList, wireAt}
-use Rattle.tables.specs.Words.{fieldsIn, firstInputIn, firstOutputIn}
+use Rattle.tables.specs.Words.{RowInside, fieldsIn, firstInputIn, firstOutputIn}
 use Rattle.net.specs.Net.{netNumber}
 use Rattle.net.proofs.NetLaws.{netNumber-net, netNumber-sizes}
 use Rattle.rounds.specs.Round.{State, withInputs, withOutputs, stateOf, leave, portSet, editedState}
 use Rattle.simulator.specs.Calls.{driven, editNumber, editTables, Edits}
 use Rattle.simulator.specs.Asked.{entered, editRefusal}
+use Rattle.rounds.proofs.RoundLaws.{net-rows}
 use Rattle.rounds.proofs.Evaluation.{switch-outputs, input-inputs}
 use Rattle.rounds.proofs.Sound.{net-sound, net-within, current-in, following-in}
 use Rattle.rounds.proofs.StepsLaws.{append-room}
@@ -133,6 +134,9 @@ module _ (T : Tables) (i v : ℕ) (z : editNumber T i v ≡ 0) where
       an-input : (s q d : Bool) → (s || (q && not d)) ≡ true → (s ≡ true → ⊥) → q ≡ true
       an-input true q d e h = absurd (h refl)
       an-input false q d e h = and-left q (not d) e
+
+  pub edit-row : RowInside (T .components) i
+  edit-row = omega (arith, edit-there, net-rows T edit-is-net)
 
   pub edit-index : i < 65536
   edit-index = omega (arith, edit-there, net-within T edit-is-net .components)

@@ -7,7 +7,7 @@ ghost use lib.ListN.{length, set};
 ghost use Rattle.kinds.specs.declared.Kind.the-variants.{Switch};
 ghost use Rattle.kinds.specs.Kinds.{is};
 ghost use Rattle.tables.specs.Tables.{tablesOf, countsAfter};
-ghost use Rattle.tables.specs.Words.{fieldsFit, fieldsIn, firstInputIn, firstOutputIn};
+ghost use Rattle.tables.specs.Words.{RowInside, WiresInside, fieldsFit, fieldsIn, firstInputIn, firstOutputIn};
 ghost use Rattle.simulator.specs.Calls.{editNumber, Edits};
 ghost use Rattle.simulator.specs.Asked.{entered, editRefusal};
 use kinds::Kind;
@@ -19,6 +19,7 @@ use value::Value;
 
 // Whether one of the first `count` wires enters component i.
 fn is_driven(wires: &[u16], count: usize, i: usize) -> bool
+    requires { ⌜ WiresInside (now wires) count ⌝ }
     ensures { λ r. ⌜ r ≡ entered (now (wires .entry)) count i ⌝ }
 {
     let mut k: usize = 0;
@@ -35,7 +36,8 @@ fn is_driven(wires: &[u16], count: usize, i: usize) -> bool
 // What an edit of a net checks: 17 where there is no component i; 18 where it is neither a Switch nor an Input without a wire;
 // 19 where its value does not fit the port that is set.
 fn edit_number(components: &[u64], wires: &[u16], counts: Counts, i: usize, number: u64) -> u32
-    requires { ⌜ (i < counts .components → fieldsFit (fieldsIn (now components) i) ≡ true) ⌝ }
+    requires { ⌜ (i < counts .components → RowInside (now components) i × (fieldsFit (fieldsIn (now components) i) ≡ true))
+        × WiresInside (now wires) (counts .wires) ⌝ }
     ensures { λ r. ⌜ r ≡ editRefusal (now (components .entry)) (now (wires .entry)) counts i number ⌝ }
 {
     if counts.components <= i {
@@ -61,7 +63,8 @@ fn edit_number(components: &[u64], wires: &[u16], counts: Counts, i: usize, numb
 
 // Sets the output of a Switch, and of any other component the first input.
 fn set_port(components: &[u64], inputs: &mut [u64], outputs: &mut [u64], i: usize, number: u64)
-    requires { ⌜ (is Switch (fieldsIn (now components) i) ≡ true → firstOutputIn (now components) i < length (now outputs))
+    requires { ⌜ RowInside (now components) i
+        × (is Switch (fieldsIn (now components) i) ≡ true → firstOutputIn (now components) i < length (now outputs))
         × ((is Switch (fieldsIn (now components) i) ≡ true → ⊥) → firstInputIn (now components) i < length (now inputs)) ⌝ }
     ensures { λ _. ⌜ (now (inputs .exit) ≡ cond (is Switch (fieldsIn (now (components .entry)) i)) (now (inputs .entry))
         (set (now (inputs .entry)) (firstInputIn (now (components .entry)) i) number))

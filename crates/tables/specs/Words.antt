@@ -3,11 +3,13 @@
 --   uncounted cs ws                       tables of the components cs and the wires ws, all else empty
 --   fieldsIn, idIn, firstInputIn, ..      what the definitions of specs/Tables say of such tables
 --   rowPlace i, wirePlace k               where the words of component i and of wire k start
+--   RowInside, WireInside                 the words of component i, of wire k stand in their table; RowsInside, WiresInside: of the first n
 --   fieldsFit f                           the fields f are no larger than a drawing can hold
 -- Assumes nothing.
-use Prim.Native.Nat.{ℕ, _*_}
+use Prim.Native.Nat.{ℕ, _+_, _*_, _≤_}
 use mathlib.Core.Bool.{Bool, _&&_}
 use mathlib.Core.List.{List, []}
+use lib.ListN.{length}
 use Rattle.value.specs.Value.{below}
 use Rattle.kinds.specs.declared.table.Fields.{Fields}
 use Rattle.tables.specs.declared.Counts.{Counts}
@@ -45,6 +47,20 @@ rowPlace i = 8 * i
 
 abbrev pub wirePlace : ℕ → ℕ
 wirePlace k = 4 * k
+
+-- The words of component i stand in the table of components, and those of wire k in the table of wires.
+abbrev pub RowInside : List ℕ → ℕ → Type 0
+RowInside cs i = rowPlace i + 8 ≤ length cs
+
+abbrev pub WireInside : List ℕ → ℕ → Type 0
+WireInside ws k = wirePlace k + 4 ≤ length ws
+
+-- Those of the first n do.
+abbrev pub RowsInside : List ℕ → ℕ → Type 0
+RowsInside cs n = rowPlace n ≤ length cs
+
+abbrev pub WiresInside : List ℕ → ℕ → Type 0
+WiresInside ws n = wirePlace n ≤ length ws
 
 -- A kind of one byte, and numbers of two. A word of the table may be larger.
 unfoldable pub fieldsFit : Fields → Bool

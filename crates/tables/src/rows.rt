@@ -1,5 +1,6 @@
 // The words of a component: read one by one, compared, taken together as its fields, and laid. Rule: docs/SPECIFICATION.md, "Numbers
-// given back". Words are compared whole, so a kind word of 263 is no Switch. No other crate knows their order.
+// given back". Words are compared whole, so a kind word of 263 is no Switch. No other crate knows their order. A component's words
+// stand in the table: callers know it of every component below the count, in tables of full size.
 ghost use mathlib.Core.Path.{_≡_};
 ghost use mathlib.Core.Bool.{true};
 ghost use Prim.Native.Nat.{_+_, _<_, _≤_};
@@ -8,25 +9,22 @@ ghost use lib.ListN.{length};
 ghost use lib.Seq.{sets};
 ghost use Rattle.kinds.specs.Kinds.{is};
 ghost use Rattle.tables.specs.Tables.{wordIn, componentWords};
-ghost use Rattle.tables.specs.Words.{fieldsIn, idIn, firstInputIn, firstOutputIn, rowPlace, fieldsFit};
-use crate::words::word;
+ghost use Rattle.tables.specs.Words.{fieldsIn, idIn, firstInputIn, firstOutputIn, RowInside, rowPlace, fieldsFit};
 use kinds::Fields;
 use kinds::Id;
 use kinds::Kind;
 
 // Word k of component i.
 fn word_of(components: &[u64], i: usize, k: usize) -> u64
-    requires { ⌜ k < 8 ⌝ }
+    requires { ⌜ (k < 8) × RowInside (now components) i ⌝ }
     ensures { λ r. ⌜ r ≡ wordIn (now (components .entry)) i k ⌝ }
 {
-    if components.len() <= i {
-        return 0;
-    }
-    word(components, 8 * i + k)
+    components[8 * i + k]
 }
 
 // The word of component i that should be a kind's number.
 pub fn kind_word(components: &[u64], i: usize) -> u64
+    requires { ⌜ RowInside (now components) i ⌝ }
     ensures { λ r. ⌜ r ≡ fieldsIn (now (components .entry)) i .kind ⌝ }
 {
     word_of(components, i, 0)
@@ -34,6 +32,7 @@ pub fn kind_word(components: &[u64], i: usize) -> u64
 
 // The word that should be an id.
 pub fn id_word(components: &[u64], i: usize) -> u64
+    requires { ⌜ RowInside (now components) i ⌝ }
     ensures { λ r. ⌜ r ≡ idIn (now (components .entry)) i ⌝ }
 {
     word_of(components, i, 1)
@@ -41,6 +40,7 @@ pub fn id_word(components: &[u64], i: usize) -> u64
 
 // Its parameter.
 pub fn parameter_word(components: &[u64], i: usize) -> u64
+    requires { ⌜ RowInside (now components) i ⌝ }
     ensures { λ r. ⌜ r ≡ fieldsIn (now (components .entry)) i .parameter ⌝ }
 {
     word_of(components, i, 3)
@@ -48,6 +48,7 @@ pub fn parameter_word(components: &[u64], i: usize) -> u64
 
 // How many inputs component i has.
 pub fn input_count(components: &[u64], i: usize) -> usize
+    requires { ⌜ RowInside (now components) i ⌝ }
     ensures { λ r. ⌜ r ≡ fieldsIn (now (components .entry)) i .inputs ⌝ }
 {
     word_of(components, i, 4) as usize
@@ -55,6 +56,7 @@ pub fn input_count(components: &[u64], i: usize) -> usize
 
 // How many outputs.
 pub fn output_count(components: &[u64], i: usize) -> usize
+    requires { ⌜ RowInside (now components) i ⌝ }
     ensures { λ r. ⌜ r ≡ fieldsIn (now (components .entry)) i .outputs ⌝ }
 {
     word_of(components, i, 5) as usize
@@ -62,6 +64,7 @@ pub fn output_count(components: &[u64], i: usize) -> usize
 
 // Where its inputs start in their table.
 pub fn first_input(components: &[u64], i: usize) -> usize
+    requires { ⌜ RowInside (now components) i ⌝ }
     ensures { λ r. ⌜ r ≡ firstInputIn (now (components .entry)) i ⌝ }
 {
     word_of(components, i, 6) as usize
@@ -69,6 +72,7 @@ pub fn first_input(components: &[u64], i: usize) -> usize
 
 // Where its outputs start.
 pub fn first_output(components: &[u64], i: usize) -> usize
+    requires { ⌜ RowInside (now components) i ⌝ }
     ensures { λ r. ⌜ r ≡ firstOutputIn (now (components .entry)) i ⌝ }
 {
     word_of(components, i, 7) as usize
@@ -76,6 +80,7 @@ pub fn first_output(components: &[u64], i: usize) -> usize
 
 // Whether component i is of a kind.
 pub fn is_kind(components: &[u64], i: usize, kind: Kind) -> bool
+    requires { ⌜ RowInside (now components) i ⌝ }
     ensures { λ r. ⌜ r ≡ is kind (fieldsIn (now (components .entry)) i) ⌝ }
 {
     kind_word(components, i) == kinds::number_of(kind) as u64
@@ -83,6 +88,7 @@ pub fn is_kind(components: &[u64], i: usize, kind: Kind) -> bool
 
 // Whether component i has this id.
 pub fn has_id(components: &[u64], i: usize, id: Id) -> bool
+    requires { ⌜ RowInside (now components) i ⌝ }
     ensures { λ r. ⌜ r ≡ eqb (idIn (now (components .entry)) i) (id .0) ⌝ }
 {
     id_word(components, i) == id.0 as u64
@@ -90,6 +96,7 @@ pub fn has_id(components: &[u64], i: usize, id: Id) -> bool
 
 // Whether the words of component i are no larger than fields of a component can be.
 pub fn fields_fit(components: &[u64], i: usize) -> bool
+    requires { ⌜ RowInside (now components) i ⌝ }
     ensures { λ r. ⌜ r ≡ fieldsFit (fieldsIn (now (components .entry)) i) ⌝ }
 {
     let kind = word_of(components, i, 0);
@@ -102,7 +109,7 @@ pub fn fields_fit(components: &[u64], i: usize) -> bool
 // The fields of component i, whose words fit. Crates net, rounds, simulator and questions call it for the components
 // of a net.
 pub fn fields_at(components: &[u64], i: usize) -> Fields
-    requires { ⌜ fieldsFit (fieldsIn (now components) i) ≡ true ⌝ }
+    requires { ⌜ RowInside (now components) i × (fieldsFit (fieldsIn (now components) i) ≡ true) ⌝ }
     ensures { λ r. ⌜ r ≡ fieldsIn (now (components .entry)) i ⌝ }
 {
     Fields {

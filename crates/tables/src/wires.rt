@@ -4,26 +4,22 @@ ghost use Prim.Native.Nat.{_+_, _*_, _<_, _≤_};
 ghost use lib.ListN.{length, getD};
 ghost use lib.Seq.{sets};
 ghost use Rattle.tables.specs.Tables.{endAt, wireWords};
-ghost use Rattle.tables.specs.Words.{wireIn, wirePlace};
+ghost use Rattle.tables.specs.Words.{wireIn, wirePlace, WireInside};
 use crate::End;
 use crate::FlatIdx;
 use crate::Wire;
 
 // Word j of wire k.
 fn word_of(wires: &[u16], k: usize, j: usize) -> u16
-    requires { ⌜ j < 4 ⌝ }
+    requires { ⌜ (j < 4) × WireInside (now wires) k ⌝ }
     ensures { λ r. ⌜ r ≡ getD (now (wires .entry)) (4 * k + j) 0 ⌝ }
 {
-    if wires.len() <= k {
-        return 0;
-    }
-    let at = 4 * k + j;
-    if at < wires.len() { wires[at] } else { 0 }
+    wires[4 * k + j]
 }
 
 // The end of wire k whose words start at word j of it.
 fn end_at(wires: &[u16], k: usize, j: usize) -> End
-    requires { ⌜ j < 3 ⌝ }
+    requires { ⌜ (j < 3) × WireInside (now wires) k ⌝ }
     ensures { λ r. ⌜ r ≡ endAt (getD (now (wires .entry)) (4 * k + j) 0) (getD (now (wires .entry)) (4 * k + (j + 1)) 0) ⌝ }
 {
     let comp = FlatIdx(word_of(wires, k, j) as usize);
@@ -31,8 +27,9 @@ fn end_at(wires: &[u16], k: usize, j: usize) -> End
     End { comp, port }
 }
 
-// Wire k.
+// Wire k, whose words stand in the table.
 pub fn wire_at(wires: &[u16], k: usize) -> Wire
+    requires { ⌜ WireInside (now wires) k ⌝ }
     ensures { λ r. ⌜ r ≡ wireIn (now (wires .entry)) k ⌝ }
 {
     let src = end_at(wires, k, 0);

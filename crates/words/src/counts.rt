@@ -13,7 +13,11 @@ use tables::Counts;
 fn count_at(words: &[u64], at: usize) -> usize
     ensures { λ r. ⌜ r ≡ getD (now (words .entry)) at 0 ⌝ }
 {
-    tables::word(words, at) as usize
+    if at < words.len() {
+        words[at] as usize
+    } else {
+        0
+    }
 }
 
 // The counts that words hold.

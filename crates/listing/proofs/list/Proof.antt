@@ -5,6 +5,7 @@ use native.Mathlib.Omega.{arith}
 use Rattle.component.specs.Record.{IsBytes}
 use Rattle.tables.specs.Tables.{Tables, tablesOf}
 use Rattle.net.specs.Net.{netNumber}
+use Rattle.rounds.proofs.RoundLaws.{net-rows, net-wires}
 use Rattle.lines.proofs.LinesLaws.{both, named-as}
 use Rattle.running.specs.Running.{roundLines}
 use Rattle.listing.specs.Listing.{fresh}
@@ -27,6 +28,10 @@ left-net c =
     let loads = r .ensures (fresh .counts) in
     let bytes : IsBytes file = λ i. omega (arith, c .before .before .before .before .before .before .before .before .before .before .before .before .before .before .before .before .before .before .shared-slice-known .given i) in
     listed-net file (r .result) (left c) loads _ (c .answer .given .1) bytes
+
+put-net-requires : tie.Need-put-net-requires
+put-net-requires c κs =
+    let d = c .before .before .before .before in (net-rows (left d) (left-net d), net-wires (left d) (left-net d))
 
 put-rounds-requires : tie.Need-put-rounds-requires
 put-rounds-requires c κs =
@@ -69,7 +74,7 @@ list-spec =
     (λ c. search needs)
     (λ c. search needs)
     (λ c. search needs)
-    (λ c κs. search needs)
+    put-net-requires
     (λ c. search needs)
     (λ c. search needs)
     (λ c. search needs)

@@ -2,6 +2,7 @@
 -- Assumes nothing.
 use Rattle.tables.specs.Tables.{Tables, tablesOf}
 use Rattle.rounds.proofs.Sound.{current-in}
+use Rattle.rounds.proofs.RoundLaws.{net-listed}
 use Rattle.questions.proofs.QuestionsLaws.{calm-refused, calm-is}
 use Rattle.net.proofs.NetLaws.{passed-net}
 use borrow.Author.Needs.{needs}
@@ -26,7 +27,8 @@ returns c =
 only-clocks-requires : tie.Need-only-clocks-requires
 only-clocks-requires c κs =
     let s = c .before .before .before .before .before .before .before .before .before in
-    current-in (came s) (passed-net (came s) _ (c .before .net-number .ensures) (c .if1 .left))
+    let z = passed-net (came s) _ (c .before .net-number .ensures) (c .if1 .left) in
+    (current-in (came s) z, net-listed (came s) z)
 
 returns-2 : tie.Need-returns-2
 returns-2 c =

@@ -7,6 +7,7 @@ use Rattle.tables.specs.Tables.{Tables, tablesOf}
 use Rattle.questions.specs.Questions.{listNumber}
 use Rattle.questions.specs.Asked.{met}
 use Rattle.rounds.proofs.Sound.{net-within}
+use Rattle.rounds.proofs.RoundLaws.{net-wires}
 use Rattle.questions.proofs.QuestionsLaws.{net-end, list-full, list-net, joined-refused, joined-listed}
 use borrow.Author.Needs.{needs}
 use Rattle.questions.proofs.list_joined.Statement.{statement}
@@ -46,6 +47,7 @@ list-ends-requires c κs =
       net-within T z .components,
       list-full T (s .args .i) (s .args .list .now) (passed (c .before)),
       net-end T z (s .args .far),
+      net-wires T z,
     )
 
 returns-2 : tie.Need-returns-2

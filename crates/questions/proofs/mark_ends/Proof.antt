@@ -40,7 +40,7 @@ slice-write-marks : tie.Need-slice-write-marks Inv-loop μ-loop
 slice-write-marks c =
     let at-loop = c .before .before .before .before .before in
     let s = at-loop .before .before .before in
-    omega (arith, far-end c, s .pre (at-loop .loop .k) (c .before .before .before .before .loop-test .taken))
+    omega (arith, far-end c, s .pre .0 (at-loop .loop .k) (c .before .before .before .before .loop-test .taken))
 
 loop-less : tie.Need-loop-less Inv-loop μ-loop
 loop-less c = omega arith
@@ -59,7 +59,7 @@ loop-again c =
       simp length-set (l .inv .1),
       mark-here (a .wires .now) (a .marks .now) (l .marks) (a .near) (a .far) (a .i) (l .k) (l .inv .2) (w .1 .result)
           (sym n ∙ w .0 .taken) (far _ (w .1 .ensures))
-          (omega (arith, far _ (w .1 .ensures), l .inv .1, s .pre (l .k) (c .before .before .before .loop-test .taken))),
+          (omega (arith, far _ (w .1 .ensures), l .inv .1, s .pre .0 (l .k) (c .before .before .before .loop-test .taken))),
     ))
     (λ w. rw (w .1) (
       omega arith,

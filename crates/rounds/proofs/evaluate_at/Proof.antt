@@ -12,7 +12,7 @@ use Rattle.rounds.proofs.evaluate_at.Statement.{statement}
 use Rattle.rounds.proofs.evaluate_at.Tie as tie
 
 fields-at-requires : tie.Need-fields-at-requires
-fields-at-requires c κs = obeyed-fit _ (c .before .before .before .before .pre .1 .obeyed)
+fields-at-requires c κs = let p = c .before .before .before .before .pre .1 in (p .row, obeyed-fit _ (p .obeyed))
 
 part-update-end : tie.Need-part-update-end
 part-update-end c =
@@ -72,8 +72,8 @@ evaluate-at-spec =
     tie.close
     (tie.spec
     fields-at-requires
-    (λ c κs. search needs)
-    (λ c κs. search needs)
+    (λ c κs. c .before .before .before .before .before .pre .1 .row)
+    (λ c κs. c .before .before .before .before .before .before .pre .1 .row)
     (λ c. search needs)
     (λ c. search needs)
     (λ c. search needs)
@@ -90,7 +90,7 @@ evaluate-at-spec =
     (λ c. search needs)
     (λ c. search needs)
     returns
-    (λ c κs. search needs)
+    (λ c κs. c .before .before .before .before .before .before .before .before .before .before .before .before .before .before .before .before .pre .1 .row)
     (λ c. search needs)
     returns-2
     (λ c. search needs)

@@ -30,13 +30,21 @@ abbrev μ-loop : tie.MeasureT-loop
 loop-holds : tie.Need-loop-holds Inv-loop μ-loop
 loop-holds c = (omega arith, refl)
 
+entry-requires : tie.Need-entry-requires Inv-loop μ-loop
+entry-requires c κs = let s = c .before .before .before .before in omega (arith, s .pre .0, c .loop-test .taken)
+
+is-kind-requires : tie.Need-is-kind-requires Inv-loop μ-loop
+is-kind-requires c κs =
+    let s = c .before .before .before .before .before in
+    rw (c .entry .ensures) (s .pre .1 (c .before .before .loop .k) (c .before .loop-test .taken))
+
 returns : tie.Need-returns Inv-loop μ-loop
 returns c =
     let at-loop = c .before .before .before .before in
     let s = at-loop .before .before .before in
     let a = s .args in
     let l = at-loop .loop in
-    everySlice-fails (clock (a .components .now)) (a .list .now) (l .k) (a .count) _ (s .pre) (l .inv .1) (omega arith)
+    everySlice-fails (clock (a .components .now)) (a .list .now) (l .k) (a .count) _ (s .pre .0) (l .inv .1) (omega arith)
     (ap (clock (a .components .now)) (sym (c .before .before .entry .ensures)) ∙ sym
     (c .before .is-kind .ensures) ∙ not-true _ (c .if1 .taken))
 
@@ -47,7 +55,7 @@ loop-again c =
     let a = s .args in
     let l = at-loop .loop in (
       omega arith,
-      everySlice-next (clock (a .components .now)) (a .list .now) (l .k) (a .count) _ (s .pre) (l .inv .1) (omega arith)
+      everySlice-next (clock (a .components .now)) (a .list .now) (l .k) (a .count) _ (s .pre .0) (l .inv .1) (omega arith)
           (ap (clock (a .components .now)) (sym (c .before .before .entry .ensures)) ∙ sym
           (c .before .is-kind .ensures) ∙ not-false _ (c .if1 .left)),
     )
@@ -57,7 +65,7 @@ returns-2 c =
     let s = c .before .before .before .before in
     let a = s .args in
     let l = c .before .loop in
-    everySlice-end (clock (a .components .now)) (a .list .now) (l .k) (a .count) _ (s .pre) (l .inv .1) (omega arith)
+    everySlice-end (clock (a .components .now)) (a .list .now) (l .k) (a .count) _ (s .pre .0) (l .inv .1) (omega arith)
 
 pub only-clocks-spec : {M : Type 1} → statement M
 only-clocks-spec =
@@ -66,8 +74,8 @@ only-clocks-spec =
     Inv-loop
     μ-loop
     loop-holds
-    (λ c κs. search needs)
-    (λ c κs. search needs)
+    entry-requires
+    is-kind-requires
     returns
     (λ c. search needs)
     (λ c. search needs)

@@ -66,14 +66,14 @@ pub send-along-spec : {M : Type 1} → statement M
 send-along-spec =
     tie.close
     (tie.spec
-    (λ c κs. search needs)
+    (λ c κs. c .before .before .before .before .pre .0 .source-row)
     (λ c. search needs)
     add-source
-    (λ c κs. search needs)
+    (λ c κs. c .before .before .before .before .before .before .pre .0 .target-row)
     (λ c. search needs)
     add-target
-    (λ c κs. search needs)
-    (λ c κs. search needs)
+    (λ c κs. omega (arith, c .before .before .before .before .before .before .before .before .pre .0 .source, source-place (c .before .before .before)))
+    (λ c κs. omega (arith, c .before .before .before .before .before .before .before .before .before .before .pre .0 .target, target-place (c .before .before .before)))
     (λ c. search needs)
     returns
     mul-inputs

@@ -115,7 +115,7 @@ send-wires-spec =
     (λ c. c .before .before .before .before .before .pre .3)
     (λ c κs. search needs)
     loop-holds
-    (λ c κs. search needs)
+    (λ c κs. omega (arith, c .if1 .taken, c .before .before .before .before .before .before .before .before .before .before .pre .0 .wires-in))
     send-along-requires
     mul-wide-2
     element-copy-out-wide-2

@@ -11,7 +11,7 @@ returns : tie.Need-returns
 returns c = sym (unfit-obeys _ (sym (c .before .fields-fit .ensures) ∙ not-true _ (c .if1 .taken)))
 
 fields-at-requires : tie.Need-fields-at-requires
-fields-at-requires c κs = sym (c .before .fields-fit .ensures) ∙ not-false _ (c .if1 .left)
+fields-at-requires c κs = (c .before .before .before .pre, sym (c .before .fields-fit .ensures) ∙ not-false _ (c .if1 .left))
 
 returns-2 : tie.Need-returns-2
 returns-2 c = rw (c .before .is-primitive .ensures, c .obeys .ensures, c .before .before .fields-at .ensures)

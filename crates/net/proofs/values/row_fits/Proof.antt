@@ -3,6 +3,7 @@
 use mathlib.Core.Path.{ap}
 use native.Mathlib.Omega.{arith}
 use Rattle.kinds.specs.declared.table.Fields.{Fields}
+use Rattle.tables.proofs.RowsLaws.{obeyed-fit}
 use borrow.Author.Needs.{needs}
 use Rattle.net.proofs.values.row_fits.Statement.{statement}
 use Rattle.net.proofs.values.row_fits.Tie as tie
@@ -13,7 +14,7 @@ all-fit-requires c κs =
     let f = c .before .before .before .before .before .fields-at in
     omega (
       arith,
-      s .pre .1,
+      s .pre .2,
       c .before .before .before .before .first-input .ensures,
       ap (λ (f : Fields). f .inputs)
           (f .ensures),
@@ -25,7 +26,7 @@ all-fit-requires-2 c κs =
     let f = c .before .before .before .before .before .before .before .fields-at in
     omega (
       arith,
-      s .pre .2,
+      s .pre .3,
       c .before .before .before .before .before .first-output .ensures,
       ap
           (λ (f : Fields). f .outputs) (f .ensures),
@@ -48,9 +49,9 @@ pub row-fits-spec : {M : Type 1} → statement M
 row-fits-spec =
     tie.close
     (tie.spec
-    (λ c κs. search needs)
-    (λ c κs. search needs)
-    (λ c κs. search needs)
+    (λ c κs. let s = c .before .before .before in (s .pre .0, obeyed-fit _ (s .pre .1)))
+    (λ c κs. c .before .before .before .before .pre .0)
+    (λ c κs. c .before .before .before .before .before .pre .0)
     (λ c κs. search needs)
     (λ c κs. search needs)
     (λ c. search needs)

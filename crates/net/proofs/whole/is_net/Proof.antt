@@ -38,7 +38,7 @@ within c = circuit-within (came (entry c)) (circuit c)
 
 is-circuit-requires : tie.Need-is-circuit-requires
 is-circuit-requires c κs =
-    let f = full (c .before .before .before .before .before .before .before) in (f .inputs, f .outputs)
+    let f = full (c .before .before .before .before .before .before .before) in (f .components, f .inputs, f .outputs, f .wires)
 
 returns : tie.Need-returns
 returns c =

@@ -23,8 +23,11 @@ loop-holds c =
 link-first-requires : tie.Need-link-first-requires Inv-loop μ-loop
 link-first-requires c κs =
     let s = c .before .before .before .before .before in
-    let l = c .before .before .before .loop in
-    (omega (arith, l .inv .0, s .pre .0, c .before .before .loop-test .taken), s .pre .1 (l .k - 1) (omega (arith, l .inv .0, c .before .before .loop-test .taken)))
+    let l = c .before .before .before .loop in (
+      omega (arith, l .inv .0, s .pre .0, c .before .before .loop-test .taken),
+      s .pre .1 (l .k - 1) (omega (arith, l .inv .0, c .before .before .loop-test .taken)),
+      omega (arith, l .inv .0, s .pre .3, c .before .before .loop-test .taken),
+    )
 
 loop-again : tie.Need-loop-again Inv-loop μ-loop
 loop-again c =

@@ -27,7 +27,7 @@ pub link-first-spec : {M : Type 1} → statement M
 link-first-spec =
     tie.close
     (tie.spec
-    (λ c κs. search needs)
+    (λ c κs. c .before .pre .2)
     (λ c. omega (arith, few c))
     (λ c. few c)
     (λ c. search needs)

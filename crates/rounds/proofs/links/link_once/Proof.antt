@@ -12,7 +12,7 @@ link-requires : tie.Need-link-requires
 link-requires c κs =
     let s = c .before .before .before .before in
     let a = s .args in
-    (s .pre .0, s .pre .1, ready-none (a .linked) (a .current) (a .wires .now) (a .count) (a .head .now) (a .after .now) (c .before .before .if1 .left) (s .pre .2))
+    (s .pre .0, s .pre .1, ready-none (a .linked) (a .current) (a .wires .now) (a .count) (a .head .now) (a .after .now) (c .before .before .if1 .left) (s .pre .2), s .pre .3)
 
 pub link-once-spec : {M : Type 1} → statement M
 link-once-spec = tie.close (tie.spec returns link-requires (λ c. (λ h. refl, c .link .ensures)))

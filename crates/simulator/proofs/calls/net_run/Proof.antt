@@ -12,7 +12,7 @@ use Rattle.rounds.specs.Round.{roundOf}
 use Rattle.rounds.specs.Links.{Ready}
 use Rattle.rounds.proofs.Sound.{net-within}
 use Rattle.rounds.proofs.LinksLaws.{linked-none, ready-follows}
-use Rattle.rounds.proofs.RoundLaws.{net-sources, round-stored, round-wires}
+use Rattle.rounds.proofs.RoundLaws.{net-sources, net-wires, net-listed, round-stored, round-wires}
 use Rattle.simulator.proofs.RunLaws.{onTop, stopped, run-start, round-net, run-turn, test-going, test-below, run-end, calm-list}
 use borrow.Author.Needs.{needs}
 use Rattle.simulator.proofs.calls.net_run.Statement.{statement}
@@ -82,7 +82,7 @@ link-once-requires : tie.Need-link-once-requires Inv-loop μ-loop
 link-once-requires c κs =
     let T = here (c .before .before .before .before) in
     let l = c .before .before .before .before .loop in
-    (net-within T (l .inv .7) .wires, net-sources T (l .inv .7), l .inv .9)
+    (net-within T (l .inv .7) .wires, net-sources T (l .inv .7), l .inv .9, net-wires T (l .inv .7))
 
 net-round-requires : tie.Need-net-round-requires Inv-loop μ-loop
 net-round-requires c κs =
@@ -119,7 +119,7 @@ only-clocks-requires c κs =
     let s = c .before .before .before .before .before .before .before .before .before .before .before .before .before .before .before .before .before .before .before .before .before .before .before .before .before .before .before .before .before .before .before .before in
     let U = then (c .before .before .before .before .before .before .before .before .before .before .before) in
     let z = round-net (s .args .time) (here (c .before .before .before .before .before .before .before .before .before .before .before .before .before .before .before .before .before .before .before .before .before .before .before .before)) U (c .before .before .before .before .before .before .before .before .before .before .before .before .before .before .before .before .before .before .before .before .before .before .before .before .loop .inv .7) (made (c .before .before .before .before .before .before .before .before .before .before .before)) in
-    omega (arith, net-within U z .current, netNumber-sizes U z .current)
+    (omega (arith, net-within U z .current, netNumber-sizes U z .current), net-listed U z)
 
 loop-less : tie.Need-loop-less Inv-loop μ-loop
 loop-less c =

@@ -5,7 +5,7 @@ use Rattle.tables.specs.Tables.{Tables, tablesOf, wiresIn}
 use Rattle.net.specs.Net.{netNumber}
 use Rattle.rounds.proofs.Sound.{net-within}
 use Rattle.rounds.proofs.LinksLaws.{linked-none, ready-follows}
-use Rattle.rounds.proofs.RoundLaws.{net-sources, round-stored}
+use Rattle.rounds.proofs.RoundLaws.{net-sources, net-wires, round-stored}
 use Rattle.simulator.proofs.CallsLaws.{round-refused, round-made}
 use borrow.Author.Needs.{needs}
 use Rattle.simulator.proofs.calls.round.Statement.{statement}
@@ -35,6 +35,7 @@ link-once-requires c κs =
       net-within (came s) z .wires,
       net-sources (came s) z,
       linked-none (s .args .wires .now) (s .args .counts .wires) (net-within (came s) z .wires),
+      net-wires (came s) z,
     )
 
 net-round-requires : tie.Need-net-round-requires

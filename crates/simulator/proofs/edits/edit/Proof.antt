@@ -5,7 +5,7 @@ use native.Mathlib.Omega.{arith}
 use Rattle.tables.specs.Tables.{Tables, tablesOf}
 use Rattle.simulator.specs.Calls.{editNumber}
 use Rattle.rounds.proofs.Sound.{standing-in}
-use Rattle.simulator.proofs.EditsLaws.{edit-index, edit-output, edit-input, edit-is-net, edit-room, edit-kept, edit-made}
+use Rattle.simulator.proofs.EditsLaws.{edit-row, edit-index, edit-output, edit-input, edit-is-net, edit-room, edit-kept, edit-made}
 use borrow.Author.Needs.{needs}
 use Rattle.simulator.proofs.edits.edit.Statement.{statement}
 use Rattle.simulator.proofs.edits.edit.Tie as tie
@@ -38,6 +38,7 @@ set-port-requires c κs =
     let a = s .args in
     let T = came s in
     let z = passed (c .before .before) in (
+      edit-row T (a .index .0) (a .number) z,
       edit-output T (a .index .0) (a .number) z,
       edit-input T (a .index .0)
           (a .number) z,

@@ -1,9 +1,11 @@
 -- `edit_checks`: 2 and 16, or the number on the net.
 -- Assumes nothing.
 use mathlib.Core.Path.{_∙_}
+use native.Mathlib.Omega.{arith}
 use Rattle.tables.specs.Tables.{Tables, tablesOf}
 use Rattle.net.proofs.ClausesLaws.{kindsObeyed-fit}
 use Rattle.net.proofs.NetLaws.{passed-net, netNumber-net}
+use Rattle.rounds.proofs.RoundLaws.{net-rows, net-wires}
 use Rattle.simulator.proofs.EditsLaws.{edit-refused, edit-net}
 use borrow.Author.Needs.{needs}
 use Rattle.simulator.proofs.edits.edit_checks.Statement.{statement}
@@ -27,7 +29,10 @@ returns c =
 edit-number-requires : tie.Need-edit-number-requires
 edit-number-requires c κs =
     let s = c .before .before .before .before .before .before .before .before .before in
-    λ h. kindsObeyed-fit (came s) (netNumber-net (came s) (passed-net (came s) _ (c .before .net-number .ensures) (c .if1 .left)) .kinds) (s .args .i) h
+    let z = passed-net (came s) _ (c .before .net-number .ensures) (c .if1 .left) in (
+      λ h. (omega (arith, net-rows (came s) z, h), kindsObeyed-fit (came s) (netNumber-net (came s) z .kinds) (s .args .i) h),
+      net-wires (came s) z,
+    )
 
 returns-2 : tie.Need-returns-2
 returns-2 c =

@@ -35,7 +35,7 @@ fields-at-requires : tie.Need-fields-at-requires
 fields-at-requires c κs =
     let at-if1 = c .before .before .before .before in
     let s = at-if1 .before .before .before .before in
-    s .pre (at-if1 .if1 .left)
+    s .pre .0 (at-if1 .if1 .left)
 
 -- The width of the port that is set.
 
@@ -74,9 +74,9 @@ edit-number-spec =
     tie.close
     (tie.spec
     returns
-    (λ c κs. search needs)
-    (λ c κs. search needs)
-    (λ c κs. search needs)
+    (λ c κs. c .before .before .before .before .pre .0 (c .if1 .left) .0)
+    (λ c κs. c .before .before .before .before .before .pre .0 (c .before .if1 .left) .0)
+    (λ c κs. c .before .before .before .before .before .before .pre .1)
     returns-2
     fields-at-requires
     (λ c κs. search needs)

@@ -64,7 +64,7 @@ is-driven-spec =
     Inv-loop
     μ-loop
     loop-holds
-    (λ c κs. search needs)
+    (λ c κs. omega (arith, c .loop-test .taken, c .before .before .before .pre))
     returns
     (λ c. search needs)
     (λ c. search needs)

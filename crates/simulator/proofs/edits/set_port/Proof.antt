@@ -13,7 +13,7 @@ use Rattle.simulator.proofs.edits.set_port.Tie as tie
 slice-write-outputs : tie.Need-slice-write-outputs
 slice-write-outputs c =
     let s = c .before .before .before .before .before .before in
-    omega (arith, c .first-output .ensures, s .pre .0 (sym (c .before .before .is-kind .ensures) ∙ c .before .if1 .taken))
+    omega (arith, c .first-output .ensures, s .pre .1 (sym (c .before .before .is-kind .ensures) ∙ c .before .if1 .taken))
 
 mul-outputs : tie.Need-mul-outputs
 mul-outputs c = omega (arith, slice-write-outputs c)
@@ -24,7 +24,7 @@ slice-write-inputs c =
     omega (
       arith,
       c .first-input .ensures,
-      s .pre .1
+      s .pre .2
           (λ e. true≢false (sym e ∙ sym (c .before .before .is-kind .ensures) ∙ c .before .if1 .left)),
     )
 
@@ -51,11 +51,11 @@ pub set-port-spec : {M : Type 1} → statement M
 set-port-spec =
     tie.close
     (tie.spec
-    (λ c κs. search needs)
-    (λ c κs. search needs)
+    (λ c κs. c .before .before .before .pre .0)
+    (λ c κs. c .before .before .before .before .before .pre .0)
     mul-outputs
     slice-write-outputs
-    (λ c κs. search needs)
+    (λ c κs. c .before .before .before .before .before .pre .0)
     mul-inputs
     slice-write-inputs
     (λ c. search needs)

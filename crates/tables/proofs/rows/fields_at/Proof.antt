@@ -10,12 +10,12 @@ use Rattle.tables.proofs.rows.fields_at.Tie as tie
 cast-t4 : tie.Need-cast-t4
 cast-t4 c =
     let s = c .before .before in
-    omega (arith, c .word-of .ensures, fieldsFit-kind (fieldsIn (s .args .components .now) (s .args .i)) (s .pre))
+    omega (arith, c .word-of .ensures, fieldsFit-kind (fieldsIn (s .args .components .now) (s .args .i)) (s .pre .1))
 
 cast-t6 : tie.Need-cast-t6
 cast-t6 c =
     let s = c .before .before .before in
-    omega (arith, c .word-of2 .ensures, fieldsFit-inputs (fieldsIn (s .args .components .now) (s .args .i)) (s .pre))
+    omega (arith, c .word-of2 .ensures, fieldsFit-inputs (fieldsIn (s .args .components .now) (s .args .i)) (s .pre .1))
 
 cast-t8 : tie.Need-cast-t8
 cast-t8 c =
@@ -24,13 +24,13 @@ cast-t8 c =
       arith,
       c .word-of3 .ensures,
       fieldsFit-outputs (fieldsIn (s .args .components .now) (s .args .i))
-          (s .pre),
+          (s .pre .1),
     )
 
 cast-t10 : tie.Need-cast-t10
 cast-t10 c =
     let s = c .before .before .before .before .before in
-    omega (arith, c .word-of4 .ensures, fieldsFit-width (fieldsIn (s .args .components .now) (s .args .i)) (s .pre))
+    omega (arith, c .word-of4 .ensures, fieldsFit-width (fieldsIn (s .args .components .now) (s .args .i)) (s .pre .1))
 
 returns : tie.Need-returns
 returns c =

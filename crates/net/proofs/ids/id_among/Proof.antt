@@ -1,28 +1,30 @@
--- `id_from`: the id stands among the components still to come exactly if it stands from `start` on.
+-- `id_among`: the id stands among the components still to come exactly if it stands among all.
 -- Assumes nothing.
-use mathlib.Core.Path.{_≡_, refl, sym, _∙_}
+use mathlib.Core.Path.{_≡_, sym, ap, _∙_}
 use mathlib.Core.Bool.{true≢false}
-use mathlib.Core.List.{map}
+use mathlib.Core.List.{List, map}
 use borrow.Author.Tests.{eq-eqb, eqb-true}
-use Prim.Native.Nat.{_-_, _≤_}
+use Prim.Native.Nat.{ℕ, _-_, _≤_}
 use native.Mathlib.Omega.{arith}
 use Rattle.lists.specs.Lists.{from, has}
-use Rattle.net.proofs.LoopsLaws.{hasFrom-found, hasFrom-next, hasFrom-end}
+use Rattle.net.proofs.LoopsLaws.{from-start, hasFrom-found, hasFrom-next, hasFrom-end}
 use Rattle.tables.specs.Words.{idIn}
 use borrow.Author.Needs.{needs}
-use Rattle.net.proofs.ids.id_from.Statement.{statement}
-use Rattle.net.proofs.ids.id_from.Tie as tie
+use Rattle.net.proofs.ids.id_among.Statement.{statement}
+use Rattle.net.proofs.ids.id_among.Tie as tie
 
 abbrev Inv-loop : tie.InvT-loop
-Inv-loop components id start count i₀ i =
+Inv-loop components id count i₀ i =
     (i ≤ count) × (has (id .0) (map (idIn components) (from i (count - i))) ≡ has (id .0)
-    (map (idIn components) (from start (count - start))))
+    (map (idIn components) (from 0 count)))
 
 abbrev μ-loop : tie.MeasureT-loop
-μ-loop components id start count i₀ i = count - i
+μ-loop components id count i₀ i = count - i
 
 loop-holds : tie.Need-loop-holds Inv-loop μ-loop
-loop-holds c = (omega arith, refl)
+loop-holds c =
+    let a = c .before .args in
+    (omega arith, ap (λ (l : List ℕ). has (a .id .0) (map (idIn (a .components .now)) l)) (from-start (a .count)))
 
 returns : tie.Need-returns Inv-loop μ-loop
 returns c =
@@ -46,8 +48,8 @@ returns-2 c =
     hasFrom-end (idIn (a .components .now)) (a .id .0) (c .before .loop .i) (a .count) _ (c .before .loop .inv .1)
     (omega arith)
 
-pub id-from-spec : {M : Type 1} → statement M
-id-from-spec =
+pub id-among-spec : {M : Type 1} → statement M
+id-among-spec =
     tie.close
     (tie.spec
     Inv-loop
