@@ -7,6 +7,7 @@ use Prim.Native.Nat.{ℕ, _+_, _≤_, _<_}
 use native.Mathlib.Numerals.{add-one}
 use native.Mathlib.Decide.{decLt}
 use native.Mathlib.Omega.{arith}
+use borrow.Author.Tests.{le-ltb}
 use borrow.Author.Tests.{not-true, not-false}
 use lib.ListN.{length, getD, set, length-map, length-append}
 use lib.Seq.{sets, getD-set-same, getD-set-other}
@@ -179,3 +180,9 @@ module _ (s : List ℕ) (accepted : verdict s ≡ Accepted) where
           standing-step =
               laid-step _ t p u _ laid (standingBy drawn (k .components)) v (m .count) standing-is ev
               (ap (λ (x : Stood). x .count) em ∙ stood-count drawn k)
+
+-- Past the records the flat index stays.
+pub flat-past : (s : List ℕ) (c x : ℕ) → recordCount s ≤ c → x ≡ flat (recordAt s) (recordCount s) c → x ≡ flat (recordAt s) (recordCount s) (c + 1)
+flat-past s c x h e =
+    let z : isPrimitive (recordAt s c) ≡ false = rw (le-ltb c (recordCount s) h) in
+    flat-same (recordAt s) (recordCount s) c x z e

@@ -89,19 +89,34 @@ pub fn lay_standing(file: &[u8], standing: &mut [u16]) -> usize
     stood.count
 }
 
-// Fills the table of flat indexes: word c is the flat index of component c, the primitives before it. `lay_wires` calls it, and crate look, with a table of
-// 256 words.
+// How many of n records a table of 256 words has a word of.
+fn few(n: usize) -> usize
+    ensures { λ r. ⌜ (r ≤ 256) × (r < 256 → r ≡ n) ⌝ }
+{
+    if n < 256 {
+        return n;
+    }
+    256
+}
+
+// Fills the table of flat indexes: word c is the flat index of component c, the primitives before it; past the records it is their number. `lay_wires`
+// calls it, and crate look, with a table of 256 words.
 pub fn index_flat(file: &[u8], flat: &mut [u16])
     requires { ⌜ Readable (now file) × (length (now flat) ≡ 256) ⌝ }
     ensures { λ _. ⌜ IsFlat (recordAt (now (file .entry))) (recordCount (now (file .entry))) (now (flat .exit)) ⌝ }
 {
+    let rows = few(file.len() / 24);
     let mut count: u16 = 0;
     let mut c: usize = 0;
-    while c < 256 {
+    while c < rows {
         flat[c] = count;
         if is_primitive_at(file, c) {
             count += 1;
         }
+        c += 1;
+    }
+    while c < 256 {
+        flat[c] = count;
         c += 1;
     }
 }
