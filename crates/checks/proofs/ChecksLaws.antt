@@ -2,15 +2,13 @@
 -- far decide the check.
 -- Assumes nothing.
 use mathlib.Core.Path.{_≡_, refl, sym, ap, _∙_}
-use mathlib.Core.Bool.{Bool, true, false, cond, not, _&&_, _||_, or-true}
+use mathlib.Core.Bool.{Bool, true, false, cond, not, _&&_, _||_}
 use mathlib.Core.Logic.{⊎-elim}
 use mathlib.Core.List.{List, [], _∷_}
-use Prim.Native.Nat.{ℕ, zero, suc, _+_, _-_, _/_, _<_, _≤_}
+use Prim.Native.Nat.{ℕ, zero, suc, _-_, _/_, _<_, _≤_}
 use native.Mathlib.Nat.{sub-zero}
-use native.Mathlib.Numerals.{add-one}
-use native.Mathlib.Decide.{decLt}
 use native.Mathlib.Omega.{arith}
-use borrow.Author.Tests.{eqb-false, eq-eqb, ne-eqb, le-leb, lt-leb, lt-ltb, le-ltb, ltb-true, leb-false, not-true, not-false}
+use borrow.Author.Tests.{eqb-false, eq-eqb, ne-eqb, le-leb, lt-leb, lt-ltb, le-ltb, leb-false, not-true, not-false}
 use lib.Dec.{eqb, leb, ltb}
 use lib.ListN.{length, getD}
 use types.Run.{OneOf}
@@ -30,7 +28,7 @@ use Rattle.component.specs.declared.Stands.{Stands}
 use Rattle.component.specs.declared.Stands.the-variants.{Component as StandsComponent, Nothing}
 use Rattle.checks.specs.declared.Entry.{Entry}
 use Rattle.checks.specs.declared.Entry.the-variants.{Of, Nothing as NoEntry}
-use Rattle.component.specs.Record.{recordAt, toOf, inputOf, noRecord}
+use Rattle.component.specs.Record.{recordAt, toOf, inputOf}
 use Rattle.component.specs.Reading.{idOf, ownerOf, formOf, apart, formBy, said, number, StandsAs}
 use Rattle.checks.specs.Checks.{EntryAs}
 use Rattle.component.specs.Reading.{given}
@@ -41,7 +39,7 @@ use Rattle.component.specs.Drawing.{isComponent, child, deepest, holds, deeper,
 use Rattle.index.specs.Index.{IsIndex, outCount}
 use Rattle.lists.proofs.TestsLaws.{and-right-false, or-left}
 use Rattle.component.specs.Drawing.{fails3, fails4, fails5, fails6, fails7, fails8, fails9}
-use Rattle.component.specs.Drawing.{fails10, fails11, fails12, fails13, fails14, earlierOf}
+use Rattle.component.specs.Drawing.{fails10, fails12, fails13, fails14, earlierOf}
 use Rattle.component.proofs.Says.{the-type}
 use Rattle.component.proofs.RecordLaws.{formBy-tag, no-component, refused-is, taken-is, taken-form, taken-owner, unseen-test, unseen-fields, seen-is}
 use Rattle.component.proofs.ScanLaws.{tested}
@@ -65,9 +63,6 @@ module _ (k : ℕ) (b : Bool) where
         by-test : (c : Bool) → r ≡ given k c → c ≡ true
         by-test true d = refl
         by-test false d = absurd (h d)
-
-    pub given-number : (r ≡ 0 → ⊥) → r ≡ k
-    given-number h = e ∙ ap (given k) (given-failed h)
 
     pub given-passed : r ≡ 0 → 0 < k → b ≡ false
     given-passed z h = by-test b e
@@ -328,16 +323,6 @@ module _ (s : List ℕ) where
       fails10-component b k =
           let y : idOf (recordAt s p) ≡ i .0 = rw (seen-is (recordAt s p) g e o i f h) in
           k ∙ rw (form-is, y)
-
-      -- a component stands in the file
-      pub component-within : p < length s / 24
-      component-within = by-place (decLt p (length s / 24))
-        where
-          by-place : Dec (p < length s / 24) → p < length s / 24
-          by-place (yes l) = l
-          by-place (no l) =
-              let z : recordAt s p ≡ noRecord = rw (le-ltb p (length s / 24) (omega arith)) in
-              absurd (omega (arith, ap formOf (sym z ∙ seen-is (recordAt s p) g e o i f h)))
 
       pub inputs-component : (j : ℕ) → ltb j (f .inputs) ≡ ltb j (inputsOf (recordAt s p))
       inputs-component j = rw (seen-is (recordAt s p) g e o i f h)

@@ -2,7 +2,7 @@
 // inputs may have been met before, by marks, and the ports so far. Rule: docs/SPECIFICATION.md, "Numbers given back".
 ghost use mathlib.Core.Path.{_≡_};
 ghost use mathlib.Core.Bool.{false};
-ghost use Prim.Native.Nat.{_+_, _<_, _≤_};
+ghost use Prim.Native.Nat.{_+_, _<_};
 ghost use Rattle.lists.specs.Marks.{IsMarked};
 ghost use Rattle.component.specs.Record.{recordAt, recordCount};
 ghost use Rattle.component.specs.Reading.{Readable};

@@ -2,15 +2,14 @@
 -- form in which such a loop has its facts: t says whether T holds of the record at q.
 -- Not here: the laws over positions (ListsLaws).
 -- Assumes nothing.
-use mathlib.Core.Path.{_≡_, sym, ap, _∙_}
-use mathlib.Core.Bool.{Bool, true, false, cond}
+use mathlib.Core.Path.{_≡_, sym, _∙_}
+use mathlib.Core.Bool.{Bool, true, false}
 use mathlib.Core.List.{List}
 use Prim.Native.Nat.{ℕ, _+_, _-_, _≤_, _<_}
 use native.Mathlib.Omega.{arith}
-use lib.ListN.{length, getD}
-use Rattle.lists.specs.Lists.{from, keep, any, total}
+use lib.ListN.{getD}
+use Rattle.lists.specs.Lists.{from, keep, any}
 use Rattle.lists.proofs.ListsLaws.{any-here, any-next, any-none, kth-here, kth-counts, kth-next, kth-none}
-use Rattle.lists.proofs.ListsLaws.{keep-none, length-keep-step, total-keep-step}
 use Rattle.component.specs.declared.Record.{Record}
 use Rattle.component.specs.Record.{recordAt}
 
@@ -47,32 +46,3 @@ module _ (s : List ℕ) (T : Record → Bool) (q n : ℕ) where
 
   pub scan-kth-none : (k d x : ℕ) → getD (keep (tested s T) (from q (n - q))) k d ≡ x → n ≤ q → d ≡ x
   scan-kth-none k d x i h = kth-none (tested s T) q n k d x i h
-
-  -- how many pass, m so far: one more; no more; all
-  pub scan-length-here : (t : Bool) (m x : ℕ) → m + length (keep (tested s T) (from q (n - q))) ≡ x → q < n
-      → t ≡ T (recordAt s q) → t ≡ true → (m + 1) + length (keep (tested s T) (from (q + 1) (n - (q + 1)))) ≡ x
-  scan-length-here t m x i h f g =
-      let z = ap (λ (b : Bool). cond {A = ℕ} b 1 0) (sym f ∙ g) in
-      omega (arith, length-keep-step (tested s T) q n h, z)
-
-  pub scan-length-next : (t : Bool) (m x : ℕ) → m + length (keep (tested s T) (from q (n - q))) ≡ x → q < n
-      → t ≡ T (recordAt s q) → t ≡ false → m + length (keep (tested s T) (from (q + 1) (n - (q + 1)))) ≡ x
-  scan-length-next t m x i h f g =
-      let z = ap (λ (b : Bool). cond {A = ℕ} b 1 0) (sym f ∙ g) in
-      omega (arith, length-keep-step (tested s T) q n h, z)
-
-  pub scan-length-all : (m x : ℕ) → m + length (keep (tested s T) (from q (n - q))) ≡ x → n ≤ q → m ≡ x
-  scan-length-all m x i h = omega (arith, ap (λ (l : List ℕ). length l) (keep-none (tested s T) q n h))
-
-  -- the sum of what F gives of those that pass, m so far and a added here: one step; all
-  module _ (F : Record → ℕ) where
-    pub scan-total-next : (a m x : ℕ)
-        → m + total (λ p. F (recordAt s p)) (keep (tested s T) (from q (n - q))) ≡ x
-        → q < n → a ≡ cond (T (recordAt s q)) (F (recordAt s q)) 0
-        → (m + a) + total (λ p. F (recordAt s p)) (keep (tested s T) (from (q + 1) (n - (q + 1)))) ≡ x
-    scan-total-next a m x i h k = omega (arith, total-keep-step (tested s T) q n (λ p. F (recordAt s p)) h, k)
-
-    pub scan-total-all : (m x : ℕ) → m + total (λ p. F (recordAt s p)) (keep (tested s T) (from q (n - q))) ≡ x → n ≤ q
-        → m ≡ x
-    scan-total-all m x i h =
-        omega (arith, ap (total (λ p. F (recordAt s p))) (keep-none (tested s T) q n h))

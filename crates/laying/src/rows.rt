@@ -1,7 +1,7 @@
 // The tables of components, inputs and outputs at load: one pass each over the records. Rules: docs/SPECIFICATION.md, "Flattening"
 // (primitives keep file order) and "Rounds" (the state at load).
 ghost use mathlib.Core.Path.{_≡_};
-ghost use Prim.Native.Nat.{_+_, _*_, _≤_, _<_};
+ghost use Prim.Native.Nat.{_+_, _≤_, _<_};
 ghost use lib.ListN.{length, replicate};
 ghost use lib.Seq.{sets};
 ghost use Rattle.lists.specs.Lists.{joined, overlay};

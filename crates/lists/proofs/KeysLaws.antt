@@ -1,4 +1,4 @@
--- Laws of specs/Marks.antt: the start, one more key upwards or downwards, one that is not picked, and what an unset mark says.
+-- Laws of specs/Marks.antt: the start, one more key, one that is not picked, and what an unset mark says.
 -- Assumes nothing.
 use mathlib.Core.Path.{_≡_, refl, sym, ap, _∙_}
 use mathlib.Core.Bool.{Bool, true, false, false≢true}
@@ -8,7 +8,7 @@ use native.Mathlib.Decide.{decLt}
 use native.Mathlib.Omega.{arith}
 use borrow.Author.Tests.{eqb-true, eqb-false}
 use lib.Dec.{eqb}
-use lib.ListN.{length, getD, set, replicate, length-set, length-replicate}
+use lib.ListN.{getD, set, replicate, length-set, length-replicate}
 use lib.Seq.{getD-set-same, getD-set-other}
 use Rattle.lists.specs.Marks.{IsMarked}
 
@@ -48,14 +48,6 @@ module _ (size : ℕ) (of : ℕ → Bool) (mark : ℕ → ℕ) where
         by-place : (j : ℕ) → a ≤ j → j < b + 1 → of j ≡ true → Dec (j < b) → getD (set marks x 1) (mark j) 0 ≡ 0 → ⊥
         by-place j h k p (yes y) = set-kept x j l (so-far .marked j h y p)
         by-place j h k p (no y) = let same : b ≡ j = omega arith in set-here x j l (e ∙ ap mark same)
-
-    -- The one before is marked.
-    pub marks-down : (x : ℕ) → 0 < a → x < size → x ≡ mark (a - 1) → IsMarked size of mark (a - 1) b (set marks x 1)
-    marks-down x s l e = record { whole = simp length-set (so-far .whole); marked = λ j h k p. by-place j h k p (decLt (a - 1) j) }
-      where
-        by-place : (j : ℕ) → a - 1 ≤ j → j < b → of j ≡ true → Dec (a - 1 < j) → getD (set marks x 1) (mark j) 0 ≡ 0 → ⊥
-        by-place j h k p (yes y) = set-kept x j l (so-far .marked j (omega arith) k p)
-        by-place j h k p (no y) = let same : a - 1 ≡ j = omega arith in set-here x j l (e ∙ ap mark same)
 
     -- The next is not picked.
     pub marks-skip : of b ≡ false → IsMarked size of mark a (b + 1) marks

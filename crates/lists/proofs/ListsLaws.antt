@@ -14,9 +14,8 @@ use native.Mathlib.Omega.{arith}
 use borrow.Author.Tests.{eq-eqb, ne-eqb, leb-true}
 use lib.Dec.{eqb, leb}
 use lib.ListN.{length, getD, replicate, length-replicate, getD-replicate, List·getD-eq-default}
-use lib.Seq.{getD-append-seam}
 use Rattle.lists.proofs.TestsLaws.{and-left, and-right}
-use Rattle.lists.specs.Lists.{within, from, keep, every, any, total, joined, first, refusal, _if_}
+use Rattle.lists.specs.Lists.{within, from, keep, every, any, joined, first, refusal, _if_}
 
 -- A number given back is 0 exactly if no test holds.
 pub refusal-first : (k : ℕ) (b : Bool) (cs : List (ℕ × Bool)) → (k ≡ 0 → ⊥) → refusal ((k if b) ∷ cs) ≡ 0 → b ≡ false
@@ -121,27 +120,6 @@ module _ (f : ℕ → Bool) (q n : ℕ) where
   pub kth-none : (k d x : ℕ) → getD (keep f (from q (n - q))) k d ≡ x → n ≤ q → d ≡ x
   kth-none k d x e h = ap (λ (l : List ℕ). getD l k d) (sym (keep-none h)) ∙ e
 
-  -- how many pass, and the sum of g over them: one step for a position that passes or not
-  pub length-keep-step : q < n
-      → length (keep f (from q (n - q))) ≡ cond (f q) 1 0 + length (keep f (from (q + 1) (n - (q + 1))))
-  length-keep-step h = ap (λ (l : List ℕ). length (keep f l)) (from-step q n h) ∙ by-test (f q)
-    where
-      by-test : (b : Bool)
-          → length (cond b (q ∷ keep f (from (q + 1) (n - (q + 1)))) (keep f (from (q + 1) (n - (q + 1)))))
-          ≡ cond b 1 0 + length (keep f (from (q + 1) (n - (q + 1))))
-      by-test true = omega arith
-      by-test false = omega arith
-
-  pub total-keep-step : (g : ℕ → ℕ) → q < n
-      → total g (keep f (from q (n - q))) ≡ cond (f q) (g q) 0 + total g (keep f (from (q + 1) (n - (q + 1))))
-  total-keep-step g h = ap (λ (l : List ℕ). total g (keep f l)) (from-step q n h) ∙ by-test (f q)
-    where
-      by-test : (b : Bool)
-          → total g (cond b (q ∷ keep f (from (q + 1) (n - (q + 1)))) (keep f (from (q + 1) (n - (q + 1)))))
-          ≡ cond b (g q) 0 + total g (keep f (from (q + 1) (n - (q + 1))))
-      by-test true = refl
-      by-test false = omega arith
-
 -- What each position gives, one after the other: one position; positions that give nothing, as those outside a range.
 module _ {B : Type 0} (f : ℕ → List B) where
   pub joined-step : (q n : ℕ) → q < n → joined f (from q (n - q)) ≡ f q ++ joined f (from (q + 1) (n - (q + 1)))
@@ -188,16 +166,6 @@ module _ (f : ℕ → Bool) (a q : ℕ) (h : a ≤ q) where
       by-count : (k a : ℕ) → length (keep f (from a k)) ≤ k
       by-count zero a = omega arith
       by-count (suc k) a = by-test (f a) a (keep f (from (suc a) k)) k (by-count k (suc a))
-
--- One element more: the new one at the end, and elsewhere what was there.
-pub getD-snoc-end : (xs : List ℕ) (x k d : ℕ) → k ≡ length xs → getD (xs ++ (x ∷ [])) k d ≡ x
-getD-snoc-end xs x k d e = rw e (getD-append-seam xs x [] d)
-
-pub getD-snoc-else : (xs : List ℕ) (x k d : ℕ) → (k ≡ length xs → ⊥) → getD (xs ++ (x ∷ [])) k d ≡ getD xs k d
-getD-snoc-else [] x zero d h = absurd (h refl)
-getD-snoc-else [] x (suc k) d h = refl
-getD-snoc-else (y ∷ xs) x zero d h = refl
-getD-snoc-else (y ∷ xs) x (suc k) d h = getD-snoc-else xs x k d (λ e. h (ap suc e))
 
 -- Each of the numbers from q on passes a test that every one of them passes.
 every-at : (f : ℕ → Bool) (q k i : ℕ) → every f (from q k) ≡ true → q ≤ i → i < q + k → f i ≡ true

@@ -15,7 +15,7 @@ use Rattle.tables.specs.declared.Wire.{Wire}
 use Rattle.tables.specs.declared.Counts.{Counts}
 use Rattle.tables.specs.Tables.{Tables, fieldsAt, firstInput, firstOutput, inputPlace, wireAt}
 use Rattle.tables.specs.Words.{fieldsFit, wireIn}
-use Rattle.tables.proofs.RowsLaws.{obeyed-fit, fieldsFit-inputs, fieldsFit-outputs}
+use Rattle.tables.proofs.RowsLaws.{obeyed-fit}
 use Rattle.tables.proofs.PartsLaws.{AllTrue, parts-sound}
 use Rattle.net.specs.Net.{countsWithin, kindsObeyed, portsFollow, wiresFit, inputsOnce}
 use Rattle.net.specs.Parts.{lent, placeIn, obeyedAt, followAt}
@@ -71,12 +71,6 @@ module _ (T : Tables) (e : kindsObeyed T ≡ true) (i : ℕ) (h : i < T .counts 
   -- So its words fit the fields of a component.
   pub kindsObeyed-fit : fieldsFit (fieldsAt T i) ≡ true
   kindsObeyed-fit = obeyed-fit (fieldsAt T i) kindsObeyed-at
-
-  pub kindsObeyed-inputs : fieldsAt T i .inputs < 65536
-  kindsObeyed-inputs = fieldsFit-inputs (fieldsAt T i) kindsObeyed-fit
-
-  pub kindsObeyed-outputs : fieldsAt T i .outputs < 65536
-  kindsObeyed-outputs = fieldsFit-outputs (fieldsAt T i) kindsObeyed-fit
 
 -- "ports follow each other without gaps": where the ports of component i start, and that they end within the counts.
 module _ (T : Tables) (e : portsFollow T ≡ true) where

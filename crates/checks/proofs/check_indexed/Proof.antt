@@ -2,7 +2,6 @@
 -- Assumes nothing.
 use mathlib.Core.Path.{_≡_}
 use mathlib.Core.Logic.{_⊎_, ⊎-elim}
-use Prim.Native.Nat.{ℕ}
 use Rattle.checks.specs.Checks.{failsBy}
 use borrow.Author.Needs.{needs}
 use Rattle.checks.proofs.check_indexed.Statement.{statement}

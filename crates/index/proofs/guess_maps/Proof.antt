@@ -3,7 +3,7 @@
 use Prim.Native.Nat.{_-_}
 use native.Mathlib.Omega.{arith}
 use Rattle.index.specs.Index.{KeptBelow}
-use Rattle.index.proofs.IndexLaws.{kept-start, kept-next}
+use Rattle.index.proofs.IndexLaws.{kept-next}
 use borrow.Author.Needs.{needs}
 use Rattle.index.proofs.guess_maps.Statement.{statement}
 use Rattle.index.proofs.guess_maps.Tie as tie

@@ -4,7 +4,7 @@ use lib.ListN.{length-set}
 use Prim.Native.Nat.{_-_}
 use native.Mathlib.Omega.{arith}
 use Rattle.index.specs.Index.{KeptBelow}
-use Rattle.index.proofs.IndexLaws.{kept-start, kept-set}
+use Rattle.index.proofs.IndexLaws.{kept-set}
 use borrow.Author.Needs.{needs}
 use Rattle.index.proofs.guess_starts.Statement.{statement}
 use Rattle.index.proofs.guess_starts.Tie as tie

@@ -3,7 +3,6 @@
 use Rattle.index.proofs.NumberingLaws.{child-is}
 use mathlib.Core.Bool.{false≢true}
 use native.Mathlib.Omega.{arith}
-use Rattle.index.proofs.NumberingLaws.{nth-is}
 use borrow.Author.Needs.{needs}
 use Rattle.index.proofs.is_child.Statement.{statement}
 use Rattle.index.proofs.is_child.Tie as tie

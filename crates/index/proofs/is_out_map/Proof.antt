@@ -3,7 +3,6 @@
 use Rattle.index.proofs.NumberingLaws.{out-map-is}
 use mathlib.Core.Bool.{false≢true}
 use native.Mathlib.Omega.{arith}
-use Rattle.index.proofs.NumberingLaws.{nth-is, outMap-nth}
 use borrow.Author.Needs.{needs}
 use Rattle.index.proofs.is_out_map.Statement.{statement}
 use Rattle.index.proofs.is_out_map.Tie as tie

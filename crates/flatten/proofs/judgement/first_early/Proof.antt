@@ -5,7 +5,7 @@ use Prim.Native.Nat.{ℕ, _/_}
 use lib.ListN.{length}
 use Rattle.component.specs.Record.{recordAt}
 use Rattle.checks.specs.Checks.{failsBy, IsFirst}
-use Rattle.flatten.specs.Searches.{failsAt, PassedBefore}
+use Rattle.flatten.specs.Searches.{failsAt}
 use Rattle.flatten.proofs.JudgementLaws.{readable-before}
 use native.Mathlib.Omega.{arith}
 use borrow.Author.Needs.{needs}

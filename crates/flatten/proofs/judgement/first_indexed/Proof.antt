@@ -3,14 +3,14 @@
 use mathlib.Core.Logic.{_⊎_, inl, inr}
 use mathlib.Core.Bool.{true, false}
 use mathlib.Core.Path.{_≡_, refl}
-use Prim.Native.Nat.{ℕ, _+_, _-_, _/_, _≤_, _<_}
+use Prim.Native.Nat.{ℕ, _-_, _/_, _≤_, _<_}
 use native.Mathlib.Omega.{arith}
 use lib.ListN.{length}
 use Rattle.component.specs.Record.{recordAt}
 use Rattle.checks.proofs.PassesLaws.{NoneBefore, none-start, none-next, first-this, first-none}
 use Rattle.flatten.specs.Searches.{failsAt}
 use Rattle.flatten.proofs.Accepted.{passed-check}
-use Rattle.flatten.proofs.JudgementLaws.{readable-before, fails-here, passes-here}
+use Rattle.flatten.proofs.JudgementLaws.{fails-here, passes-here}
 use borrow.Author.Needs.{needs}
 use Rattle.flatten.proofs.judgement.first_indexed.Statement.{statement}
 use Rattle.flatten.proofs.judgement.first_indexed.Tie as tie

@@ -1,6 +1,6 @@
 -- `judge_early`: the invariant: the checks made so far have passed.
 -- Assumes nothing.
-use Prim.Native.Nat.{_+_, _-_, _/_, _≤_}
+use Prim.Native.Nat.{_-_, _/_, _≤_}
 use native.Mathlib.Omega.{arith}
 use lib.ListN.{length}
 use Rattle.component.specs.Record.{recordAt}
