@@ -23,7 +23,8 @@ use Rattle.tables.specs.declared.Wire.{Wire}
 use Rattle.tables.specs.Tables.{Tables, fullSize, fieldsAt, firstOutput, inputPlace, inputsAt, outputsAt, wiresIn, currentList, followingList, standingList}
 use Rattle.tables.proofs.PartsLaws.{AllTrue, parts-sound, parts-complete}
 use Rattle.tables.proofs.SizesLaws.{Full, fullSize-sound}
-use Rattle.net.specs.Net.{countsWithin, kindsObeyed, idsDistinct, portsFollow, valuesFit, constsHeld, isOutput, isInput, wiresFit, inputsOnce, names, isCircuit, isNet, netNumber, onNet}
+use Rattle.net.specs.Net.{countsWithin, kindsObeyed, idsDistinct, portsFollow, valuesFit, constsHeld, isOutput, isInput, wiresFit, inputsOnce}
+use Rattle.net.specs.Net.{names, isCircuit, isNet, netNumber, onNet}
 use Rattle.net.specs.Parts.{lent, fitAt, heldAt}
 use Rattle.net.specs.Net.{wireFits}
 use Rattle.net.proofs.ClausesLaws.{Within, countsWithin-sound, portsFollow-inputs}

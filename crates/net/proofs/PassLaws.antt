@@ -16,7 +16,8 @@ use Rattle.lists.specs.Lists.{from, every, has, distinct, appendNew}
 use Rattle.lists.specs.Marks.{IsMarked}
 use Rattle.lists.proofs.ListsLaws.{every-from, within-most}
 use Rattle.lists.proofs.TestsLaws.{and-left, and-right}
-use Rattle.lists.proofs.MembersLaws.{In, in-right, has-sound, has-complete, has-none, map-sound, map-append, every-sound, every-complete, from0-sound, from-append, from-last, distinct-sound, distinct-complete}
+use Rattle.lists.proofs.MembersLaws.{In, in-right, has-sound, has-complete, has-none, map-sound, map-append, every-sound, every-complete, from0-sound}
+use Rattle.lists.proofs.MembersLaws.{from-append, from-last, distinct-sound, distinct-complete}
 use Rattle.lists.proofs.NamesLaws.{appendNew-distinct}
 use Rattle.lists.proofs.KeysLaws.{unmarked-none}
 use Rattle.value.specs.Value.{widest, below}
@@ -29,7 +30,8 @@ use Rattle.tables.specs.Tables.{Tables}
 use Rattle.tables.specs.Words.{fieldsIn, idIn, firstInputIn, firstOutputIn, uncounted}
 use Rattle.tables.proofs.PartsLaws.{AllTrue, parts-sound}
 use Rattle.net.specs.Net.{kindsObeyed, idsDistinct, portsFollow, valuesFit, constsHeld, inputSum, outputSum}
-use Rattle.net.specs.Parts.{lent, obeyedAt, followAt, withinAt, fitAt, heldAt, rowRight, rowsRight, InputsInside, OutputsInside, Widths}
+use Rattle.net.specs.Parts.{lent, obeyedAt, followAt, withinAt, fitAt, heldAt, standsAt, holdsAt, rowRight, rowsRight, InputsInside}
+use Rattle.net.specs.Parts.{OutputsInside, Widths}
 use Rattle.net.proofs.ClausesLaws.{kindsObeyed-at, portsFollow-firstInput, portsFollow-firstOutput, portsFollow-inputs, portsFollow-outputs}
 
 -- A number whose mark is not set is none of those that are marked.
@@ -125,7 +127,7 @@ const-inside cs os i o h e =
     let r = obeyed-row (fieldsIn cs i) Const o (eqb-true (fieldsIn cs i .kind) 13 e) in
     omega (arith, r .outputs .least)
 
-both-true : (a b : Bool) → a ≡ true → b ≡ true → (a && b) ≡ true
+pub both-true : (a b : Bool) → a ≡ true → b ≡ true → (a && b) ≡ true
 both-true a b p q = rw (p, q)
 
 every-imply : (f g : ℕ → Bool) (n : ℕ) → ((i : ℕ) → f i ≡ true → g i ≡ true) → every f (from 0 n) ≡ true → every g (from 0 n) ≡ true
@@ -136,42 +138,40 @@ refuted true h = absurd (h refl)
 refuted false h = refl
 
 -- What one row says.
-module _ (cs is os : List ℕ) (m : Counts) (i : ℕ) (e : rowRight cs is os m i ≡ true) where
+module _ (cs : List ℕ) (m : Counts) (i : ℕ) (e : standsAt cs m i ≡ true) where
   abbrev ports : Bool
   ports = followAt cs i && withinAt cs m i
 
-  abbrev values : Bool
-  values = fitAt cs is os i && heldAt cs os i
+  pub stands-obeyed : obeyedAt cs i ≡ true
+  stands-obeyed = and-left (obeyedAt cs i) (below (idIn cs i) 32 && ports) e
 
-  first-part : (obeyedAt cs i && (below (idIn cs i) 32 && ports)) ≡ true
-  first-part = and-left (obeyedAt cs i && (below (idIn cs i) 32 && ports)) values e
+  rest : (below (idIn cs i) 32 && ports) ≡ true
+  rest = and-right (obeyedAt cs i) (below (idIn cs i) 32 && ports) e
 
-  pub row-obeyed : obeyedAt cs i ≡ true
-  row-obeyed = and-left (obeyedAt cs i) (below (idIn cs i) 32 && ports) first-part
+  pub stands-id : below (idIn cs i) 32 ≡ true
+  stands-id = and-left (below (idIn cs i) 32) ports rest
 
-  second-part : (below (idIn cs i) 32 && ports) ≡ true
-  second-part = and-right (obeyedAt cs i) (below (idIn cs i) 32 && ports) first-part
+  pub stands-ports : ports ≡ true
+  stands-ports = and-right (below (idIn cs i) 32) ports rest
 
-  pub row-id : below (idIn cs i) 32 ≡ true
-  row-id = and-left (below (idIn cs i) 32) ports second-part
+  stands-follow : followAt cs i ≡ true
+  stands-follow = and-left (followAt cs i) (withinAt cs m i) stands-ports
 
-  ports-part : ports ≡ true
-  ports-part = and-right (below (idIn cs i) 32) ports second-part
+  pub stands-within : withinAt cs m i ≡ true
+  stands-within = and-right (followAt cs i) (withinAt cs m i) stands-ports
 
-  row-follow : followAt cs i ≡ true
-  row-follow = and-left (followAt cs i) (withinAt cs m i) ports-part
+module _ (cs is os : List ℕ) (m : Counts) (i : ℕ) (e : rowRight cs is os m i ≡ true) where
+  row-stands : standsAt cs m i ≡ true
+  row-stands = and-left (standsAt cs m i) (holdsAt cs is os i) e
 
-  pub row-within : withinAt cs m i ≡ true
-  row-within = and-right (followAt cs i) (withinAt cs m i) ports-part
-
-  values-part : values ≡ true
-  values-part = and-right (obeyedAt cs i && (below (idIn cs i) 32 && ports)) values e
+  row-holds : holdsAt cs is os i ≡ true
+  row-holds = and-right (standsAt cs m i) (holdsAt cs is os i) e
 
   row-fit : fitAt cs is os i ≡ true
-  row-fit = and-left (fitAt cs is os i) (heldAt cs os i) values-part
+  row-fit = and-left (fitAt cs is os i) (heldAt cs os i) row-holds
 
   row-held : heldAt cs os i ≡ true
-  row-held = and-right (fitAt cs is os i) (heldAt cs os i) values-part
+  row-held = and-right (fitAt cs is os i) (heldAt cs os i) row-holds
 
 -- The rows and the clauses.
 module _ (cs is os : List ℕ) (m : Counts) where
@@ -204,7 +204,7 @@ module _ (cs is os : List ℕ) (m : Counts) where
       (le-leb _ _ u) (le-leb _ _ w) in
       let ids : every (λ j. below (idIn cs j) 32) (from 0 n) ≡ true =
       and-left (every (λ j. below (idIn cs j) 32) (from 0 n)) (distinct (map (idIn cs) (from 0 n))) (p .1 .0) in
-      both-true (obeyedAt cs i && (below (idIn cs i) 32 && (followAt cs i && withinAt cs m i))) (fitAt cs is os i && heldAt cs os i)
+      both-true (standsAt cs m i) (holdsAt cs is os i)
       (both-true (obeyedAt cs i) (below (idIn cs i) 32 && (followAt cs i && withinAt cs m i)) (kindsObeyed-at T (p .0) i h)
       (both-true (below (idIn cs i) 32) (followAt cs i && withinAt cs m i) (every-from (λ j. below (idIn cs j) 32) n ids i h)
       (both-true (followAt cs i) (withinAt cs m i) follow within)))
@@ -230,9 +230,9 @@ module _ (cs is os : List ℕ) (m : Counts) where
       → (eqb (m .inputs) ins && eqb (m .outputs) outs) ≡ rowsRight T
   unfolding kindsObeyed idsDistinct portsFollow valuesFit constsHeld
   rows-end ins outs e d p q =
-      let k : every (obeyedAt cs) (from 0 n) ≡ true = every-imply _ _ n (row-obeyed cs is os m) (sym e) in
-      let i : every (λ j. below (idIn cs j) 32) (from 0 n) ≡ true = every-imply _ _ n (row-id cs is os m) (sym e) in
-      let f : every (followAt cs) (from 0 n) ≡ true = every-imply _ _ n (row-follow cs is os m) (sym e) in
+      let k : every (obeyedAt cs) (from 0 n) ≡ true = every-imply _ _ n (λ j r. stands-obeyed cs m j (row-stands cs is os m j r)) (sym e) in
+      let i : every (λ j. below (idIn cs j) 32) (from 0 n) ≡ true = every-imply _ _ n (λ j r. stands-id cs m j (row-stands cs is os m j r)) (sym e) in
+      let f : every (followAt cs) (from 0 n) ≡ true = every-imply _ _ n (λ j r. stands-follow cs m j (row-stands cs is os m j r)) (sym e) in
       let v : every (fitAt cs is os) (from 0 n) ≡ true = every-imply _ _ n (row-fit cs is os m) (sym e) in
       let c : every (heldAt cs os) (from 0 n) ≡ true = every-imply _ _ n (row-held cs is os m) (sym e) in
       rw (k, i, f, v, c, d, p, q) (flat (eqb (m .inputs) (inputSum (uncounted cs []) n)) (eqb (m .outputs) (outputSum (uncounted cs []) n)))

@@ -8,7 +8,7 @@ ghost use lib.ListN.{length, set};
 ghost use Rattle.kinds.specs.Kinds.{inputWidth, outputWidth};
 ghost use Rattle.tables.specs.Words.{RowInside, RowsInside, fieldsIn, uncounted};
 ghost use Rattle.net.specs.Net.{inputSum, outputSum};
-ghost use Rattle.net.specs.Parts.{lent, obeyedAt, followAt, withinAt, rowRight, rowsRight, Widths};
+ghost use Rattle.net.specs.Parts.{lent, InputsInside, OutputsInside, obeyedAt, followAt, withinAt, standsAt, holdsAt, rowsRight, Widths};
 use crate::ids::id_fits;
 use crate::ids::id_new;
 use crate::values::row_fits;
@@ -58,38 +58,44 @@ fn row_follows(components: &[u64], counts: Counts, next: Next, i: usize) -> bool
         & ((after.input <= counts.inputs) & (after.output <= counts.outputs))
 }
 
-// Whether component i is what a net asks of it, but that no other has its id. Later tests rest on earlier ones: the order matters.
-fn row_right(
-    components: &[u64],
-    inputs: &[u64],
-    outputs: &[u64],
-    counts: Counts,
-    next: Next,
-    i: usize,
-) -> bool
-    requires { ⌜ RowInside (now components) i × (counts .inputs ≤ length (now inputs)) × (counts .outputs ≤ length (now outputs))
-        × (next .input ≤ 1024) × (next .output ≤ 1024)
+// Whether component i obeys the table of kinds, its id has 32 bits and its ports follow. Later tests rest on earlier ones: the order
+// matters.
+fn row_stands(components: &[u64], counts: Counts, next: Next, i: usize) -> bool
+    requires { ⌜ RowInside (now components) i × (next .input ≤ 1024) × (next .output ≤ 1024)
         × (next .input ≡ inputSum (uncounted (now components) []) i) × (next .output ≡ outputSum (uncounted (now components) []) i) ⌝ }
-    ensures { λ r. ⌜ r ≡ rowRight (now (components .entry)) (now (inputs .entry)) (now (outputs .entry)) counts i ⌝ }
+    ensures { λ r. ⌜ r ≡ standsAt (now (components .entry)) counts i ⌝ }
 {
     if !row_obeyed(components, i) {
         return false;
     }
-    if !(id_fits(components, i) & row_follows(components, counts, next, i)) {
-        return false;
-    }
-    row_fits(components, inputs, outputs, i) & row_held(components, outputs, i)
+    id_fits(components, i) & row_follows(components, counts, next, i)
 }
 
-// Notes the widths of component i's ports, for the pass over the wires.
-fn note_widths(components: &[u64], i: usize, entering: &mut [u8; 256], leaving: &mut [u8; 256])
-    requires { ⌜ RowInside (now components) i × (obeyedAt (now components) i ≡ true) × (i < 256) ⌝ }
-    ensures { λ _. ⌜ (now (entering .exit) ≡ set (now (entering .entry)) i (inputWidth (fieldsIn (now (components .entry)) i)))
+// Whether the values of component i fit its ports and, where it is a Const, its output is its value. The widths of its ports are noted on
+// the way, for the pass over the wires.
+fn row_holds(
+    components: &[u64],
+    inputs: &[u64],
+    outputs: &[u64],
+    i: usize,
+    entering: &mut [u8; 256],
+    leaving: &mut [u8; 256],
+) -> bool
+    requires { ⌜ RowInside (now components) i × (obeyedAt (now components) i ≡ true) × (i < 256)
+        × InputsInside (now components) (now inputs) i × OutputsInside (now components) (now outputs) i ⌝ }
+    ensures { λ r. ⌜ (r ≡ holdsAt (now (components .entry)) (now (inputs .entry)) (now (outputs .entry)) i)
+        × (now (entering .exit) ≡ set (now (entering .entry)) i (inputWidth (fieldsIn (now (components .entry)) i)))
         × (now (leaving .exit) ≡ set (now (leaving .entry)) i (outputWidth (fieldsIn (now (components .entry)) i))) ⌝ }
 {
     let f = tables::fields_at(components, i);
-    entering[i] = kinds::input_width(f) as u8;
-    leaving[i] = kinds::output_width(f) as u8;
+    let inward = kinds::input_width(f);
+    let outward = kinds::output_width(f);
+    entering[i] = inward as u8;
+    leaving[i] = outward as u8;
+    if !row_fits(components, inputs, outputs, inward, outward, i) {
+        return false;
+    }
+    row_held(components, outputs, i)
 }
 
 // Whether all components are what a net asks of them, and no two have the same id. The widths of their ports are left in the two tables.
@@ -115,13 +121,15 @@ pub(crate) fn rows_right(
     };
     let mut i: usize = 0;
     while i < n {
-        if !row_right(components, inputs, outputs, counts, next, i) {
+        if !row_stands(components, counts, next, i) {
+            return false;
+        }
+        if !row_holds(components, inputs, outputs, i, entering, leaving) {
             return false;
         }
         if !id_new(components, &mut marks, i) {
             return false;
         }
-        note_widths(components, i, entering, leaving);
         next = next_after(components, next, i);
         i += 1;
     }

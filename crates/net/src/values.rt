@@ -1,12 +1,13 @@
 // Of one component: "values fit, each Const's output is its value"
 ghost use mathlib.Core.Path.{_≡_};
-ghost use mathlib.Core.Bool.{true};
+ghost use mathlib.Core.Bool.{true, _&&_};
+ghost use mathlib.Core.List.{[]};
 ghost use Prim.Native.Nat.{_+_, _≤_};
 ghost use lib.ListN.{length};
 ghost use Rattle.value.specs.Value.{allFit};
-ghost use Rattle.tables.specs.Tables.{numbers};
-ghost use Rattle.tables.specs.Words.{RowInside};
-ghost use Rattle.net.specs.Parts.{InputsInside, OutputsInside, obeyedAt, fitAt, heldAt};
+ghost use Rattle.tables.specs.Tables.{numbers, inputsAt, outputsAt};
+ghost use Rattle.tables.specs.Words.{RowInside, uncounted};
+ghost use Rattle.net.specs.Parts.{InputsInside, OutputsInside, obeyedAt, heldAt};
 use kinds::Kind;
 use value::Value;
 
@@ -30,19 +31,27 @@ fn all_fit(ports: &[u64], start: usize, count: usize, width: u64) -> bool
     true
 }
 
-// Whether the values of component i fit its ports.
-pub(crate) fn row_fits(components: &[u64], inputs: &[u64], outputs: &[u64], i: usize) -> bool
-    requires { ⌜ RowInside (now components) i × (obeyedAt (now components) i ≡ true) × InputsInside (now components) (now inputs) i
-        × OutputsInside (now components) (now outputs) i ⌝ }
-    ensures { λ r. ⌜ r ≡ fitAt (now (components .entry)) (now (inputs .entry)) (now (outputs .entry)) i ⌝ }
+// Whether the values of component i fit its ports, each of whose inputs has `inward` bits and each output `outward`.
+pub(crate) fn row_fits(
+    components: &[u64],
+    inputs: &[u64],
+    outputs: &[u64],
+    inward: u64,
+    outward: u64,
+    i: usize,
+) -> bool
+    requires { ⌜ RowInside (now components) i × InputsInside (now components) (now inputs) i × OutputsInside (now components) (now outputs) i ⌝ }
+    ensures { λ r. ⌜ r ≡ (allFit inward (inputsAt (uncounted (now (components .entry)) []) (now (inputs .entry)) i)
+        && allFit outward (outputsAt (uncounted (now (components .entry)) []) (now (outputs .entry)) i)) ⌝ }
 {
-    let f = tables::fields_at(components, i);
     let first_input = tables::first_input(components, i);
+    let input_count = tables::input_count(components, i);
+    if !all_fit(inputs, first_input, input_count, inward) {
+        return false;
+    }
     let first_output = tables::first_output(components, i);
-    let entering = kinds::input_width(f);
-    let leaving = kinds::output_width(f);
-    all_fit(inputs, first_input, f.inputs as usize, entering)
-        & all_fit(outputs, first_output, f.outputs as usize, leaving)
+    let output_count = tables::output_count(components, i);
+    all_fit(outputs, first_output, output_count, outward)
 }
 
 // Whether component i, where it is a Const, holds its value.

@@ -34,7 +34,8 @@ use Rattle.questions.specs.declared.Port.the-variants.{Is as PortIs, Ref
 use Rattle.questions.specs.declared.Listed.{Listed}
 use Rattle.questions.specs.declared.Listed.the-variants.{Count, Refused as NotListed}
 use Rattle.rounds.specs.Round.{calm}
-use Rattle.questions.specs.Questions.{ofNet, AsksCalm, indexGives, indexFound, AsksIndex, portCount, valueAt, valueGives, valueOnNet, AsksValue, listNumber, Listing, AsksSources, AsksTargets}
+use Rattle.questions.specs.Questions.{ofNet, AsksCalm, indexGives, indexFound, AsksIndex, portCount, valueAt, valueGives, valueOnNet, AsksValue}
+use Rattle.questions.specs.Questions.{listNumber, Listing, AsksSources, AsksTargets}
 use Rattle.questions.specs.declared.Tip.{Tip}
 use Rattle.questions.specs.declared.Tip.the-variants.{Source, Target}
 use Rattle.questions.specs.Asked.{endOf, met, RowRight}

@@ -19,8 +19,8 @@ fn contains(list: &[u16], count: usize, x: u16) -> bool
     false
 }
 
-// Appends x unless it is there. The answer is the new count. Crates rounds and simulator call it for a list of a net, which has room
-// for every component.
+// Appends x unless it is there. The answer is the new count. Crate simulator calls it for a list of a net, which has room for every
+// component.
 pub fn append_new(list: &mut [u16], count: usize, x: u16) -> usize
     requires { ⌜ (count ≤ length (now list)) × (length (appendNew x (take count (now list))) ≤ length (now list)) ⌝ }
     ensures { λ r. ⌜ (r ≡ length (appendNew x (take count (now (list .entry)))))

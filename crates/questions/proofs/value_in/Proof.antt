@@ -30,8 +30,13 @@ returns-2 c =
 
 -- Both are there.
 there : (c : tie.Else2)
-    → (leb (c .before .before .before .before .before .before .before .args .counts .components) (c .before .before .before .before .before .before .before .args .i) || leb (c .before .port-count .result) (c .before .before .before .before .before .before .before .args .port)) ≡ false
-there c = rw (lt-leb _ _ (c .before .before .if1 .left), lt-leb _ _ (c .if2 .left))
+    →
+    let at-port-count = c .before in
+    let s = at-port-count .before .before .before .before .before .before in
+    (leb (s .args .counts .components) (s .args .i) || leb (at-port-count .port-count .result) (s .args .port)) ≡ false
+there c =
+    let at-if1 = c .before .before in
+    rw (lt-leb _ _ (at-if1 .if1 .left), lt-leb _ _ (c .if2 .left))
 
 value-at-requires : tie.Need-value-at-requires
 value-at-requires c κs =

@@ -16,54 +16,80 @@ fields-at-requires c κs = let p = c .before .before .before .before .pre .1 in 
 
 part-update-end : tie.Need-part-update-end
 part-update-end c =
-    let s = c .before .before .before .before .before .before .before .before .before in
+    let at-first-output = c .before .before in
+    let at-first-input = at-first-output .before in
+    let at-fields-at = at-first-input .before in
+    let s = at-fields-at .before .before .before .before .before in
     let a = s .args in
     lent-inputs (uncounted (a .components .now) []) (a .inputs .now) (a .outputs .now) (a .i) (s .pre .1) _ _ _
-    (c .before .before .before .before .fields-at .ensures) (c .before .before .before .first-input .ensures) (c .before .before .first-output .ensures)
+    (at-fields-at .fields-at .ensures) (at-first-input .first-input .ensures) (at-first-output .first-output .ensures)
 
 part-update-end-2 : tie.Need-part-update-end-2
 part-update-end-2 c =
-    let s = c .before .before .before .before .before .before .before .before .before .before in
+    let at-first-output = c .before .before .before in
+    let at-first-input = at-first-output .before in
+    let at-fields-at = at-first-input .before in
+    let s = at-fields-at .before .before .before .before .before in
     let a = s .args in
     lent-outputs (uncounted (a .components .now) []) (a .inputs .now) (a .outputs .now) (a .i) (s .pre .1) _ _ _
-    (c .before .before .before .before .before .fields-at .ensures) (c .before .before .before .before .first-input .ensures) (c .before .before .before .first-output .ensures)
+    (at-fields-at .fields-at .ensures) (at-first-input .first-input .ensures) (at-first-output .first-output .ensures)
 
 update-requires : tie.Need-update-requires
 update-requires c κs =
-    let s = c .before .before .before .before .before .before .before .before .before .before .before in
+    let at-first-output = c .before .before .before .before in
+    let at-first-input = at-first-output .before in
+    let at-fields-at = at-first-input .before in
+    let s = at-fields-at .before .before .before .before .before in
     let a = s .args in
     lent-own (uncounted (a .components .now) []) (a .inputs .now) (a .outputs .now) (a .i) (s .pre .1) _ _ _
-    (c .before .before .before .before .before .before .fields-at .ensures) (c .before .before .before .before .before .first-input .ensures) (c .before .before .before .before .first-output .ensures)
+    (at-fields-at .fields-at .ensures) (at-first-input .first-input .ensures) (at-first-output .first-output .ensures)
 
 returns : tie.Need-returns
 returns c =
-    let s = c .before .before .before .before .before .before .before .before .before .before .before .before .before .before .before .before in
+    let at-update = c .before .before .before .before in
+    let at-first-output = at-update .before .before .before .before .before in
+    let at-first-input = at-first-output .before in
+    let at-fields-at = at-first-input .before in
+    let s = at-fields-at .before .before .before .before .before in
     let a = s .args in (
       evaluated-unstood (uncounted (a .components .now) []) (a .inputs .now) (a .outputs .now) (a .i) (s .pre .1) _ _ _
-          (c .before .before .before .before .before .before .before .before .before .before .before .fields-at .ensures) (c .before .before .before .before .before .before .before .before .before .before .first-input .ensures) (c .before .before .before .before .before .before .before .before .before .first-output .ensures) (a .time) (a .count) _ (a .standing .now)
-          (c .before .before .before .before .update .ensures) (s .pre .0 .covered (a .i) (s .pre .1 .few) (c .if1 .taken)) (s .pre .0 .count),
+          (at-fields-at .fields-at .ensures) (at-first-input .first-input .ensures) (at-first-output .first-output .ensures)
+          (a .time) (a .count) _ (a .standing .now) (at-update .update .ensures)
+          (s .pre .0 .covered (a .i) (s .pre .1 .few) (c .if1 .taken)) (s .pre .0 .count),
       s .pre .0,
     )
 
 returns-2 : tie.Need-returns-2
 returns-2 c =
-    let s = c .before .before .before .before .before .before .before .before .before .before .before .before .before .before .before .before .before .before in
+    let at-is-kind = c .before in
+    let at-update = at-is-kind .before .before .before .before .before in
+    let at-first-output = at-update .before .before .before .before .before in
+    let at-first-input = at-first-output .before in
+    let at-fields-at = at-first-input .before in
+    let s = at-fields-at .before .before .before .before .before in
     let a = s .args in (
       evaluated-clock (uncounted (a .components .now) []) (a .inputs .now) (a .outputs .now) (a .i) (s .pre .1) _ _ _
-          (c .before .before .before .before .before .before .before .before .before .before .before .before .before .fields-at .ensures) (c .before .before .before .before .before .before .before .before .before .before .before .before .first-input .ensures) (c .before .before .before .before .before .before .before .before .before .before .before .first-output .ensures) (a .time) (a .count) _ (a .standing .now)
-          (c .before .before .before .before .before .before .update .ensures) (sym (c .before .is-kind .ensures) ∙ c .if2 .taken) (s .pre .0 .count),
+          (at-fields-at .fields-at .ensures) (at-first-input .first-input .ensures) (at-first-output .first-output .ensures)
+          (a .time) (a .count) _ (a .standing .now) (at-update .update .ensures) (sym (at-is-kind .is-kind .ensures) ∙ c .if2 .taken) (s .pre .0 .count),
       s .pre .0,
     )
 
 returns-3 : tie.Need-returns-3
 returns-3 c =
-    let s = c .before .before .before .before .before .before .before .before .before .before .before .before .before .before .before .before .before .before .before .before .before .before in
+    let at-strike = c .before .before in
+    let at-if2 = at-strike .before .before in
+    let at-is-kind = at-if2 .before in
+    let at-update = at-is-kind .before .before .before .before .before in
+    let at-first-output = at-update .before .before .before .before .before in
+    let at-first-input = at-first-output .before in
+    let at-fields-at = at-first-input .before in
+    let s = at-fields-at .before .before .before .before .before in
     let a = s .args in
-    let r = c .before .before .strike .ensures in
+    let r = at-strike .strike .ensures in
     let e =
     evaluated-struck (uncounted (a .components .now) []) (a .inputs .now) (a .outputs .now) (a .i) (s .pre .1) _ _ _
-    (c .before .before .before .before .before .before .before .before .before .before .before .before .before .before .before .before .before .fields-at .ensures) (c .before .before .before .before .before .before .before .before .before .before .before .before .before .before .before .before .first-input .ensures) (c .before .before .before .before .before .before .before .before .before .before .before .before .before .before .before .first-output .ensures) (a .time)
-    (a .count) _ _ (a .standing .now) _ (c .before .before .before .before .before .before .before .before .before .before .update .ensures) (sym (c .before .before .before .before .before .is-kind .ensures) ∙ c .before .before .before .before .if2 .left)
+    (at-fields-at .fields-at .ensures) (at-first-input .first-input .ensures) (at-first-output .first-output .ensures) (a .time)
+    (a .count) _ _ (a .standing .now) _ (at-update .update .ensures) (sym (at-is-kind .is-kind .ensures) ∙ at-if2 .if2 .left)
     (r .0) (r .1) in
     (e, covered-struck (a .stood .now) (a .standing .now) _ (a .count) _ (a .i) (e .count) (r .1) (s .pre .0))
 
@@ -90,7 +116,9 @@ evaluate-at-spec =
     (λ c. search needs)
     (λ c. search needs)
     returns
-    (λ c κs. c .before .before .before .before .before .before .before .before .before .before .before .before .before .before .before .before .pre .1 .row)
+    (λ c κs.
+    let s = c .before .before .before .before .before .before .before .before .before .before .before .before .before .before .before .before in
+    s .pre .1 .row)
     (λ c. search needs)
     returns-2
     (λ c. search needs)

@@ -31,40 +31,49 @@ copy-requires-2 c κs =
 
 mark-requires : tie.Need-mark-requires
 mark-requires c κs =
-    let s = c .before .before .before .before .before .before .before .before .before .before .before .before .before .before .before .before .before in
+    let at-slice-known3 = c .before .before .before .before .before .before .before .before .before .before .before .before in
+    let s = at-slice-known3 .before .before .before .before .before in
     (following-in (came s) (s .pre .0), net-named (came s) (s .pre .0) .0, listed-none)
 
 mark-requires-2 : tie.Need-mark-requires-2
 mark-requires-2 c κs =
-    let s = c .before .before .before .before .before .before .before .before .before .before .before .before .before .before .before .before .before .before .before .before in
+    let at-copy-arg = c .before .before .before .before .before .before .before .before .before .before .before .before in
+    let s = at-copy-arg .before .before .before .before .before .before .before .before in
     (standing-in (came s) (s .pre .0), net-named (came s) (s .pre .0) .1, listed-none)
 
 visit-all-requires : tie.Need-visit-all-requires
 visit-all-requires c κs =
-    let s = c .before .before .before .before .before .before .before .before .before .before .before .before .before .before .before .before .before .before .before .before .before .before .before .before .before .before .before .before in
-    let f = c .before .before .before .before .before .before .before .before .before .before .before .before .before .before .before .before .before .before .copy in
-    let d = c .before .before .before .before .before .before .before .before .before .before .before .before .before .before .copy2 in (
+    let at-mark2 = c .before .before .before .before .before .before .before in
+    let at-mark = at-mark2 .before .before .before in
+    let at-copy2 = at-mark .before .before .before .before in
+    let at-copy = at-copy2 .before .before .before .before in
+    let s = at-copy .before .before .before .before .before .before .before .before .before .before in
+    let f = at-copy .copy in
+    let d = at-copy2 .copy2 in (
       net-runs (came s) (s .pre .0),
       net-current (came s) (s .pre .0),
       record {
         fits = net-copied (came s) (s .pre .0) _ _ (omega (arith, f .kept .1 .1 .0)) (f .ensures);
         marked = rw (copy-list (s .args .counts .following) (s .args .following .now) _ _ (following-in (came s) (s .pre .0)) (f .ensures))
-            (c .before .before .before .before .before .before .before .before .before .before .mark .ensures);
+            (at-mark .mark .ensures);
       },
       listed-covers _ (s .args .standing .now) _ (s .args .counts .standing)
           (omega (arith, net-within (came s) (s .pre .0) .standing, d .kept .1 .1 .0))
           (copy-list (s .args .counts .standing) (s .args .standing .now) _ _ (standing-in (came s) (s .pre .0)) (d .ensures))
-          (c .before .before .before .before .before .before .before .mark2 .ensures),
+          (at-mark2 .mark2 .ensures),
       s .pre .1,
     )
 
 end-round-requires : tie.Need-end-round-requires
 end-round-requires c κs =
-    let s = c .before .before .before .before .before .before .before .before .before .before .before .before .before .before .before .before .before .before .before .before .before .before .before .before .before .before .before .before .before .before .before .before .before .before .before .before .before .before .before .before in
+    let at-visit-all = c .before .before .before .before .before .before .before .before .before .before .before in
+    let at-copy2 = at-visit-all .before .before .before .before .before .before .before .before .before .before .before .before .before .before .before in
+    let at-copy = at-copy2 .before .before .before .before in
+    let s = at-copy .before .before .before .before .before .before .before .before .before .before in
     let f = netNumber-sizes (came s) (s .pre .0) in
-    let v = c .before .before .before .before .before .before .before .before .before .before .before .visit-all in
-    let n = v .kept .1 .1 .1 .1 .1 .1 .1 .1 .0 ∙ c .before .before .before .before .before .before .before .before .before .before .before .before .before .before .before .before .before .before .before .before .before .before .before .before .before .before .before .before .before .before .copy .kept .1 .1 .0 in
-    let l = v .kept .1 .1 .1 .1 .1 .1 .1 .1 .1 .1 .0 ∙ c .before .before .before .before .before .before .before .before .before .before .before .before .before .before .before .before .before .before .before .before .before .before .before .before .before .before .copy2 .kept .1 .1 .0 in (
+    let v = at-visit-all .visit-all in
+    let n = v .kept .1 .1 .1 .1 .1 .1 .1 .1 .0 ∙ at-copy .copy .kept .1 .1 .0 in
+    let l = v .kept .1 .1 .1 .1 .1 .1 .1 .1 .1 .1 .0 ∙ at-copy2 .copy2 .kept .1 .1 .0 in (
       v .ensures .1,
       v .ensures .2,
       omega (arith, v .ensures .1, n, f .current),
@@ -74,11 +83,15 @@ end-round-requires c κs =
 
 returns : tie.Need-returns
 returns c vs f =
-    let s = c .before .before .before .before .before .before .before .before .before .before .before .before .before .before .before .before .before .before .before .before .before .before .before .before .before .before .before .before .before .before .before .before .before .before .before .before .before .before .before .before .before .before .before .before .before .before .before in
-    round-made (came s) (s .args .time) vs _ _ _ _ _ _ _ _ _ (c .before .before .before .before .before .before .before .before .before .before .before .before .before .before .before .before .before .before .visit-all .result) _
-    (copy-list (s .args .counts .following) (s .args .following .now) _ _ (following-in (came s) (s .pre .0)) (c .before .before .before .before .before .before .before .before .before .before .before .before .before .before .before .before .before .before .before .before .before .before .before .before .before .before .before .before .before .before .before .before .before .before .before .before .before .copy .ensures))
-    (copy-list (s .args .counts .standing) (s .args .standing .now) _ _ (standing-in (came s) (s .pre .0)) (c .before .before .before .before .before .before .before .before .before .before .before .before .before .before .before .before .before .before .before .before .before .before .before .before .before .before .before .before .before .before .before .before .before .copy2 .ensures))
-    (c .before .before .before .before .before .before .before .before .before .before .before .before .before .before .before .before .before .before .visit-all .ensures .0 vs f) (c .before .before .before .before .before .before .end-round .ensures)
+    let at-end-round = c .before .before .before .before .before .before in
+    let at-visit-all = at-end-round .before .before .before .before .before .before .before .before .before .before .before .before in
+    let at-copy2 = at-visit-all .before .before .before .before .before .before .before .before .before .before .before .before .before .before .before in
+    let at-copy = at-copy2 .before .before .before .before in
+    let s = at-copy .before .before .before .before .before .before .before .before .before .before in
+    round-made (came s) (s .args .time) vs _ _ _ _ _ _ _ _ _ (at-visit-all .visit-all .result) _
+    (copy-list (s .args .counts .following) (s .args .following .now) _ _ (following-in (came s) (s .pre .0)) (at-copy .copy .ensures))
+    (copy-list (s .args .counts .standing) (s .args .standing .now) _ _ (standing-in (came s) (s .pre .0)) (at-copy2 .copy2 .ensures))
+    (at-visit-all .visit-all .ensures .0 vs f) (at-end-round .end-round .ensures)
 
 pub net-round-spec : {M : Type 1} → statement M
 net-round-spec =

@@ -35,29 +35,47 @@ add-target c = omega (arith, c .before .before .before .before .before .before .
 
 returns : tie.Need-returns
 returns c =
-    let s = c .before .before .before .before .before .before .before .before .before .before .before .before in
+    let at-word2 = c .before in
+    let at-word = at-word2 .before .before in
+    let at-first-input = at-word .before .before in
+    let at-first-output = at-first-input .before .before in
+    let s = at-first-output .before .before .before .before .before in
     let a = s .args in (
       send-agrees (T s) (a .inputs .now) (a .outputs .now) (a .following .now) (a .count) (a .wire) _ _ _ _
-          (source-place (c .before .before .before .before .before .before .before)) (target-place (c .before .before .before .before .before)) (c .before .before .before .word .ensures) (c .before .word2 .ensures) (c .if1 .taken) (s .pre .0 .count),
+          (source-place at-first-output) (target-place at-first-input) (at-word .word .ensures) (at-word2 .word2 .ensures) (c .if1 .taken) (s .pre .0 .count),
       s .pre .1,
     )
 
 mul-inputs : tie.Need-mul-inputs
-mul-inputs c = omega (arith, c .before .before .before .before .before .before .before .before .before .before .before .before .pre .0 .target, target-place (c .before .before .before .before .before))
+mul-inputs c =
+    let at-first-input = c .before .before .before .before .before in
+    let s = at-first-input .before .before .before .before .before .before .before in
+    omega (arith, s .pre .0 .target, target-place at-first-input)
 
 slice-write-inputs : tie.Need-slice-write-inputs
-slice-write-inputs c = omega (arith, c .before .before .before .before .before .before .before .before .before .before .before .before .pre .0 .target, target-place (c .before .before .before .before .before))
+slice-write-inputs c =
+    let at-first-input = c .before .before .before .before .before in
+    let s = at-first-input .before .before .before .before .before .before .before in
+    omega (arith, s .pre .0 .target, target-place at-first-input)
 
 append-marked-requires : tie.Need-append-marked-requires
-append-marked-requires c κs = let p = c .before .before .before .before .before .before .before .before .before .before .before .before .before .before .pre in (p .0 .few, p .0 .count, p .0 .room, p .1)
+append-marked-requires c κs =
+    let s = c .before .before .before .before .before .before .before .before .before .before .before .before .before .before in
+    let p = s .pre in (p .0 .few, p .0 .count, p .0 .room, p .1)
 
 returns-2 : tie.Need-returns-2
 returns-2 c =
-    let s = c .before .before .before .before .before .before .before .before .before .before .before .before .before .before .before .before .before in
+    let at-append-marked = c .before .before in
+    let at-if1 = at-append-marked .before .before .before in
+    let at-word2 = at-if1 .before in
+    let at-word = at-word2 .before .before in
+    let at-first-input = at-word .before .before in
+    let at-first-output = at-first-input .before .before in
+    let s = at-first-output .before .before .before .before .before in
     let a = s .args in
-    let r = c .before .before .append-marked .ensures in (
+    let r = at-append-marked .append-marked .ensures in (
       send-writes (T s) (a .inputs .now) (a .outputs .now) (a .following .now) (a .count) (a .wire) _ _ _ _
-          (source-place (c .before .before .before .before .before .before .before .before .before .before .before .before)) (target-place (c .before .before .before .before .before .before .before .before .before .before)) (c .before .before .before .before .before .before .before .before .word .ensures) (c .before .before .before .before .before .before .word2 .ensures) (c .before .before .before .before .before .if1 .left) _ _ _ refl
+          (source-place at-first-output) (target-place at-first-input) (at-word .word .ensures) (at-word2 .word2 .ensures) (at-if1 .if1 .left) _ _ _ refl
           (r .0) (r .1),
       listed-overlay _ _ (a .following .now) _ _ (r .0) (r .1) (r .2),
     )
@@ -73,7 +91,10 @@ send-along-spec =
     (λ c. search needs)
     add-target
     (λ c κs. omega (arith, c .before .before .before .before .before .before .before .before .pre .0 .source, source-place (c .before .before .before)))
-    (λ c κs. omega (arith, c .before .before .before .before .before .before .before .before .before .before .pre .0 .target, target-place (c .before .before .before)))
+    (λ c κs.
+    let at-first-input = c .before .before .before in
+    let s = at-first-input .before .before .before .before .before .before .before in
+    omega (arith, s .pre .0 .target, target-place at-first-input))
     (λ c. search needs)
     returns
     mul-inputs

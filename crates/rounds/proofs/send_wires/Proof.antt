@@ -44,7 +44,9 @@ loop-holds c =
     )
 
 -- What a net gives at a turn.
-runs : (c : tie.At-loop Inv-loop μ-loop) → CanRun (T (c .before .before .before .before .before .before .before .before)) (c .loop .inputs) (c .before .before .before .before .before .before .before .before .args .outputs .now)
+runs : (c : tie.At-loop Inv-loop μ-loop) →
+    let s = c .before .before .before .before .before .before .before .before in
+    CanRun (T s) (c .loop .inputs) (s .args .outputs .now)
 runs c =
     let s = c .before .before .before .before .before .before .before .before in
     runs-kept (s .args .components .now) (s .args .wires .now) (s .args .counts) (s .args .inputs .now)
@@ -52,39 +54,54 @@ runs c =
 
 send-along-requires : tie.Need-send-along-requires Inv-loop μ-loop
 send-along-requires c κs =
-    let s = c .before .before .before .before .before .before .before .before .before .before .before .before .before .before in
-    let l = c .before .before .before .before .before .before .loop in (
-      rw (c .before .before .before .wire-at .ensures)
+    let at-wire-at = c .before .before .before in
+    let at-if1 = at-wire-at .before in
+    let at-loop = at-if1 .before .before in
+    let s = at-loop .before .before .before .before .before .before .before .before in
+    let l = at-loop .loop in (
+      rw (at-wire-at .wire-at .ensures)
           (runs-sends (s .args .components .now) (s .args .wires .now) (s .args .counts) (l .inputs) (s .args .outputs .now)
-          (l .following) (l .filled) (l .k) (runs (c .before .before .before .before .before .before)) (l .inv .2 .fits) (c .before .before .before .before .if1 .taken)),
+          (l .following) (l .filled) (l .k) (runs at-loop) (l .inv .2 .fits) (at-if1 .if1 .taken)),
       l .inv .2 .marked,
     )
 
 mul-wide-2 : tie.Need-mul-wide-2 Inv-loop μ-loop
-mul-wide-2 c = omega (arith, c .before .before .before .before .before .before .before .before .before .if1 .taken, c .before .before .before .before .before .before .before .before .before .before .before .before .before .before .before .before .before .before .before .pre .0 .few-wires)
+mul-wide-2 c =
+    let at-if1 = c .before .before .before .before .before .before .before .before .before in
+    let s = at-if1 .before .before .before .before .before .before .before .before .before .before in
+    omega (arith, at-if1 .if1 .taken, s .pre .0 .few-wires)
 
 element-copy-out-wide-2 : tie.Need-element-copy-out-wide-2 Inv-loop μ-loop
-element-copy-out-wide-2 c = omega (arith, c .before .before .before .before .before .before .before .before .before .if1 .taken, c .before .before .before .before .before .before .before .before .before .before .before .before .before .before .before .before .before .before .before .pre .0 .few-wires)
+element-copy-out-wide-2 c =
+    let at-if1 = c .before .before .before .before .before .before .before .before .before in
+    let s = at-if1 .before .before .before .before .before .before .before .before .before .before in
+    omega (arith, at-if1 .if1 .taken, s .pre .0 .few-wires)
 
 loop-less : tie.Need-loop-less Inv-loop μ-loop
 loop-less c =
-    let s = c .before .before .before .before .before .before .before .before .before .before .before .before .before .before .before .before .before .before .before .before .before in
-    let l = c .before .before .before .before .before .before .before .before .before .before .before .before .before .loop in
-    sending-falls (T s) (s .args .wires .now) (s .args .after .now) (s .args .counts .wires) _ (came s) (l .k) _ _ (c .before .before .before .before .before .before .before .before .before .before .before .if1 .taken)
+    let at-if1 = c .before .before .before .before .before .before .before .before .before .before .before in
+    let at-loop = at-if1 .before .before in
+    let s = at-loop .before .before .before .before .before .before .before .before in
+    let l = at-loop .loop in
+    sending-falls (T s) (s .args .wires .now) (s .args .after .now) (s .args .counts .wires) _ (came s) (l .k) _ _ (at-if1 .if1 .taken)
     (c .wide2 .ensures) (l .inv .3)
 
 loop-again : tie.Need-loop-again Inv-loop μ-loop
 loop-again c =
-    let s = c .before .before .before .before .before .before .before .before .before .before .before .before .before .before .before .before .before .before .before .before .before in
-    let l = c .before .before .before .before .before .before .before .before .before .before .before .before .before .loop in
-    let w = c .before .before .before .before .before .before .before .before .before .before .wire-at .ensures in
-    let b = c .before .before .before .before .before .before .before .before .before .before .before .if1 .taken in
-    let r = c .before .before .before .before .before .before .send-along in (
+    let at-send-along = c .before .before .before .before .before .before in
+    let at-wire-at = at-send-along .before .before .before .before in
+    let at-if1 = at-wire-at .before in
+    let at-loop = at-if1 .before .before in
+    let s = at-loop .before .before .before .before .before .before .before .before in
+    let l = at-loop .loop in
+    let w = at-wire-at .wire-at .ensures in
+    let b = at-if1 .if1 .taken in
+    let r = at-send-along .send-along in (
       r .kept .1 .0 ∙ l .inv .0,
       r .kept .1 .1 .1 .0 ∙ l .inv .1,
       record {
         fits = sent-listed (s .args .components .now) (s .args .wires .now) (s .args .counts) (l .inputs) (s .args .outputs .now)
-            (l .following) _ _ (l .filled) (l .k) _ (runs (c .before .before .before .before .before .before .before .before .before .before .before .before .before)) (l .inv .2 .fits) b (rw w at (r .ensures .0)) (r .kept .1 .1 .1 .0);
+            (l .following) _ _ (l .filled) (l .k) _ (runs at-loop) (l .inv .2 .fits) b (rw w at (r .ensures .0)) (r .kept .1 .1 .1 .0);
         marked = r .ensures .1;
       },
       sending-next (T s) (s .args .wires .now) (s .args .after .now) (s .args .counts .wires) _ (came s) (l .k) _ _ _ b
@@ -95,8 +112,9 @@ loop-again c =
 
 returns : tie.Need-returns Inv-loop μ-loop
 returns c =
-    let s = c .before .before .before .before .before .before .before .before .before .before in
-    let l = c .before .before .loop in
+    let at-loop = c .before .before in
+    let s = at-loop .before .before .before .before .before .before .before .before in
+    let l = at-loop .loop in
     let a = s .args in (
       λ vs f. sending-end (T s) (a .wires .now) (a .after .now) (a .counts .wires) (getD (a .head .now) (a .i) 0) (came s) (l .k) _
           (omega arith) (l .inv .3) (numbersFrom (a .wires .now) (a .i) (f .order)) (f .links .linked (a .i) (s .pre .3))
@@ -115,7 +133,9 @@ send-wires-spec =
     (λ c. c .before .before .before .before .before .pre .3)
     (λ c κs. search needs)
     loop-holds
-    (λ c κs. omega (arith, c .if1 .taken, c .before .before .before .before .before .before .before .before .before .before .pre .0 .wires-in))
+    (λ c κs.
+    let s = c .before .before .before .before .before .before .before .before .before .before in
+    omega (arith, c .if1 .taken, s .pre .0 .wires-in))
     send-along-requires
     mul-wide-2
     element-copy-out-wide-2

@@ -18,10 +18,11 @@ evaluate-at-requires c κs =
 
 send-wires-requires : tie.Need-send-wires-requires
 send-wires-requires c κs =
-    let s = c .before .before .before .before .before .before .before .before .before .before .before .before .before .before .before .before .before .before in (
+    let at-evaluate-at = c .before .before .before .before .before .before .before .before in
+    let s = at-evaluate-at .before .before .before .before .before .before .before .before .before .before in (
       runs-kept (s .args .components .now) (s .args .wires .now) (s .args .counts) (s .args .inputs .now)
           (s .args .outputs .now) (s .args .inputs .now) _ (s .pre .0) refl
-          (c .before .before .before .before .before .before .before .before .evaluate-at .kept .1 .1 .0),
+          (at-evaluate-at .evaluate-at .kept .1 .1 .0),
       s .pre .1,
       s .pre .3,
       omega (arith, s .pre .4, s .pre .0 .few),
@@ -29,10 +30,12 @@ send-wires-requires c κs =
 
 returns : tie.Need-returns
 returns c =
-    let s = c .before .before .before .before .before .before .before .before .before .before .before .before .before .before .before .before .before .before .before .before .before .before .before in
+    let at-send-wires = c .before .before .before .before in
+    let at-evaluate-at = at-send-wires .before .before .before .before .before .before .before .before .before in
+    let s = at-evaluate-at .before .before .before .before .before .before .before .before .before .before in
     let T = wiring (s .args .components .now) (s .args .wires .now) (s .args .counts) in
-    let e = c .before .before .before .before .before .before .before .before .before .before .before .before .before .evaluate-at in
-    let w = c .before .before .before .before .send-wires in (
+    let e = at-evaluate-at .evaluate-at in
+    let w = at-send-wires .send-wires in (
       λ vs f. visited T vs (s .args .time) (s .args .i) (s .args .inputs .now)
           (s .args .outputs .now) _ _ _ _ _ _
           (e .ensures .0 .state ∙ evaluated-bare (s .args .components .now) (s .args .wires .now) (s .args .counts) _ _ _)

@@ -39,24 +39,31 @@ loop-holds c = let s = c .before .before .before .before .before .before .before
 
 visit-requires : tie.Need-visit-requires Inv-loop μ-loop
 visit-requires c κs =
-    let s = c .before .before .before .before .before .before .before .before .before .before .before .before .before .before .before in
-    let l = c .before .before .before .before .before .before .before .loop in
-    let b = c .before .before .before .before .before .before .loop-test .taken in (
+    let at-entry = c .before .before .before .before .before in
+    let at-loop-test = at-entry .before in
+    let at-loop = at-loop-test .before in
+    let s = at-loop .before .before .before .before .before .before .before .before in
+    let l = at-loop .loop in
+    let b = at-loop-test .loop-test .taken in (
       runs-kept (s .args .components .now) (s .args .wires .now) (s .args .counts) (s .args .inputs .now)
           (s .args .outputs .now) (l .inputs) (l .outputs) (s .pre .0) (l .inv .1) (l .inv .2),
       l .inv .5,
       l .inv .6,
       s .pre .4 (omega (arith, b)),
       listed-at (s .args .components .now) (s .args .wires .now) (s .args .counts) (s .args .count)
-          (s .args .list .now) (l .k) _ (s .pre .1) b (c .before .before .before .before .before .entry .ensures),
+          (s .args .list .now) (l .k) _ (s .pre .1) b (at-entry .entry .ensures),
     )
 
 loop-again : tie.Need-loop-again Inv-loop μ-loop
 loop-again c =
-    let s = c .before .before .before .before .before .before .before .before .before .before .before .before .before .before .before .before .before .before .before .before .before .before .before .before in
-    let l = c .before .before .before .before .before .before .before .before .before .before .before .before .before .before .before .before .loop in
-    let v = c .before .before .before .before .before .before .before .before .visit in
-    let b = c .before .before .before .before .before .before .before .before .before .before .before .before .before .before .before .loop-test .taken in
+    let at-visit = c .before .before .before .before .before .before .before .before in
+    let at-entry = at-visit .before .before .before .before .before .before in
+    let at-loop-test = at-entry .before in
+    let at-loop = at-loop-test .before in
+    let s = at-loop .before .before .before .before .before .before .before .before in
+    let l = at-loop .loop in
+    let v = at-visit .visit in
+    let b = at-loop-test .loop-test .taken in
     let T = wiring (s .args .components .now) (s .args .wires .now) (s .args .counts) in (
       omega (arith, b),
       v .kept .1 .1 .1 .1 .0 ∙ l .inv .1,
@@ -66,13 +73,14 @@ loop-again c =
       v .ensures .1,
       v .ensures .2,
       λ vs f. visits-next T vs (s .args .time) (s .args .list .now) (l .k) (s .args .count) _ _ _ _ b
-          (s .pre .1 .count) (c .before .before .before .before .before .before .before .before .before .before .before .before .before .before .entry .ensures) (v .ensures .0 vs (f (omega (arith, b)))) (l .inv .7 vs f),
+          (s .pre .1 .count) (at-entry .entry .ensures) (v .ensures .0 vs (f (omega (arith, b)))) (l .inv .7 vs f),
     )
 
 returns : tie.Need-returns Inv-loop μ-loop
 returns c =
-    let s = c .before .before .before .before .before .before .before .before .before in
-    let l = c .before .loop in
+    let at-loop = c .before in
+    let s = at-loop .before .before .before .before .before .before .before .before in
+    let l = at-loop .loop in
     let T = wiring (s .args .components .now) (s .args .wires .now) (s .args .counts) in (
       λ vs f. visits-end T vs (s .args .time) (s .args .list .now) (l .k) (s .args .count) _ _
           (omega arith) (l .inv .7 vs f),
@@ -87,10 +95,17 @@ visit-all-spec =
     Inv-loop
     μ-loop
     loop-holds
-    (λ c κs. omega (arith, c .loop-test .taken, c .before .before .before .before .before .before .before .before .before .pre .1 .count))
+    (λ c κs.
+    let s = c .before .before .before .before .before .before .before .before .before in
+    omega (arith, c .loop-test .taken, s .pre .1 .count))
     visit-requires
-    (λ c. omega (arith, c .before .before .before .before .before .before .before .before .before .before .before .before .before .before .before .loop-test .taken, c .before .before .before .before .before .before .before .before .before .before .before .before .before .before .before .before .before .before .before .before .before .before .before .before .fits))
-    (λ c. omega (arith, c .before .before .before .before .before .before .before .before .before .before .before .before .before .before .before .loop-test .taken))
+    (λ c.
+    let at-loop-test = c .before .before .before .before .before .before .before .before .before .before .before .before .before .before .before in
+    let s = at-loop-test .before .before .before .before .before .before .before .before .before in
+    omega (arith, at-loop-test .loop-test .taken, s .fits))
+    (λ c.
+    let s = c .before .before .before .before .before .before .before .before .before .before .before .before .before .before .before in
+    omega (arith, s .loop-test .taken))
     loop-again
     (λ c. search needs)
     (λ c. search needs)

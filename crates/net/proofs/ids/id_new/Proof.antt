@@ -14,11 +14,14 @@ use Rattle.net.proofs.ids.id_new.Statement.{statement}
 use Rattle.net.proofs.ids.id_new.Tie as tie
 
 -- Whether the id stands before.
-again : (c : tie.After-is-again) → c .is-again .result
-    ≡ has (idIn (c .before .before .before .before .args .components .now) (c .before .before .before .before .args .i)) (map (idIn (c .before .before .before .before .args .components .now)) (from 0 (c .before .before .before .before .args .i)))
+again : (c : tie.After-is-again) →
+    let s = c .before .before .before .before in
+    c .is-again .result ≡ has (idIn (s .args .components .now) (s .args .i)) (map (idIn (s .args .components .now)) (from 0 (s .args .i)))
 again c =
+    let at-id-at = c .before .before in
+    let s = at-id-at .before .before in
     c .is-again .ensures
-    ∙ ap (λ (x : ℕ). has x (map (idIn (c .before .before .before .before .args .components .now)) (from 0 (c .before .before .before .before .args .i)))) (c .before .before .id-at .ensures)
+    ∙ ap (λ (x : ℕ). has x (map (idIn (s .args .components .now)) (from 0 (s .args .i)))) (at-id-at .id-at .ensures)
 
 returns : tie.Need-returns
 returns c = (ap not (sym (c .if1 .taken) ∙ again (c .before)), λ e. absurd (true≢false (sym e)))

@@ -20,8 +20,11 @@ add-output c =
 
 returns : tie.Need-returns
 returns c =
-    let a = c .before .before .before .before .before .args in
-    (ap (λ (x : ℕ). a .next .input + x) (c .before .before .before .input-count .ensures), ap (λ (x : ℕ). a .next .output + x) (c .before .output-count .ensures))
+    let at-output-count = c .before in
+    let at-input-count = at-output-count .before .before in
+    let s = at-input-count .before .before in
+    let a = s .args in
+    (ap (λ (x : ℕ). a .next .input + x) (at-input-count .input-count .ensures), ap (λ (x : ℕ). a .next .output + x) (at-output-count .output-count .ensures))
 
 pub next-after-spec : {M : Type 1} → statement M
 next-after-spec = tie.close (tie.spec (λ c κs. c .before .pre .0) add-input (λ c κs. c .before .before .before .pre .0) add-output returns)

@@ -32,4 +32,11 @@ returns-2 c =
 
 pub row-held-spec : {M : Type 1} → statement M
 row-held-spec =
-    tie.close (tie.spec (λ c κs. c .before .before .pre .0) returns (λ c κs. c .before .before .before .before .pre .0) word-requires (λ c κs. c .before .before .before .before .before .before .pre .0) returns-2)
+    tie.close
+    (tie.spec
+    (λ c κs. c .before .before .pre .0)
+    returns
+    (λ c κs. c .before .before .before .before .pre .0)
+    word-requires
+    (λ c κs. c .before .before .before .before .before .before .pre .0)
+    returns-2)

@@ -24,8 +24,13 @@ rows : (c : tie.Else2) → c .before .rows-right .result ≡ true
 rows c = not-false _ (c .if2 .left)
 
 rows-are : (c : tie.Else2)
-    → rowsRight (lent (c .before .before .before .before .before .before .before .before .before .before .args .components .now) (c .before .before .before .before .before .before .before .before .before .before .args .inputs .now) (c .before .before .before .before .before .before .before .before .before .before .args .outputs .now) [] (c .before .before .before .before .before .before .before .before .before .before .args .counts)) ≡ true
-rows-are c = sym (c .before .rows-right .ensures .0) ∙ rows c
+    →
+    let s = c .before .before .before .before .before .before .before .before .before .before in
+    rowsRight (lent (s .args .components .now) (s .args .inputs .now) (s .args .outputs .now) [] (s .args .counts)) ≡ true
+rows-are c =
+    let at-rows-right = c .before in
+    let at-rows-right = at-rows-right in
+    sym (at-rows-right .rows-right .ensures .0) ∙ rows c
 
 returns : tie.Need-returns
 returns c =
@@ -48,28 +53,37 @@ rows-right-requires c κs =
 
 returns-2 : tie.Need-returns-2
 returns-2 c =
-    let a = c .before .before .before .before .before .before .before .before .before .before .args in
-    circuit-rows (a .components .now) (a .inputs .now) (a .outputs .now) (a .wires .now) (a .counts) (few (c .before .before .before .before))
-    (sym (c .before .rows-right .ensures .0) ∙ not-true _ (c .if2 .taken))
+    let at-rows-right = c .before in
+    let at-if1 = at-rows-right .before .before .before in
+    let s = at-if1 .before .before .before .before .before .before in
+    let a = s .args in
+    circuit-rows (a .components .now) (a .inputs .now) (a .outputs .now) (a .wires .now) (a .counts) (few at-if1)
+    (sym (at-rows-right .rows-right .ensures .0) ∙ not-true _ (c .if2 .taken))
 
 wires-right-requires : tie.Need-wires-right-requires
 wires-right-requires c κs =
-    let s = c .before .before .before .before .before .before .before .before .before .before .before .before in
+    let at-if2 = c .before .before in
+    let at-rows-right = at-if2 .before in
+    let at-if1 = at-rows-right .before .before .before in
+    let s = at-if1 .before .before .before .before .before .before in
     let a = s .args in
-    let w = within (c .before .before .before .before .before .before) in (
+    let w = within at-if1 in (
       w .components,
       w .inputs,
       omega (arith, w .components, s .pre .0),
       omega (arith, w .wires, s .pre .3),
-      c .before .before .before .rows-right .ensures .1 (rows (c .before .before)),
-      rows-follow (a .components .now) (a .inputs .now) (a .outputs .now) (a .counts) (rows-are (c .before .before)),
+      at-rows-right .rows-right .ensures .1 (rows at-if2),
+      rows-follow (a .components .now) (a .inputs .now) (a .outputs .now) (a .counts) (rows-are at-if2),
     )
 
 returns-3 : tie.Need-returns-3
 returns-3 c =
-    let a = c .before .before .before .before .before .before .before .before .before .before .before .before .before .args in
+    let at-if2 = c .before .before .before in
+    let at-if1 = at-if2 .before .before .before .before in
+    let s = at-if1 .before .before .before .before .before .before in
+    let a = s .args in
     c .wires-right .ensures
-    ∙ circuit-wires (a .components .now) (a .inputs .now) (a .outputs .now) (a .wires .now) (a .counts) (few (c .before .before .before .before .before .before .before)) (rows-are (c .before .before .before))
+    ∙ circuit-wires (a .components .now) (a .inputs .now) (a .outputs .now) (a .wires .now) (a .counts) (few at-if1) (rows-are at-if2)
 
 pub is-circuit-spec : {M : Type 1} → statement M
 is-circuit-spec =

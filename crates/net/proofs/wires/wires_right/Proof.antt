@@ -60,8 +60,14 @@ loop-holds c =
 
 -- The wire of a turn fits, or not.
 tested : (c : tie.After-wire-fits Inv-loop μ-loop)
-    → fitsAt (c .before .before .before .before .before .before .args .components .now) (c .before .before .before .before .before .before .args .wires .now) (c .before .before .before .before .before .before .args .counts) (c .before .before .before .loop .k) ≡ c .wire-fits .result
-tested c = ap (wireFits (L (c .before .before .before .before .before .before))) (sym (c .before .wire-at .ensures)) ∙ sym (c .wire-fits .ensures)
+    →
+    let at-loop = c .before .before .before in
+    let s = at-loop .before .before .before in
+    fitsAt (s .args .components .now) (s .args .wires .now) (s .args .counts) (at-loop .loop .k) ≡ c .wire-fits .result
+tested c =
+    let at-wire-at = c .before in
+    let s = at-wire-at .before .before .before .before .before in
+    ap (wireFits (L s)) (sym (at-wire-at .wire-at .ensures)) ∙ sym (c .wire-fits .ensures)
 
 fits : (c : tie.Else1 Inv-loop μ-loop) → wireFits (L (c .before .before .before .before .before .before .before)) (c .before .before .wire-at .result) ≡ true
 fits c = sym (c .before .wire-fits .ensures) ∙ not-false _ (c .if1 .left)
@@ -85,10 +91,15 @@ place-of-requires c κs =
 
 -- The place of a turn is that of its wire, and one of full size.
 place-is : (c : tie.After-place-of Inv-loop μ-loop)
-    → c .place-of .result ≡ placeIn (c .before .before .before .before .before .before .before .before .args .components .now) (c .before .before .before .before .before .before .before .before .args .wires .now) (c .before .before .before .before .before .loop .k)
+    →
+    let at-loop = c .before .before .before .before .before in
+    let s = at-loop .before .before .before in
+    c .place-of .result ≡ placeIn (s .args .components .now) (s .args .wires .now) (at-loop .loop .k)
 place-is c =
+    let at-wire-at = c .before .before .before in
+    let s = at-wire-at .before .before .before .before .before in
     c .place-of .ensures
-    ∙ ap (λ (w : Wire). inputPlace (uncounted (c .before .before .before .before .before .before .before .before .args .components .now) []) (w .dst)) (c .before .before .before .wire-at .ensures)
+    ∙ ap (λ (w : Wire). inputPlace (uncounted (s .args .components .now) []) (w .dst)) (at-wire-at .wire-at .ensures)
 
 place-small : (c : tie.After-place-of Inv-loop μ-loop) → c .place-of .result < 1024
 place-small c =
@@ -97,29 +108,37 @@ place-small c =
 
 returns-2 : tie.Need-returns-2 Inv-loop μ-loop
 returns-2 c =
-    let s = c .before .before .before .before .before .before .before .before .before in
+    let at-place-of = c .before in
+    let at-loop-test = at-place-of .before .before .before .before in
+    let at-loop = at-loop-test .before in
+    let s = at-loop .before .before .before in
     let a = s .args in
-    let l = c .before .before .before .before .before .before .loop in
-    let e = place-is (c .before) in
+    let l = at-loop .loop in
+    let e = place-is at-place-of in
     right-fails (fit s) (once s)
     (freshFrom-again (placeIn (a .components .now) (a .wires .now)) (l .seen) (l .k) (a .counts .wires) _ (l .inv .3)
-    (c .before .before .before .before .before .loop-test .taken) (λ z. c .if2 .taken (rw e z))
+    (at-loop-test .loop-test .taken) (λ z. c .if2 .taken (rw e z))
     ∙ inputsOnce-places (a .components .now) (a .wires .now) (a .counts))
 
 loop-again : tie.Need-loop-again Inv-loop μ-loop
 loop-again c =
-    let s = c .before .before .before .before .before .before .before .before .before in
+    let at-place-of = c .before in
+    let at-if1 = at-place-of .before in
+    let at-wire-fits = at-if1 .before in
+    let at-loop-test = at-wire-fits .before .before in
+    let at-loop = at-loop-test .before in
+    let s = at-loop .before .before .before in
     let a = s .args in
-    let l = c .before .before .before .before .before .before .loop in
-    let b = c .before .before .before .before .before .loop-test .taken in
-    let e = place-is (c .before) in (
+    let l = at-loop .loop in
+    let b = at-loop-test .loop-test .taken in
+    let e = place-is at-place-of in (
       omega (arith, b),
       simp length-set (l .inv .1),
       every-next (fitsAt (a .components .now) (a .wires .now) (a .counts)) (l .k) (a .counts .wires) _ b
-          (tested (c .before .before .before) ∙ not-false _ (c .before .before .if1 .left)) (l .inv .2),
+          (tested at-wire-fits ∙ not-false _ (at-if1 .if1 .left)) (l .inv .2),
       rw e
           (freshFrom-next (placeIn (a .components .now) (a .wires .now)) (l .seen) (l .k) (a .counts .wires) _ (l .inv .3) b
-          (omega (arith, e, l .inv .1, place-small (c .before))) (rw e at (c .if2 .left))),
+          (omega (arith, e, l .inv .1, place-small at-place-of)) (rw e at (c .if2 .left))),
     )
 
 returns-3 : tie.Need-returns-3 Inv-loop μ-loop

@@ -10,9 +10,12 @@ returns c = let s = c .before .before in (λ h. ready-done (s .args .linked) (s 
 
 link-requires : tie.Need-link-requires
 link-requires c κs =
-    let s = c .before .before .before .before in
+    let at-if1 = c .before .before in
+    let s = at-if1 .before .before in
     let a = s .args in
-    (s .pre .0, s .pre .1, ready-none (a .linked) (a .current) (a .wires .now) (a .count) (a .head .now) (a .after .now) (c .before .before .if1 .left) (s .pre .2), s .pre .3)
+    let none =
+    ready-none (a .linked) (a .current) (a .wires .now) (a .count) (a .head .now) (a .after .now) (at-if1 .if1 .left) (s .pre .2) in
+    (s .pre .0, s .pre .1, none, s .pre .3)
 
 pub link-once-spec : {M : Type 1} → statement M
 link-once-spec = tie.close (tie.spec returns link-requires (λ c. (λ h. refl, c .link .ensures)))

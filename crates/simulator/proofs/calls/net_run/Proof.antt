@@ -69,13 +69,15 @@ cast-evaluations c =
 
 add-evaluations : tie.Need-add-evaluations Inv-loop μ-loop
 add-evaluations c =
-    let s = c .before .before .before .before .before .before .before .before .before .before in
-    let w = net-within (here (c .before .before)) (c .before .before .loop .inv .7) in
+    let at-loop-test = c .before in
+    let at-loop = at-loop-test .before in
+    let s = at-loop .before .before .before .before .before .before .before .before in
+    let w = net-within (here at-loop) (at-loop .loop .inv .7) in
     omega (
       arith,
-      test-below (c .before .before .loop .calm) (c .before .before .loop .rounds) (s .args .limit)
-          (c .before .loop-test .taken),
-      c .before .before .loop .inv .1,
+      test-below (at-loop .loop .calm) (at-loop .loop .rounds) (s .args .limit)
+          (at-loop-test .loop-test .taken),
+      at-loop .loop .inv .1,
     )
 
 link-once-requires : tie.Need-link-once-requires Inv-loop μ-loop
@@ -86,57 +88,77 @@ link-once-requires c κs =
 
 net-round-requires : tie.Need-net-round-requires Inv-loop μ-loop
 net-round-requires c κs =
-    let s = c .before .before .before .before .before .before .before .before .before .before .before .before .before .before .before .before .before .before .before .before in
-    let l = c .before .before .before .before .before .before .before .before .before .before .before .before .loop in
-    let k = c .before .before .before .before .before .before .before .link-once in
+    let at-link-once = c .before .before .before .before .before .before .before in
+    let at-loop = at-link-once .before .before .before .before .before in
+    let s = at-loop .before .before .before .before .before .before .before .before in
+    let l = at-loop .loop in
+    let k = at-link-once .link-once in
     (l .inv .7, λ h. (_, ready-follows _ (s .args .wires .now) (l .reached .wires) _ _ (k .ensures .0 h) (k .ensures .1)))
 
 add-rounds : tie.Need-add-rounds Inv-loop μ-loop
 add-rounds c =
-    let s = c .before .before .before .before .before .before .before .before .before .before .before .before .before .before .before .before .before .before .before .before .before .before .before .before .before .before .before .before .before .before .before in
-    let l = c .before .before .before .before .before .before .before .before .before .before .before .before .before .before .before .before .before .before .before .before .before .before .before .loop in
-    omega (arith, test-below (l .calm) (l .rounds) (s .args .limit) (c .before .before .before .before .before .before .before .before .before .before .before .before .before .before .before .before .before .before .before .before .before .before .loop-test .taken), s .fits)
+    let at-net-round-arg4 = c .before .before .before .before .before .before .before .before .before .before .before .before in
+    let at-loop-test = at-net-round-arg4 .before .before .before .before .before .before .before .before .before .before in
+    let at-loop = at-loop-test .before in
+    let s = at-loop .before .before .before .before .before .before .before .before in
+    let l = at-loop .loop in
+    omega (arith, test-below (l .calm) (l .rounds) (s .args .limit) (at-loop-test .loop-test .taken), s .fits)
 
 -- The tables after the round.
 abbrev then : tie.After-net-round Inv-loop μ-loop → Tables
 then c =
-    let s = c .before .before .before .before .before .before .before .before .before .before .before .before .before .before .before .before .before .before .before .before .before in
+    let at-loop = c .before .before .before .before .before .before .before .before .before .before .before .before .before in
+    let s = at-loop .before .before .before .before .before .before .before .before in
     let r = c .net-round in
     tablesOf (s .args .components .now) (r .last .1 .0) (r .last .1 .1 .0) (s .args .wires .now)
     (r .last .1 .1 .1 .1 .1 .1 .0) (r .last .1 .1 .1 .1 .1 .1 .1 .0) (r .last .1 .1 .1 .1 .1 .1 .1 .1 .0) (r .result)
 
-made : (c : tie.After-net-round Inv-loop μ-loop) → then c ≡ roundOf (c .before .before .before .before .before .before .before .before .before .before .before .before .before .before .before .before .before .before .before .before .before .args .time) (here (c .before .before .before .before .before .before .before .before .before .before .before .before .before))
+made : (c : tie.After-net-round Inv-loop μ-loop) →
+    let at-loop = c .before .before .before .before .before .before .before .before .before .before .before .before .before in
+    let s = at-loop .before .before .before .before .before .before .before .before in
+    then c ≡ roundOf (s .args .time) (here at-loop)
 made c =
-    let s = c .before .before .before .before .before .before .before .before .before .before .before .before .before .before .before .before .before .before .before .before .before in
-    let T = here (c .before .before .before .before .before .before .before .before .before .before .before .before .before) in
-    let k = c .before .before .before .before .before .before .before .before .link-once in
+    let at-link-once = c .before .before .before .before .before .before .before .before in
+    let at-loop = at-link-once .before .before .before .before .before in
+    let s = at-loop .before .before .before .before .before .before .before .before in
+    let T = here at-loop in
+    let k = at-link-once .link-once in
     round-stored T (then c) (s .args .time)
     (c .net-round .ensures (wiresIn T)
     (λ h. ready-follows _ (s .args .wires .now) (T .counts .wires) _ _ (k .ensures .0 h) (k .ensures .1)))
 
 only-clocks-requires : tie.Need-only-clocks-requires Inv-loop μ-loop
 only-clocks-requires c κs =
-    let s = c .before .before .before .before .before .before .before .before .before .before .before .before .before .before .before .before .before .before .before .before .before .before .before .before .before .before .before .before .before .before .before .before in
-    let U = then (c .before .before .before .before .before .before .before .before .before .before .before) in
-    let z = round-net (s .args .time) (here (c .before .before .before .before .before .before .before .before .before .before .before .before .before .before .before .before .before .before .before .before .before .before .before .before)) U (c .before .before .before .before .before .before .before .before .before .before .before .before .before .before .before .before .before .before .before .before .before .before .before .before .loop .inv .7) (made (c .before .before .before .before .before .before .before .before .before .before .before)) in
+    let at-net-round = c .before .before .before .before .before .before .before .before .before .before .before in
+    let at-loop = at-net-round .before .before .before .before .before .before .before .before .before .before .before .before .before in
+    let s = at-loop .before .before .before .before .before .before .before .before in
+    let U = then at-net-round in
+    let z = round-net (s .args .time) (here at-loop) U (at-loop .loop .inv .7) (made at-net-round) in
     (omega (arith, net-within U z .current, netNumber-sizes U z .current), net-listed U z)
 
 loop-less : tie.Need-loop-less Inv-loop μ-loop
 loop-less c =
-    let s = c .before .before .before .before .before .before .before .before .before .before .before .before .before .before .before .before .before .before .before .before .before .before .before .before .before .before .before .before .before .before .before .before .before in
-    let l = c .before .before .before .before .before .before .before .before .before .before .before .before .before .before .before .before .before .before .before .before .before .before .before .before .before .loop in
-    omega (arith, test-below (l .calm) (l .rounds) (s .args .limit) (c .before .before .before .before .before .before .before .before .before .before .before .before .before .before .before .before .before .before .before .before .before .before .before .before .loop-test .taken))
+    let at-net-round = c .before .before .before .before .before .before .before .before .before .before .before .before in
+    let at-loop-test = at-net-round .before .before .before .before .before .before .before .before .before .before .before .before in
+    let at-loop = at-loop-test .before in
+    let s = at-loop .before .before .before .before .before .before .before .before in
+    let l = at-loop .loop in
+    omega (arith, test-below (l .calm) (l .rounds) (s .args .limit) (at-loop-test .loop-test .taken))
 
 loop-again : tie.Need-loop-again Inv-loop μ-loop
 loop-again c =
-    let s = c .before .before .before .before .before .before .before .before .before .before .before .before .before .before .before .before .before .before .before .before .before .before .before .before .before .before .before .before .before .before .before .before .before in
-    let l = c .before .before .before .before .before .before .before .before .before .before .before .before .before .before .before .before .before .before .before .before .before .before .before .before .before .loop in
-    let r = c .before .before .before .before .before .before .before .before .before .before .before .before .net-round in
-    let k = c .before .before .before .before .before .before .before .before .before .before .before .before .before .before .before .before .before .before .before .before .link-once in
-    let T = here (c .before .before .before .before .before .before .before .before .before .before .before .before .before .before .before .before .before .before .before .before .before .before .before .before .before) in
-    let U = then (c .before .before .before .before .before .before .before .before .before .before .before .before) in
+    let at-net-round = c .before .before .before .before .before .before .before .before .before .before .before .before in
+    let at-link-once = at-net-round .before .before .before .before .before .before .before .before in
+    let at-loop-test = at-link-once .before .before .before .before in
+    let at-loop = at-loop-test .before in
+    let s = at-loop .before .before .before .before .before .before .before .before in
+    let l = at-loop .loop in
+    let r = at-net-round .net-round in
+    let k = at-link-once .link-once in
+    let T = here at-loop in
+    let U = then at-net-round in
     let w = net-within T (l .inv .7) in
-    let b = test-below (l .calm) (l .rounds) (s .args .limit) (c .before .before .before .before .before .before .before .before .before .before .before .before .before .before .before .before .before .before .before .before .before .before .before .before .loop-test .taken) in (
+    let b = test-below (l .calm) (l .rounds) (s .args .limit) (at-loop-test .loop-test .taken) in (
       omega (arith, b),
       omega (arith, l .inv .1),
       r .kept .1 .0 ∙ l .inv .2,
@@ -144,19 +166,20 @@ loop-again c =
       r .kept .1 .1 .1 .1 .1 .1 .0 ∙ l .inv .4,
       r .kept .1 .1 .1 .1 .1 .1 .1 .0 ∙ l .inv .5,
       r .kept .1 .1 .1 .1 .1 .1 .1 .1 .0 ∙ l .inv .6,
-      round-net (s .args .time) T U (l .inv .7) (made (c .before .before .before .before .before .before .before .before .before .before .before .before)),
-      run-turn (s .args .time) T U (l .inv .7) (made (c .before .before .before .before .before .before .before .before .before .before .before .before)) (s .args .limit) (l .rounds) (l .evaluations) _ _ b
+      round-net (s .args .time) T U (l .inv .7) (made at-net-round),
+      run-turn (s .args .time) T U (l .inv .7) (made at-net-round) (s .args .limit) (l .rounds) (l .evaluations) _ _ b
           (c .only-clocks .ensures ∙ calm-list U)
-          (rw (test-going (l .calm) (l .rounds) (s .args .limit) (c .before .before .before .before .before .before .before .before .before .before .before .before .before .before .before .before .before .before .before .before .before .before .before .before .loop-test .taken)) at (l .inv .8)),
-      subst (λ (n : ℕ). Ready (k .result) (s .args .wires .now) n (k .last .1 .1 .1 .1 .0) (k .last .1 .1 .1 .1 .1 .0)) (sym (round-wires T U (s .args .time) (made (c .before .before .before .before .before .before .before .before .before .before .before .before))))
-          (k .ensures .1),
+          (rw (test-going (l .calm) (l .rounds) (s .args .limit) (at-loop-test .loop-test .taken)) at (l .inv .8)),
+      subst (λ (n : ℕ). Ready (k .result) (s .args .wires .now) n (k .last .1 .1 .1 .1 .0) (k .last .1 .1 .1 .1 .1 .0))
+          (sym (round-wires T U (s .args .time) (made at-net-round))) (k .ensures .1),
     )
 
 returns : tie.Need-returns Inv-loop μ-loop
 returns c =
-    let s = c .before .before .before .before .before .before .before .before .before in
-    let l = c .before .loop in
-    run-end (l .calm) (s .args .limit) (l .rounds) (l .evaluations) (s .args .time) (here (c .before)) _
+    let at-loop = c .before in
+    let s = at-loop .before .before .before .before .before .before .before .before in
+    let l = at-loop .loop in
+    run-end (l .calm) (s .args .limit) (l .rounds) (l .evaluations) (s .args .time) (here at-loop) _
     (c .loop-test .left) (l .inv .8)
 
 pub net-run-spec : {M : Type 1} → statement M
