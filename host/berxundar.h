@@ -49,8 +49,8 @@
  *   - No memory is lent twice in one call: no two tables overlap, and neither do a table and the file or the words for an answer.
  *   - While a call runs, nobody else writes to what it is lent, nor reads what it writes. Apart from that calls may run in any
  *     number of threads at once.
- *   - A load or a judgement needs up to 180,000 bytes of stack, a look up to 200,000, each other call less than 8,000. A thread
- *     with a small stack must not load, judge or look.
+ *   - A call takes at most 48 KiB (49,152 bytes) of stack: a look up to so many, a load or a judgement up to 32,000 bytes, each
+ *     other call less than 10,000.
  *
  * WHEN TO LIGHT: once a round has run since the load, and the three lists name nothing but Clocks, the whole drawing is
  * satisfied: each output has the value of every input that it leads to, and each component's outputs are its function of its

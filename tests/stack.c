@@ -9,7 +9,7 @@
 
 #include <stdio.h>
 
-#define ROOM 600000
+#define ROOM 200000
 #define PATTERN 0xa5
 
 static uint8_t bytes[FILE_ROOM];
@@ -87,11 +87,11 @@ static const struct {
     const char *name;
     uint32_t (*call)(void);
     size_t said;
-} calls[] = { { "judge", judge, 180000 }, { "judge a pair", judge_pair, 180000 }, { "load", load, 180000 },
-    { "look at the root", look, 200000 }, { "look inside", look_inside, 200000 }, { "round", run_round, 8000 },
-    { "run until calm", run, 8000 }, { "edit", edit, 8000 }, { "calm", calm, 8000 }, { "index", index_of, 8000 },
-    { "value", value, 8000 }, { "sources", sources, 8000 }, { "targets", targets, 8000 }, { "check", check, 8000 },
-    { "evaluate", evaluate, 8000 } };
+} calls[] = { { "judge", judge, 32000 }, { "judge a pair", judge_pair, 32000 }, { "load", load, 32000 },
+    { "look at the root", look, 49152 }, { "look inside", look_inside, 49152 }, { "round", run_round, 10000 },
+    { "run until calm", run, 10000 }, { "edit", edit, 10000 }, { "calm", calm, 10000 }, { "index", index_of, 10000 },
+    { "value", value, 10000 }, { "sources", sources, 10000 }, { "targets", targets, 10000 }, { "check", check, 10000 },
+    { "evaluate", evaluate, 10000 } };
 
 int main(void)
 {
