@@ -184,6 +184,11 @@ pub stretch-is : (s t : List ℕ) (c a e : ℕ) → IsIndex s t → a ≡ stretc
 stretch-is s t c a e h ea ee =
     rw (ea, ee) (record { within = h .within c; starts = λ q u o. h .starts q c u o; ends = λ q u o. h .ends q c u o })
 
+-- There is some depth to start from.
+pub deepest-some : deepest ≡ 0 → ⊥
+unfolding deepest
+deepest-some e = omega arith
+
 -- In a file: record q is r, and b says whether a test holds of it.
 module _ (s : List ℕ) (n : ℕ) where
   -- the source: a primitive; a composite whose map is refused, is no output map, is one

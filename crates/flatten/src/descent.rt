@@ -4,6 +4,7 @@ ghost use mathlib.Core.Path.{_≡_};
 ghost use Prim.Native.Nat.{_+_, _≤_};
 ghost use lib.ListN.{length};
 ghost use Rattle.component.specs.Record.{recordAt, recordCount};
+ghost use Rattle.component.specs.Drawing.{deepest};
 ghost use Rattle.index.specs.Index.{IsIndex};
 ghost use Rattle.flatten.specs.Descent.{outputBelow, inputsBelow};
 ghost use Rattle.flatten.specs.Searches.{entered};
@@ -12,6 +13,7 @@ use crate::Pin;
 use crate::targets::lay_target;
 use component::Reading;
 use component::Says;
+use component::deepest;
 use component::is_primitive_at;
 use component::known_at;
 use index::child_of;
@@ -102,4 +104,31 @@ pub fn list_targets(
         q += 1;
     }
     next
+}
+
+// Output i of component c, down to a primitive's output, from the greatest depth: a primitive's own output needs no descent. Crates flatten and
+// laying call it, with the index filled.
+pub fn source_from(file: &[u8], index: &[u16], c: usize, i: u16) -> Pin
+    requires { ⌜ IsIndex (now file) (now index) ⌝ }
+    ensures { λ r. ⌜ r ≡ outputBelow (recordAt (now (file .entry))) (recordCount (now (file .entry))) deepest c i ⌝ }
+{
+    if is_primitive_at(file, c) {
+        return Pin { comp: c, port: i };
+    }
+    source_of(file, index, deepest(), c, i)
+}
+
+// Lists the primitive inputs that input i of component c leads to, from the greatest depth and from the table's first entry on: a primitive's own input
+// needs no descent. The answer is how many they are. Crates flatten and laying call it, with the index filled and room in the table.
+pub fn targets_from(file: &[u8], index: &[u16], c: usize, i: u16, targets: &mut [u16]) -> usize
+    requires { ⌜ IsIndex (now file) (now index)
+        × (targetPlace (length (inputsBelow (recordAt (now file)) (recordCount (now file)) deepest c i)) ≤ length (now targets)) ⌝ }
+    ensures { λ r. ⌜ Listed (now (targets .entry)) 0 (inputsBelow (recordAt (now (file .entry))) (recordCount (now (file .entry))) deepest c i)
+        (now (targets .exit)) r ⌝ }
+{
+    if is_primitive_at(file, c) {
+        lay_target(targets, 0, Pin { comp: c, port: i });
+        return 1;
+    }
+    list_targets(file, index, deepest(), c, i, targets, 0)
 }

@@ -5,7 +5,9 @@ mod targets;
 mod widths;
 
 pub use descent::list_targets;
+pub use descent::source_from;
 pub use descent::source_of;
+pub use descent::targets_from;
 pub use judgement::verdict;
 pub use judgement::verdict_indexed;
 pub use targets::target_at;

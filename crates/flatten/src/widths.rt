@@ -11,12 +11,11 @@ ghost use Rattle.flatten.specs.Descent.{fails15};
 ghost use Rattle.flatten.specs.Searches.{unlike, PassedBefore};
 ghost use Rattle.flatten.specs.Targets.{targetPlace, targetsIn};
 use crate::Pin;
-use crate::descent::list_targets;
-use crate::descent::source_of;
+use crate::descent::source_from;
+use crate::descent::targets_from;
 use crate::targets::target_at;
 use component::Reading;
 use component::Says;
-use component::deepest;
 use component::fields_at;
 use component::known_at;
 use index::child_of;
@@ -64,10 +63,10 @@ fn yields_unlike(file: &[u8], index: &[u16], targets: &mut [u16], p: usize) -> b
         return false;
     };
     let start = child_of(file, index, owner as usize, from);
-    let source = source_of(file, index, deepest(), start, output);
+    let source = source_from(file, index, start, output);
     let width = kinds::output_width(fields_at(file, source.comp));
     let goal = child_of(file, index, owner as usize, to);
-    let count = list_targets(file, index, deepest(), goal, input, targets, 0);
+    let count = targets_from(file, index, goal, input, targets);
     any_differs(file, targets, count, width)
 }
 

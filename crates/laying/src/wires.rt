@@ -17,12 +17,11 @@ ghost use Rattle.tables.specs.Words.{wirePlace};
 use crate::names::index_flat;
 use component::Reading;
 use component::Says;
-use component::deepest;
 use component::known_at;
 use flatten::Pin;
-use flatten::list_targets;
-use flatten::source_of;
+use flatten::source_from;
 use flatten::target_at;
+use flatten::targets_from;
 use index::child_of;
 use tables::End;
 use tables::FlatIdx;
@@ -101,10 +100,10 @@ fn connect(
         return at;
     };
     let start = child_of(file, index, owner as usize, from);
-    let source = source_of(file, index, deepest(), start, output);
+    let source = source_from(file, index, start, output);
     let flat = flat_pin(indexes, source);
     let goal = child_of(file, index, owner as usize, to);
-    let count = list_targets(file, index, deepest(), goal, input, targets, 0);
+    let count = targets_from(file, index, goal, input, targets);
     lay_leads(indexes, flat, targets, count, wires, at)
 }
 
