@@ -9,7 +9,7 @@ ghost use Prim.Native.Nat.{_≤_, _<_};
 ghost use lib.Dec.{eqb, leb, ltb};
 ghost use Rattle.lists.specs.Lists.{from, any};
 ghost use Rattle.component.specs.Record.{recordAt, recordCount};
-ghost use Rattle.component.specs.Reading.{formBy, Readable};
+ghost use Rattle.component.specs.Reading.{formBy, said, Readable};
 ghost use Rattle.index.specs.Index.{IsIndex};
 ghost use Rattle.component.specs.Reading.{given};
 ghost use Rattle.checks.specs.Checks.{failsBy};
@@ -336,11 +336,11 @@ enum Entry {
     Nothing,
 }
 
-// The child's input that the record at a position enters.
-fn entry_at(file: &[u8], p: usize) -> Entry
-    ensures { λ r. ⌜ EntryAs r (recordAt (now (file .entry)) p) ⌝ }
+// The child's input that a record enters.
+fn entry_of(r: Reading) -> Entry
+    ensures { λ x. ⌜ EntryAs x (said r) ⌝ }
 {
-    let Reading::Taken { owner, says } = record_at(file, p) else {
+    let Reading::Taken { owner, says } = r else {
         return Entry::Nothing;
     };
     match says {
@@ -349,6 +349,13 @@ fn entry_at(file: &[u8], p: usize) -> Entry
         Says::InputMap { to, input, .. } => Entry::Of { owner, to, input },
         Says::OutputMap { .. } => Entry::Nothing,
     }
+}
+
+// The one that the record at a position enters, also of a file that check 3 has not been asked of.
+fn entry_at(file: &[u8], p: usize) -> Entry
+    ensures { λ r. ⌜ EntryAs r (recordAt (now (file .entry)) p) ⌝ }
+{
+    entry_of(record_at(file, p))
 }
 
 // Whether the record at q enters the input of child `to` of an owner.

@@ -11,12 +11,13 @@ ghost use Rattle.index.specs.Index.{IsIndex};
 ghost use Rattle.checks.specs.Checks.{IsFirst, idMark, isEntry, placeMark, entryMark};
 use crate::Entry;
 use crate::earlier_of;
-use crate::entry_at;
+use crate::entry_of;
 use crate::id_before;
 use crate::ports_at;
 use component::ChildNo;
 use component::Stands;
 use component::component_at;
+use component::known_at;
 use index::child_of;
 
 // 10 of the record at p, where the ids of the components before it are marked: an id whose mark is not set is none of theirs, and one whose
@@ -93,7 +94,7 @@ fn enters_again(file: &[u8], index: &[u16], marks: &mut [u8; 16384], p: usize) -
     ensures { λ r. ⌜ (r ≡ false → IsMarked 16384 (isEntry (recordAt (now (file .entry))))
         (entryMark (recordAt (now (file .entry))) (recordCount (now (file .entry)))) 0 (p + 1) (now (marks .exit))) ⌝ }
 {
-    let Entry::Of { owner, to, input } = entry_at(file, p) else {
+    let Entry::Of { owner, to, input } = entry_of(known_at(file, p)) else {
         return false;
     };
     let place = place_mark(file, index, owner, to, input);

@@ -33,8 +33,7 @@ use Rattle.flatten.specs.declared.Lead.{Lead}
 use Rattle.flatten.specs.Descent.{outputBelow, inputsBelow, comesFrom, goesTo, wiresAt, wires}
 use Rattle.flatten.specs.Targets.{targetPlace, targetIn, targetsIn, Listed}
 use Rattle.flatten.proofs.DescentLaws.{source-is, form-is}
-use Rattle.flatten.proofs.Accepted.{Passed, accepted-sized, accepted-passed}
-use Rattle.flatten.proofs.JudgementLaws.{sized-most}
+use Rattle.flatten.proofs.Accepted.{Passed, accepted-passed}
 use Rattle.flatten.proofs.Components.{primitive-component, component-number}
 use Rattle.flatten.proofs.Ends.{source-there, target-there}
 use Rattle.flatten.proofs.ConnectionLaws.{connection-read}
@@ -116,10 +115,6 @@ module _ (s : List ℕ) (n : ℕ) where
       → OneOf (0 ∷ 2 ∷ 3 ∷ []) (tagOf the-type x) → Written t k (wiresGiven (recordAt s) n p) t k
   connect-other p o r x t k e h y =
       unwired p t k (λ z. no-connection x y (sym (taken-form (recordAt s p) r e o x h) ∙ z))
-
--- An accepted file has at most 1,024 records.
-pub ready-most : (s ix fs : List ℕ) → Ready s ix fs → length s / 24 ≤ 1024
-ready-most s ix fs h = sized-most s true (sym (accepted-sized s (h .accepted))) refl
 
 -- Record p of an accepted file is a connection.
 module _ (s ix fs : List ℕ) (ready : Ready s ix fs) (p : ℕ) (l : p < length s / 24) (o a b : ℕ) (f g : ChildNo)

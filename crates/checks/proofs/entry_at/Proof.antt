@@ -1,38 +1,19 @@
--- `entry_at`: by what the record says.
+-- `entry_at`: what the record read there enters.
 -- Assumes nothing.
-use Rattle.checks.proofs.ChecksLaws.{entry-refused, entry-component, entry-connection, entry-input-map, entry-output-map}
+use Rattle.checks.specs.Checks.{EntryAs}
+use mathlib.Core.Path.{subst}
 use borrow.Author.Needs.{needs}
 use Rattle.checks.proofs.entry_at.Statement.{statement}
 use Rattle.checks.proofs.entry_at.Tie as tie
 
+record-at-requires : tie.Need-record-at-requires
+record-at-requires c κs = search needs
+
+entry-of-requires : tie.Need-entry-of-requires
+entry-of-requires c κs = search needs
+
 returns : tie.Need-returns
-returns c = search (entry-refused)
-
-returns-2 : tie.Need-returns-2
-returns-2 c = search (entry-component)
-
-returns-3 : tie.Need-returns-3
-returns-3 c = search (entry-connection)
-
-returns-4 : tie.Need-returns-4
-returns-4 c = search (entry-input-map)
-
-returns-5 : tie.Need-returns-5
-returns-5 c = search (entry-output-map)
+returns c = subst (EntryAs (c .entry-of .result)) (c .before .record-at .ensures .0) (c .entry-of .ensures)
 
 pub entry-at-spec : {M : Type 1} → statement M
-entry-at-spec =
-    tie.close
-    (tie.spec
-    (λ c κs. search needs)
-    (λ c. search needs)
-    (λ c. search needs)
-    returns
-    (λ c. search needs)
-    (λ c. search needs)
-    (λ c. search needs)
-    (λ c. search needs)
-    returns-2
-    returns-3
-    returns-4
-    returns-5)
+entry-at-spec = tie.close (tie.spec record-at-requires entry-of-requires returns)
