@@ -213,17 +213,11 @@ fn guess_children(file: &[u8], index: &mut [u16])
     }
 }
 
-// Guesses that the record at q, if it is an output map with none of its owner before it, is its owner's first.
-fn guess_map(index: &mut [u16], r: Reading, q: usize)
+// Guesses that the output map at q, if none of its owner stands before it, is its owner's first.
+fn guess_map(index: &mut [u16], q: usize, owner: u16)
     requires { ⌜ (length (now index) ≡ 3072) × (q < 1024) ⌝ }
     ensures { λ _. ⌜ KeptBelow 2304 (now (index .entry)) (now (index .exit)) ⌝ }
 {
-    let Reading::Taken { owner, says } = r else {
-        return;
-    };
-    let Says::OutputMap { .. } = says else {
-        return;
-    };
     let o = owner as usize;
     if 256 <= o {
         return;
@@ -233,15 +227,21 @@ fn guess_map(index: &mut [u16], r: Reading, q: usize)
     }
 }
 
-// Guesses the first output map of each owner: an owner's stand together.
+// Guesses the first output map of each owner: an owner's stand together, and all stand last.
 fn guess_maps(file: &[u8], n: usize, index: &mut [u16])
     requires { ⌜ Readable (now file) × (n ≤ 1024) × (length (now index) ≡ 3072) ⌝ }
     ensures { λ _. ⌜ KeptBelow 2304 (now (index .entry)) (now (index .exit)) ⌝ }
 {
-    let mut q: usize = 0;
-    while q < n {
-        guess_map(index, known_at(file, q), q);
-        q += 1;
+    let mut q = n;
+    while 0 < q {
+        q -= 1;
+        let Reading::Taken { owner, says } = known_at(file, q) else {
+            return;
+        };
+        let Says::OutputMap { .. } = says else {
+            return;
+        };
+        guess_map(index, q, owner);
     }
 }
 

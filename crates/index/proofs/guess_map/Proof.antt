@@ -6,26 +6,8 @@ use borrow.Author.Needs.{needs}
 use Rattle.index.proofs.guess_map.Statement.{statement}
 use Rattle.index.proofs.guess_map.Tie as tie
 
-enum-known-r : tie.Need-enum-known-r
-enum-known-r c = search needs
-
-enum-told : tie.Need-enum-told
-enum-told c = search needs
-
 returns : tie.Need-returns
 returns c = search needs
-
-enum-told-2 : tie.Need-enum-told-2
-enum-told-2 c = search needs
-
-returns-2 : tie.Need-returns-2
-returns-2 c = search needs
-
-cast-o : tie.Need-cast-o
-cast-o c = search needs
-
-returns-3 : tie.Need-returns-3
-returns-3 c = search needs
 
 add-if2 : tie.Need-add-if2
 add-if2 c = search needs
@@ -51,23 +33,17 @@ slice-write-index c = search needs
 same-length : tie.Need-same-length
 same-length c = search needs
 
-returns-4 : tie.Need-returns-4
-returns-4 c = kept-set 2304 _ _ _ _ (kept-start 2304 _) (omega arith)
+returns-2 : tie.Need-returns-2
+returns-2 c = kept-set 2304 _ _ _ _ (kept-start 2304 _) (omega arith)
 
-returns-5 : tie.Need-returns-5
-returns-5 c = search needs
+returns-3 : tie.Need-returns-3
+returns-3 c = search needs
 
 pub guess-map-spec : {M : Type 1} → statement M
 guess-map-spec =
     tie.close
     (tie.spec
-    enum-known-r
-    enum-told
     returns
-    enum-told-2
-    returns-2
-    cast-o
-    returns-3
     add-if2
     mul-if2
     slice-read-if2
@@ -76,5 +52,5 @@ guess-map-spec =
     mul-index
     slice-write-index
     same-length
-    returns-4
-    returns-5)
+    returns-2
+    returns-3)
