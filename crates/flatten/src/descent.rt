@@ -26,8 +26,8 @@ enum Entered {
     Nothing,
 }
 
-// Output i of component c, down through output maps to a primitive's output, with the depth left. Crates flatten, laying and boxes call
-// it, with the index filled.
+// Output i of component c, down through output maps to a primitive's output, with the depth left. Crates flatten and boxes call it,
+// with the index filled.
 pub fn source_of(file: &[u8], index: &[u16], depth: u8, c: usize, i: u16) -> Pin
     requires { ⌜ IsIndex (now file) (now index) ⌝ }
     ensures { λ r. ⌜ r ≡ outputBelow (recordAt (now (file .entry))) (recordCount (now (file .entry))) depth c i ⌝ }
@@ -70,8 +70,8 @@ fn enter(file: &[u8], index: &[u16], c: usize, i: u16, q: usize) -> Entered
 }
 
 // Lists the primitive inputs that input i of component c leads to, through input maps and with the depth left: in map order, all that one
-// map reaches before the next, from entry `at` of the table on. The answer is the number of the next entry. Crates flatten, laying and boxes call
-// it, with the index filled and room in the table.
+// map reaches before the next, from entry `at` of the table on. The answer is the number of the next entry. Crates flatten and boxes call it,
+// with the index filled and room in the table.
 pub fn list_targets(
     file: &[u8],
     index: &[u16],
