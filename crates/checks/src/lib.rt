@@ -422,7 +422,7 @@ pub fn check_alone(file: &[u8], k: u32, p: usize) -> u32
     }
 }
 
-// The same of the checks 12 and 14, with the index filled.
+// The same of the checks 12 and 14, with the index filled. Crate flatten calls it likewise.
 pub fn check_indexed(file: &[u8], index: &[u16], k: u32, p: usize) -> u32
     requires { ⌜ IsIndex (now file) (now index) × (fails6 (recordAt (now file)) p ≡ false) × ((k ≡ 12) ⊎ (k ≡ 14)) ⌝ }
     ensures { λ r. ⌜ r ≡ given k (failsBy (recordAt (now (file .entry))) (recordCount (now (file .entry))) k p) ⌝ }

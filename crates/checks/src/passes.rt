@@ -41,7 +41,8 @@ fn id_again(file: &[u8], marks: &mut [u8; 4096], p: usize) -> bool
     false
 }
 
-// 10: an earlier component's id. The first record that fails; the number of records where none does.
+// 10: an earlier component's id. The first record that fails; the number of records where none does. Crate flatten calls it, check 3 having
+// passed.
 pub fn first10(file: &[u8]) -> usize
     requires { ⌜ Readable (now file) ⌝ }
     ensures { λ r. ⌜ IsFirst (fails10 (recordAt (now (file .entry)))) (recordCount (now (file .entry))) r ⌝ }
@@ -57,7 +58,7 @@ pub fn first10(file: &[u8]) -> usize
     p
 }
 
-// 11: the primitives so far, this one counted, have too many inputs or outputs. Likewise.
+// 11: the primitives so far, this one counted, have too many inputs or outputs. Crate flatten calls it likewise.
 pub fn first11(file: &[u8]) -> usize
     requires { ⌜ Readable (now file) ⌝ }
     ensures { λ r. ⌜ IsFirst (fails11 (recordAt (now (file .entry)))) (recordCount (now (file .entry))) r ⌝ }
@@ -107,7 +108,7 @@ fn enters_again(file: &[u8], index: &[u16], marks: &mut [u8; 16384], p: usize) -
     false
 }
 
-// 13: an earlier record of kind 2 or 3 entered the same input. Likewise.
+// 13: an earlier record of kind 2 or 3 entered the same input. Crate flatten calls it likewise, with the index filled.
 pub fn first13(file: &[u8], index: &[u16]) -> usize
     requires { ⌜ IsIndex (now file) (now index) ⌝ }
     ensures { λ r. ⌜ IsFirst (fails13 (recordAt (now (file .entry)))) (recordCount (now (file .entry))) r ⌝ }

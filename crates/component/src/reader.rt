@@ -150,7 +150,7 @@ pub fn record_at(file: &[u8], p: usize) -> Reading
 }
 
 // The same of a file in which check 3 refuses no record: the record kind alone says how it is taken apart. Whoever looks at a field of it
-// reads no other.
+// reads no other. Crates index, checks, flatten and laying call it.
 pub fn known_at(file: &[u8], p: usize) -> Reading
     requires { ⌜ Readable (now file) ⌝ }
     ensures { λ r. ⌜ said r ≡ recordAt (now (file .entry)) p ⌝ }
@@ -167,7 +167,7 @@ pub fn known_at(file: &[u8], p: usize) -> Reading
     Reading::Refused(3)
 }
 
-// The component at a position of the file, if there is one. Check 3 has passed.
+// The component at a position of the file, if there is one. Check 3 has passed. Crates index, checks, laying and boxes call it.
 pub fn component_at(file: &[u8], p: usize) -> Stands
     requires { ⌜ Readable (now file) ⌝ }
     ensures { λ r. ⌜ StandsAs r (recordAt (now (file .entry)) p) ⌝ }
@@ -181,7 +181,8 @@ pub fn component_at(file: &[u8], p: usize) -> Stands
     Stands::Component { owner, id, fields }
 }
 
-// The fields of the component at a position of the file; those of no component where none stands there. Check 3 has passed.
+// The fields of the component at a position of the file; those of no component where none stands there. Check 3 has passed. Crates checks,
+// flatten, boxes and look call it.
 pub fn fields_at(file: &[u8], p: usize) -> Fields
     requires { ⌜ Readable (now file) ⌝ }
     ensures { λ r. ⌜ r ≡ fieldsOf (recordAt (now (file .entry)) p) ⌝ }
@@ -198,7 +199,8 @@ pub fn fields_at(file: &[u8], p: usize) -> Fields
     fields
 }
 
-// Whether a primitive, a component of a kind other than the composite's, stands at a position of the file. Check 3 has passed.
+// Whether a primitive, a component of a kind other than the composite's, stands at a position of the file. Check 3 has passed. Crates
+// flatten and laying call it.
 pub fn is_primitive_at(file: &[u8], p: usize) -> bool
     requires { ⌜ Readable (now file) ⌝ }
     ensures { λ r. ⌜ r ≡ isPrimitive (recordAt (now (file .entry)) p) ⌝ }

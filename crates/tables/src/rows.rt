@@ -22,7 +22,7 @@ fn word_of(components: &[u64], i: usize, k: usize) -> u64
     components[8 * i + k]
 }
 
-// The word of component i that should be a kind's number.
+// The word of component i that should be a kind's number. Crate lines calls it, for a component whose words stand in the table.
 pub fn kind_word(components: &[u64], i: usize) -> u64
     requires { ⌜ RowInside (now components) i ⌝ }
     ensures { λ r. ⌜ r ≡ fieldsIn (now (components .entry)) i .kind ⌝ }
@@ -30,7 +30,7 @@ pub fn kind_word(components: &[u64], i: usize) -> u64
     word_of(components, i, 0)
 }
 
-// The word that should be an id.
+// The word that should be an id. Crates net and lines call it likewise.
 pub fn id_word(components: &[u64], i: usize) -> u64
     requires { ⌜ RowInside (now components) i ⌝ }
     ensures { λ r. ⌜ r ≡ idIn (now (components .entry)) i ⌝ }
@@ -38,7 +38,7 @@ pub fn id_word(components: &[u64], i: usize) -> u64
     word_of(components, i, 1)
 }
 
-// Its parameter.
+// Its parameter. Crate net calls it likewise.
 pub fn parameter_word(components: &[u64], i: usize) -> u64
     requires { ⌜ RowInside (now components) i ⌝ }
     ensures { λ r. ⌜ r ≡ fieldsIn (now (components .entry)) i .parameter ⌝ }
@@ -46,7 +46,7 @@ pub fn parameter_word(components: &[u64], i: usize) -> u64
     word_of(components, i, 3)
 }
 
-// How many inputs component i has.
+// How many inputs component i has. Crates net and questions call it likewise.
 pub fn input_count(components: &[u64], i: usize) -> usize
     requires { ⌜ RowInside (now components) i ⌝ }
     ensures { λ r. ⌜ r ≡ fieldsIn (now (components .entry)) i .inputs ⌝ }
@@ -54,7 +54,7 @@ pub fn input_count(components: &[u64], i: usize) -> usize
     word_of(components, i, 4) as usize
 }
 
-// How many outputs.
+// How many outputs. Likewise.
 pub fn output_count(components: &[u64], i: usize) -> usize
     requires { ⌜ RowInside (now components) i ⌝ }
     ensures { λ r. ⌜ r ≡ fieldsIn (now (components .entry)) i .outputs ⌝ }
@@ -62,7 +62,7 @@ pub fn output_count(components: &[u64], i: usize) -> usize
     word_of(components, i, 5) as usize
 }
 
-// Where its inputs start in their table.
+// Where its inputs start in their table. Crates net, rounds, simulator and questions call it likewise.
 pub fn first_input(components: &[u64], i: usize) -> usize
     requires { ⌜ RowInside (now components) i ⌝ }
     ensures { λ r. ⌜ r ≡ firstInputIn (now (components .entry)) i ⌝ }
@@ -70,7 +70,7 @@ pub fn first_input(components: &[u64], i: usize) -> usize
     word_of(components, i, 6) as usize
 }
 
-// Where its outputs start.
+// Where its outputs start. Likewise.
 pub fn first_output(components: &[u64], i: usize) -> usize
     requires { ⌜ RowInside (now components) i ⌝ }
     ensures { λ r. ⌜ r ≡ firstOutputIn (now (components .entry)) i ⌝ }
@@ -78,7 +78,7 @@ pub fn first_output(components: &[u64], i: usize) -> usize
     word_of(components, i, 7) as usize
 }
 
-// Whether component i is of a kind.
+// Whether component i is of a kind. Crates net, rounds and simulator call it likewise.
 pub fn is_kind(components: &[u64], i: usize, kind: Kind) -> bool
     requires { ⌜ RowInside (now components) i ⌝ }
     ensures { λ r. ⌜ r ≡ is kind (fieldsIn (now (components .entry)) i) ⌝ }
@@ -86,7 +86,7 @@ pub fn is_kind(components: &[u64], i: usize, kind: Kind) -> bool
     kind_word(components, i) == kinds::number_of(kind) as u64
 }
 
-// Whether component i has this id.
+// Whether component i has this id. Crates net and questions call it likewise.
 pub fn has_id(components: &[u64], i: usize, id: Id) -> bool
     requires { ⌜ RowInside (now components) i ⌝ }
     ensures { λ r. ⌜ r ≡ eqb (idIn (now (components .entry)) i) (id .0) ⌝ }
@@ -94,7 +94,7 @@ pub fn has_id(components: &[u64], i: usize, id: Id) -> bool
     id_word(components, i) == id.0 as u64
 }
 
-// Whether the words of component i are no larger than fields of a component can be.
+// Whether the words of component i are no larger than fields of a component can be. Crate net calls it likewise.
 pub fn fields_fit(components: &[u64], i: usize) -> bool
     requires { ⌜ RowInside (now components) i ⌝ }
     ensures { λ r. ⌜ r ≡ fieldsFit (fieldsIn (now (components .entry)) i) ⌝ }
