@@ -90,11 +90,12 @@ extern "C" {
 #define BERXUNDAR_PORTS 64
 #define BERXUNDAR_BITS 32
 
-/* Kinds of component. The numbers never move. A composite stands in drawings only: no net has one. */
+/* Kinds of component. The numbers never move; 14 is kept for later use. A composite stands in drawings only: no net has one.
+ * A Majority is high where more of its inputs are high than low. */
 enum {
     BERXUNDAR_COMPOSITE = 0, BERXUNDAR_AND = 1, BERXUNDAR_OR = 2, BERXUNDAR_NOT = 3, BERXUNDAR_NAND = 4, BERXUNDAR_NOR = 5,
     BERXUNDAR_XOR = 6, BERXUNDAR_SWITCH = 7, BERXUNDAR_INPUT = 8, BERXUNDAR_OUTPUT = 9, BERXUNDAR_SPLITTER = 10,
-    BERXUNDAR_JOINER = 11, BERXUNDAR_CLOCK = 12, BERXUNDAR_CONST = 13
+    BERXUNDAR_JOINER = 11, BERXUNDAR_CLOCK = 12, BERXUNDAR_CONST = 13, BERXUNDAR_MAJORITY = 15
 };
 
 /*
@@ -151,7 +152,7 @@ static inline const char *berxundar_words(uint32_t answer_or_number)
     case BERXUNDAR_BAD_OWNER: return "the record's owner is no composite that could hold it here";
     case BERXUNDAR_TOO_MANY: return "there are more than 256 components, or they are nested deeper than 16";
     case BERXUNDAR_KEPT_KIND: return "component kind 14 is kept for later use";
-    case BERXUNDAR_UNKNOWN_KIND: return "there is no such kind of component";
+    case BERXUNDAR_UNKNOWN_KIND: return "there is no such kind of component: the kinds are 0 to 13 and 15";
     case BERXUNDAR_BAD_FIELDS: return "the component's inputs, outputs, width or parameter are not allowed for its kind";
     case BERXUNDAR_SAME_ID: return "an earlier component has the same id";
     case BERXUNDAR_TOO_MANY_PORTS: return "the components up to here have more than 1,024 inputs or more than 1,024 outputs";

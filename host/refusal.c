@@ -6,8 +6,8 @@
 #define NOWHERE ((size_t)-1)
 #define DEEPEST 16
 
-/* The kinds, and what docs/SPECIFICATION.md's table of kinds allows each. */
-#define KINDS 14
+/* The kinds by their numbers, and what docs/SPECIFICATION.md's table of kinds allows each; 14 is kept and has no name. */
+#define KINDS 16
 static const struct {
     const char *name, *allowed;
 } kinds[KINDS] = {
@@ -25,6 +25,8 @@ static const struct {
     { "Joiner", "as many inputs as bits, 1 output, C 0 and as parameter its bits, 1 to 32" },
     { "Clock", "no input, 1 output, C 0 and as parameter its period, 1 to 2^62" },
     { "Const", "no input, 1 output, as C its width, 1 to 32, and as parameter its value, less than 2^width" },
+    { NULL, NULL },
+    { "Majority", "1 to 64 inputs, 1 output, C 0 and parameter 0" },
 };
 
 const char *refusal_kind_name(uint64_t kind) { return kind < KINDS ? kinds[kind].name : NULL; }
@@ -311,7 +313,7 @@ static void explain_depth(const drawing *of, size_t position)
 
 static void explain_fields(const drawing *of, record r)
 {
-    if (r.kind < KINDS)
+    if (refusal_kind_name(r.kind))
         fprintf(of->to, "    allowed for this kind: %s\n", kinds[r.kind].allowed);
 }
 
@@ -474,8 +476,8 @@ static const char *advice(unsigned number)
     case BERXUNDAR_BAD_ORDER: return "put components first, then connections, input maps and output maps, each of these by owner";
     case BERXUNDAR_BAD_OWNER: return "name the composite that holds it, and let its components follow it before any of another";
     case BERXUNDAR_TOO_MANY: return "draw with fewer components, or with fewer composites inside one another";
-    case BERXUNDAR_KEPT_KIND: return "draw the component from kinds 0 to 13";
-    case BERXUNDAR_UNKNOWN_KIND: return "correct the kind; there are kinds 0 to 13";
+    case BERXUNDAR_KEPT_KIND: return "draw the component from kinds 0 to 13 and 15";
+    case BERXUNDAR_UNKNOWN_KIND: return "correct the kind; a drawing of a later kind wants a later engine";
     case BERXUNDAR_BAD_FIELDS: return "correct the component's numbers, or its kind";
     case BERXUNDAR_SAME_ID: return "give one of the two another id";
     case BERXUNDAR_TOO_MANY_PORTS: return "draw with fewer components, or with fewer inputs and outputs";

@@ -2,8 +2,8 @@
  * What the header says beside the calls' own rules: NULL with length 0 is an empty file and a table of no words, so that each
  * call answers as for any short table (2), a load and a look as for an empty file (1), and a component without ports is
  * evaluated; a net of zeros is one of no components, the net of a root alone, which is looked at along no path; a sentence
- * belongs to an answer and to its number; of two records that meet the first call says 13, and the others what they are. Leaves
- * with 1 at the first other answer.
+ * belongs to an answer and to its number; half of the votes are not most of them; of two records that meet the first call says
+ * 13, and the others what they are. Leaves with 1 at the first other answer.
  */
 #include "berxundar.h"
 
@@ -90,6 +90,30 @@ static int joined(void)
     return berxundar_single_evaluate(&single, 0) == NUMBER(BERXUNDAR_NO_FIT);
 }
 
+/* A Majority of two high inputs of four is low, of three of four high; of none it is refused. */
+static int voted(void)
+{
+    static const berxundar_single none;
+    size_t i;
+    single = none;
+    single.kind = BERXUNDAR_MAJORITY;
+    single.inputs = 4;
+    single.outputs = 1;
+    for (i = 0; i < 4; i++) {
+        single.input_numbers[i] = i < 2;
+        single.input_widths[i] = 1;
+    }
+    single.output_numbers[0] = 1;
+    single.output_widths[0] = 1;
+    if (berxundar_single_evaluate(&single, 0) != 0 || single.output_numbers[0] != 0)
+        return 0;
+    single.input_numbers[2] = 1;
+    if (berxundar_single_evaluate(&single, 0) != 0 || single.output_numbers[0] != 1)
+        return 0;
+    single.inputs = 0;
+    return berxundar_single_evaluate(&single, 0) == NUMBER(BERXUNDAR_BAD_FIELDS) && single.output_numbers[0] == 1;
+}
+
 /* Each number has a sentence of its own, by itself and as an answer with any position. */
 static int sentences(void)
 {
@@ -145,4 +169,4 @@ static int met(void)
     return 1;
 }
 
-int main(void) { return !(zeros() && nothing_lent() && looked_at() && joined() && sentences() && met()); }
+int main(void) { return !(zeros() && nothing_lent() && looked_at() && joined() && voted() && sentences() && met()); }

@@ -2,10 +2,11 @@
 //! into the tables.
 
 use crate::plain::drawing::{Drawing, Id};
+use crate::plain::flat::is_primitive;
 use crate::plain::look::Shown;
 use crate::plain::net::{entries, Entry};
 use crate::plain::single::PortValue;
-use crate::primitive::{kind_words, primitive};
+use crate::primitive::{in_logix, kind_words, primitive};
 use crate::tables::{Tables, COMPONENTS, CURRENT, FOLLOWING, INPUTS, OUTPUTS, STANDING, WIRES};
 use logix::component::{Component, ComponentBuilder, Conn};
 use logix::flatten::FlattenComponent;
@@ -51,6 +52,16 @@ impl Engine {
         let mut simulator = Simulator::new(flat);
         simulator.start(true);
         Engine { simulator }
+    }
+
+    /// Whether logix has the kinds of a drawing's components.
+    pub fn has_kinds_of(drawing: &Drawing) -> bool {
+        drawing.records.iter().filter(|record| is_primitive(record)).all(|record| in_logix(&record.fields()))
+    }
+
+    /// Whether logix has the kinds of a net's components.
+    pub fn has_kinds_in(tables: &Tables) -> bool {
+        entries(tables).iter().all(|entry| in_logix(&entry.fields))
     }
 
     /// The engine of an accepted drawing.

@@ -13,6 +13,7 @@ pub mod look;
 pub mod random;
 pub mod rounds;
 pub mod tables;
+mod votes;
 
 use crate::command::Command;
 use crate::plain::net::broken;
@@ -21,7 +22,8 @@ use random::Random;
 use std::collections::BTreeMap;
 use std::io::{BufWriter, Error, Result, Write};
 
-const USAGE: &str = "usage: oracle | oracle gen evaluate|judge|load|run|tables|look SEED COUNT [--stats]";
+const USAGE: &str =
+    "usage: oracle | oracle gen evaluate|judge|load|run|tables|look|votes SEED COUNT [--stats]";
 
 pub fn usage() -> Result<()> {
     Err(Error::other(USAGE))
@@ -96,6 +98,7 @@ pub fn run(words: &[String], output: impl Write) -> Result<()> {
             "run" => rounds::one(&mut random, &mut stream)?,
             "tables" => tables::one(&mut random, &mut stream)?,
             "look" => look::one(&mut random, &mut stream)?,
+            "votes" => votes::one(&mut random, &mut stream)?,
             _ => return usage(),
         }
     }

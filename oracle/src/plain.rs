@@ -1,13 +1,17 @@
-//! A plain second coding of the specification's numbers, written from its text alone.
+//! A plain second coding of the specification, written from its text alone.
 //!
-//! Every function here is total: any bytes, any tables and any counts get an
-//! answer. Nothing here evaluates, builds a net or runs one; that is logix's part.
+//! The numbers given back are total: any bytes, any tables and any counts get an
+//! answer. `rules`, `flat` and `running` do what logix does, on what no check refuses;
+//! where logix has a component's kind, the program holds the two against each other.
 
 pub mod calls;
 pub mod drawing;
+pub mod flat;
 pub mod host;
 pub mod judge;
 pub mod kinds;
 pub mod look;
 pub mod net;
+pub mod rules;
+pub mod running;
 pub mod single;

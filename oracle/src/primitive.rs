@@ -1,4 +1,4 @@
-//! Between component fields and logix's primitives.
+//! Between component fields and logix's primitives. logix has the kinds 1 to 13.
 
 use crate::command::Single;
 use crate::plain::kinds::Fields;
@@ -6,7 +6,12 @@ use crate::plain::single::PortValue;
 use logix::primitives::primitive::{Primitive, PrimitiveComponent};
 use logix::Data;
 
-/// logix's primitive for fields that obey the table of kinds.
+/// Whether logix has the kind.
+pub fn in_logix(fields: &Fields) -> bool {
+    (1..=13).contains(&fields.kind)
+}
+
+/// logix's primitive for fields that obey the table of kinds, of a kind that it has.
 pub fn primitive(fields: &Fields) -> Primitive {
     let bits = fields.parameter as usize;
     match fields.kind {
@@ -23,7 +28,7 @@ pub fn primitive(fields: &Fields) -> Primitive {
         11 => Primitive::Joiner { bits },
         12 => Primitive::Clock { period: fields.parameter as u128 },
         13 => Primitive::Const { value: Data::new(bits, fields.width as usize) },
-        kind => unreachable!("kind {kind} is no primitive"),
+        kind => unreachable!("logix has no kind {kind}"),
     }
 }
 
@@ -47,7 +52,7 @@ pub fn kind_words(primitive: &Primitive) -> (u64, u64, u64) {
     }
 }
 
-/// The outputs of a component whose fields and values were found right.
+/// The outputs of a component whose fields and values were found right, of a kind that logix has.
 pub fn evaluated(single: &Single) -> Vec<u64> {
     let mut component = PrimitiveComponent {
         id: 0,

@@ -1,6 +1,8 @@
 //! The program: it owns the tables, takes commands and prints lines.
 //!
-//! The numbers given back come from `plain`, all else from logix.
+//! The numbers given back come from `plain`. All else comes from logix, and `plain` works
+//! it out a second time: the program stops where the two differ. Where a component's kind
+//! is none of logix's, `plain` is alone.
 
 use crate::command::{Command, Single, FILE_KEPT};
 use crate::engine::Engine;
@@ -10,13 +12,15 @@ use crate::plain::calls::{neighbours_number, round_number, value_number};
 use crate::plain::drawing::{records, Drawing, Id};
 use crate::plain::host::{first_answer, second_answer};
 use crate::plain::judge::{judge, words};
-use crate::plain::look::look;
-use crate::plain::single::single_number;
-use crate::primitive::evaluated;
+use crate::plain::look::{look, Shown};
+use crate::plain::rules::outputs_after;
+use crate::plain::running;
+use crate::plain::single::{single_number, PortValue};
+use crate::primitive::{evaluated, in_logix};
 use crate::tables::{
     Tables, ANSWER, COMPONENTS, CURRENT, FOLLOWING, INPUTS, NUMBERS, OUTPUTS, STANDING, WIDTHS, WIRES,
 };
-use std::fmt::Write as _;
+use std::fmt::{Debug, Write as _};
 use std::io::{Read, Result, Write};
 
 /// Commands are read until the input ends or this many have been read.
@@ -76,8 +80,12 @@ impl Program {
             Command::Calm => self.calm(lines),
             Command::Index { id } => self.index(*id, lines),
             Command::Value { side, index, port } => self.value(*side, *index, *port, lines),
-            Command::Sources { index } => self.neighbours("sources", *index, Engine::sources, lines),
-            Command::Targets { index } => self.neighbours("targets", *index, Engine::targets, lines),
+            Command::Sources { index } => {
+                self.neighbours("sources", *index, Engine::sources, running::sources, lines)
+            }
+            Command::Targets { index } => {
+                self.neighbours("targets", *index, Engine::targets, running::targets, lines)
+            }
             Command::Evaluate(single) => evaluate(single, lines),
             Command::WriteWord { table, place, word } => {
                 self.engine = None;
@@ -100,18 +108,27 @@ impl Program {
         }
     }
 
-    /// logix's side of the tables, which are a net.
-    fn engine(&mut self) -> &mut Engine {
+    /// logix's side of the tables, which are a net; none where logix has not all kinds.
+    fn engine(&mut self) -> Option<&mut Engine> {
         let tables = &self.tables;
-        self.engine.get_or_insert_with(|| Engine::of_tables(tables))
+        if self.engine.is_none() && Engine::has_kinds_in(tables) {
+            self.engine = Some(Engine::of_tables(tables));
+        }
+        self.engine.as_mut()
     }
 
     fn load(&mut self, file: &[u8], lines: &mut String) {
         let verdict = load_verdict(&self.tables, file);
         if verdict.is_ok() {
-            let mut engine = Engine::of_drawing(&Drawing::new(records(file)));
-            engine.write_net(&mut self.tables);
-            self.engine = Some(engine);
+            let drawing = Drawing::new(records(file));
+            let mut second = self.tables.clone();
+            running::load(&drawing, &mut second);
+            self.engine = Engine::has_kinds_of(&drawing).then(|| Engine::of_drawing(&drawing));
+            match &mut self.engine {
+                Some(engine) => engine.write_net(&mut self.tables),
+                None => self.tables = second.clone(),
+            }
+            assert_eq!(self.tables, second, "a load in both codings");
         }
         line(lines, "load", words(verdict));
     }
@@ -119,23 +136,51 @@ impl Program {
     fn round(&mut self, time: u64, lines: &mut String) {
         let number = round_number(&self.tables);
         if number == 0 {
-            self.change(|engine| engine.round(time));
+            self.one_round(time);
         }
         line(lines, "round", [number, 0]);
     }
 
-    /// Does something to a net, the tables included.
-    fn change(&mut self, act: impl FnOnce(&mut Engine)) {
-        act(self.engine());
-        if let Some(engine) = &mut self.engine {
-            engine.write_state(&mut self.tables);
+    fn one_round(&mut self, time: u64) {
+        self.change(|engine| engine.round(time), |tables| running::round(tables, time));
+    }
+
+    /// Does something to a net, the tables included, in both codings.
+    fn change(&mut self, logix: impl FnOnce(&mut Engine), plain: impl FnOnce(&mut Tables)) {
+        let mut second = self.tables.clone();
+        plain(&mut second);
+        match self.engine() {
+            Some(engine) => {
+                logix(engine);
+                if let Some(engine) = &mut self.engine {
+                    engine.write_state(&mut self.tables);
+                }
+            }
+            None => self.tables = second.clone(),
         }
+        assert_eq!(self.tables, second, "a change in both codings");
+    }
+
+    /// Asks something of a net, in both codings.
+    fn ask<T: Debug + PartialEq>(
+        &mut self,
+        logix: impl FnOnce(&mut Engine) -> T,
+        plain: impl FnOnce(&Tables) -> T,
+    ) -> T {
+        let second = plain(&self.tables);
+        if let Some(engine) = self.engine() {
+            assert_eq!(logix(engine), second, "a question in both codings");
+        }
+        second
     }
 
     fn edit(&mut self, index: u16, number: u64, lines: &mut String) {
         let refused = edit_number(&self.tables, index, number);
         if refused == 0 {
-            self.change(|engine| engine.edit(index as usize, number));
+            self.change(
+                |engine| engine.edit(index as usize, number),
+                |tables| running::edit(tables, index as u64, number),
+            );
         }
         line(lines, "edit", [refused, 0]);
     }
@@ -145,10 +190,10 @@ impl Program {
         let number = round_number(&self.tables);
         let (mut rounds, mut evaluations) = (0, 0);
         while number == 0 && rounds < limit as u64 {
-            evaluations += self.engine().current_length();
-            self.change(|engine| engine.round(time));
+            evaluations += self.ask(Engine::current_length, |tables| tables.counts[CURRENT]);
+            self.one_round(time);
             rounds += 1;
-            if self.engine().calm() {
+            if self.ask(Engine::calm, running::calm) {
                 break;
             }
         }
@@ -157,20 +202,26 @@ impl Program {
 
     fn calm(&mut self, lines: &mut String) {
         let number = round_number(&self.tables);
-        let calm = number == 0 && self.engine().calm();
+        let calm = number == 0 && self.ask(Engine::calm, running::calm);
         line(lines, "calm", [number, calm as u64]);
     }
 
     fn index(&mut self, id: u32, lines: &mut String) {
         let number = index_number(&self.tables, id);
-        let index = if number == 0 { self.engine().index_of(id) } else { 0 };
+        let index = match number {
+            0 => self.ask(|engine| engine.index_of(id), |tables| running::index_of(tables, id)),
+            _ => 0,
+        };
         line(lines, "index", [number, index]);
     }
 
     fn value(&mut self, side: u8, index: u16, port: u16, lines: &mut String) {
         let number = value_number(&self.tables, side, index, port);
         let (value, width) = match number {
-            0 => self.engine().value(side, index as usize, port as usize),
+            0 => self.ask(
+                |engine| engine.value(side, index as usize, port as usize),
+                |tables| running::value(tables, side, index as u64, port as u64),
+            ),
             _ => (0, 0),
         };
         line(lines, "value", [number, value, width]);
@@ -180,31 +231,39 @@ impl Program {
         &mut self,
         word: &str,
         index: u16,
-        ask: fn(&mut Engine, usize) -> Vec<u64>,
+        logix: fn(&mut Engine, usize) -> Vec<u64>,
+        plain: fn(&Tables, u64) -> Vec<u64>,
         lines: &mut String,
     ) {
         let number = neighbours_number(&self.tables, index);
         let found = match number {
-            0 => ask(self.engine(), index as usize),
+            0 => self.ask(|engine| logix(engine, index as usize), |tables| plain(tables, index as u64)),
             _ => vec![],
         };
         self.tables.lay(ANSWER, &found);
         line(lines, word, std::iter::once(number).chain(found));
     }
 
-    /// The plain coding says whether the look is refused; what it shows is logix's.
+    /// The plain coding says whether the look is refused; what it shows is logix's, too.
     fn look(&mut self, path: &[Id], lines: &mut String) {
-        let plain = match look(&self.tables, &self.kept, path) {
-            Ok(plain) => plain,
+        let shown = match look(&self.tables, &self.kept, path) {
+            Ok(shown) => shown,
             Err(refusal) => return line(lines, "look", refusal.words().into_iter().chain([0, 0])),
         };
-        let shown = Engine::look(&Drawing::new(records(&self.kept)), &self.tables, path);
-        assert_eq!(shown, plain, "logix shows what the plain coding shows");
+        self.hold_look(path, &shown);
         let ports: Vec<_> = shown.inputs.iter().chain(&shown.outputs).collect();
         self.tables.lay(NUMBERS, &ports.iter().map(|port| port.number).collect::<Vec<u64>>());
         self.tables.lay(WIDTHS, &ports.iter().map(|port| port.width).collect::<Vec<u64>>());
         let head = [0, 0, 0, shown.inputs.len() as u64, shown.outputs.len() as u64];
         line(lines, "look", head.into_iter().chain(ports.iter().flat_map(|port| [port.number, port.width])));
+    }
+
+    /// Holds what the plain coding shows against what logix does, where it has all kinds.
+    fn hold_look(&self, path: &[Id], shown: &Shown) {
+        let drawing = Drawing::new(records(&self.kept));
+        if Engine::has_kinds_of(&drawing) {
+            assert_eq!(Engine::look(&drawing, &self.tables, path), *shown, "a look in both codings");
+        }
     }
 
     fn net(&self, lines: &mut String) {
@@ -248,7 +307,16 @@ fn evaluate(single: &Single, lines: &mut String) {
     let number = single_number(&single.fields, &single.inputs, &single.outputs);
     let mut outputs: Vec<u64> = single.outputs.iter().map(|value| value.number).collect();
     if number == 0 {
-        let new = evaluated(single);
+        let own = |values: &[PortValue], ports: u64| -> Vec<u64> {
+            values[..ports as usize].iter().map(|value| value.number).collect()
+        };
+        let fields = &single.fields;
+        let (own_inputs, own_outputs) =
+            (own(&single.inputs, fields.inputs), own(&single.outputs, fields.outputs));
+        let new = outputs_after(fields, &own_inputs, &own_outputs, single.time);
+        if in_logix(fields) {
+            assert_eq!(evaluated(single), new, "an evaluation in both codings");
+        }
         outputs[..new.len()].copy_from_slice(&new);
     }
     line(lines, "evaluate", std::iter::once(number).chain(outputs));

@@ -25,7 +25,7 @@ pub const FULL_WORDS: [usize; ALL] = [2_048, 1_024, 1_024, 4_096, 256, 256, 256,
 /// What each word holds at the program's start.
 const FIRST_WORD: u64 = 7;
 
-#[derive(Clone)]
+#[derive(Clone, Debug, PartialEq)]
 pub struct Tables {
     pub words: [Vec<u64>; ALL],
     pub counts: [u64; 7],

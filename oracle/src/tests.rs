@@ -10,6 +10,7 @@ mod look;
 mod marked;
 mod meet;
 mod net;
+mod votes;
 
 use crate::command::Command;
 use crate::gen::drawing::{blank, file_of};

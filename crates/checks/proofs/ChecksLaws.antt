@@ -15,7 +15,8 @@ use types.Run.{OneOf}
 use Rattle.lists.specs.Lists.{from, keep, any}
 use Rattle.lists.proofs.ListsLaws.{keep-nothing, keep-any, keep-most}
 use denote.Enum.Declared.{tagOf}
-use Rattle.kinds.specs.Kinds.{obeys, primitive, forCustom, unknown}
+use Rattle.kinds.specs.declared.Kind.the-variants.{Composite}
+use Rattle.kinds.specs.Kinds.{numberOf, obeys, primitive, forCustom, unknown}
 use Rattle.kinds.specs.declared.table.Fields.{Fields}
 use Rattle.component.specs.declared.ChildNo.{ChildNo}
 use Rattle.kinds.specs.declared.Id.{Id}
@@ -346,13 +347,15 @@ module _ (s : List ℕ) where
         pub outputs-primitive : not b ≡ false → f .outputs ≡ cond (isPrimitive (recordAt s p)) (outputsOf (recordAt s p)) 0
         outputs-primitive l = rw (primitive-is true (not-false b l), seen-is (recordAt s p) g e o i f h)
 
-      pub fails14-primitive : (n : ℕ) → (f .kind ≡ 0 → ⊥) → false ≡ fails14 (recordAt s) n p
-      fails14-primitive n k = rw (seen-is (recordAt s p) g e o i f h, ne-eqb (f .kind) 0 k)
+      pub fails14-primitive : (n c : ℕ) → c ≡ numberOf Composite → (f .kind ≡ c → ⊥) → false ≡ fails14 (recordAt s) n p
+      fails14-primitive n c q k =
+          rw (seen-is (recordAt s p) g e o i f h, ne-eqb (f .kind) (numberOf Composite) (λ z. k (z ∙ sym q)))
 
-      pub fails14-composite : (n m : ℕ) → f .kind ≡ 0 → m ≡ length (outMaps (recordAt s) n p)
+      pub fails14-composite : (n m c : ℕ) → c ≡ numberOf Composite → f .kind ≡ c → m ≡ length (outMaps (recordAt s) n p)
           → not (eqb (f .outputs) m) ≡ fails14 (recordAt s) n p
-      fails14-composite n m k l =
-          let y : composite (recordAt s p) ≡ true = rw (seen-is (recordAt s p) g e o i f h, eq-eqb (f .kind) 0 k) in
+      fails14-composite n m c q k l =
+          let y : composite (recordAt s p) ≡ true =
+          rw (seen-is (recordAt s p) g e o i f h, eq-eqb (f .kind) (numberOf Composite) (k ∙ q)) in
           let z : outputsOf (recordAt s p) ≡ f .outputs = rw (seen-is (recordAt s p) g e o i f h) in
           rw (l, y, z)
 

@@ -32,6 +32,8 @@ use component::record_at;
 use index::child_of;
 use index::out_map_count;
 use kinds::Id;
+use kinds::Kind;
+use kinds::number_of;
 pub use passes::first10;
 pub use passes::first11;
 pub use passes::first13;
@@ -125,7 +127,7 @@ fn is_composite_at(file: &[u8], p: usize) -> bool
     requires { ⌜ Readable (now file) ⌝ }
     ensures { λ r. ⌜ r ≡ composite (recordAt (now (file .entry)) p) ⌝ }
 {
-    fields_at(file, p).kind == 0
+    fields_at(file, p).kind == number_of(Kind::Composite)
 }
 
 // 5: the root's owner is 0; any other is a composite, a component's one that is the component before or holds it. Check 3 has passed.
@@ -398,7 +400,7 @@ fn check14(file: &[u8], index: &[u16], p: usize) -> u32
     let Stands::Component { fields, .. } = component_at(file, p) else {
         return 0;
     };
-    if fields.kind != 0 {
+    if fields.kind != number_of(Kind::Composite) {
         return 0;
     }
     given(14, fields.outputs as usize != out_map_count(index, p))

@@ -6,6 +6,7 @@ use Prim.Native.Nat.{ℕ, _<_}
 use mathlib.Core.Bool.{Bool, false, cond, _&&_}
 use mathlib.Core.List.{List}
 use Rattle.kinds.specs.declared.table.Fields.{Fields}
+use Rattle.kinds.specs.Kinds.{noKind}
 use Rattle.component.specs.declared.Record.{Record}
 use Rattle.component.specs.declared.Says.{Says}
 use Rattle.component.specs.declared.Says.the-variants.{Component, Connection, InputMap, OutputMap}
@@ -89,4 +90,4 @@ enters o c d r = entering r && eqb (r .owner) o && eqb (toOf r) c && eqb (inputO
 
 -- What a record that is no component has for fields: of a number that is no kind, without ports.
 abbrev pub noFields : Fields
-noFields = record { kind = 255; inputs = 0; outputs = 0; width = 0; parameter = 0 }
+noFields = record { kind = noKind; inputs = 0; outputs = 0; width = 0; parameter = 0 }

@@ -17,6 +17,7 @@ use crate::Says;
 use crate::Stands;
 use kinds::Fields;
 use kinds::Id;
+use kinds::NO_KIND;
 
 fn wide16(x: u8) -> u16
     ensures { λ r. ⌜ (r ≡ x) × (r < 256) ⌝ }
@@ -189,7 +190,7 @@ pub fn fields_at(file: &[u8], p: usize) -> Fields
 {
     let Stands::Component { fields, .. } = component_at(file, p) else {
         return Fields {
-            kind: 255,
+            kind: NO_KIND,
             inputs: 0,
             outputs: 0,
             width: 0,

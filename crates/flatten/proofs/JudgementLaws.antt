@@ -14,6 +14,7 @@ use lib.ListN.{length, getD, take, drop, take-append-drop}
 use lib.Seq.{drop-cons, take-suc}
 use Rattle.lists.specs.Lists.{from, every, first}
 use Rattle.lists.proofs.TestsLaws.{and-left, and-right}
+use Rattle.lists.proofs.MembersLaws.{first-nothing, from0-sound}
 use Rattle.kinds.specs.declared.answers.Refusal.{Refusal}
 use Rattle.kinds.proofs.GivenLaws.{done-declined, declined-refusal}
 use Rattle.component.specs.declared.Verdict.{Verdict}
@@ -46,10 +47,6 @@ first-from f q (suc k) r a b h e = by-place (decLt q r) (λ l. first-from f (suc
     by-place (yes l) later = rw (h q l) (later l)
     by-place (no l) later = let z : q ≡ r = omega arith in rw (z, e)
 
-none-from : (f : ℕ → Bool) (q k : ℕ) → ((j : ℕ) → j < q + k → f j ≡ false) → first f (from q k) ≡ none
-none-from f q zero h = refl
-none-from f q (suc k) h = rw (h q (omega arith)) (none-from f (suc q) k (λ j l. h j (omega arith)))
-
 -- What check k says where p is the first record that fails it; where none does.
 module _ (f : ℕ → Bool) (n k p : ℕ) (h : IsFirst f n p) where
   pub refused-first : p < n → refused k p ≡ orLater k (first f (from 0 n)) Accepted
@@ -58,7 +55,7 @@ module _ (f : ℕ → Bool) (n k p : ℕ) (h : IsFirst f n p) where
 
   pub accepted-first : n ≤ p → Accepted ≡ orLater k (first f (from 0 n)) Accepted
   accepted-first l =
-      ap (λ (x : Option ℕ). orLater k x Accepted) (sym (none-from f 0 n (λ j g. h .before j (omega arith))))
+      ap (λ (x : Option ℕ). orLater k x Accepted) (sym (first-nothing f (from 0 n) (λ j m. h .before j (omega (arith, from0-sound n j m)))))
 
 -- What the number that a check of one record gives says of it, where it is not 15: it fails; it passes.
 module _ (at : ℕ → Record) (n k p r : ℕ) (e : r ≡ given k (failsBy at n k p)) (h : 3 ≤ k) (h15 : k < 15) where

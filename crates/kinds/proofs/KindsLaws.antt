@@ -2,7 +2,7 @@
 -- Assumes nothing.
 use mathlib.Core.Path.{_≡_, refl, sym, ap, _∙_}
 use mathlib.Core.Bool.{Bool, true, false, not, _&&_, _||_, false≢true}
-use mathlib.Core.List.{[], _∷_, map}
+use mathlib.Core.List.{[], _∷_, _++_, map}
 use Prim.Native.Nat.{ℕ, zero, suc, _≤_, zero-le, _<_}
 use native.Mathlib.Omega.{arith}
 use borrow.Author.Tests.{eqb-true, leb-true, leb-false, not-true}
@@ -16,15 +16,18 @@ use Rattle.kinds.specs.Kinds.{numbered, numberOf, kindIn, kindOf, keptIn
 use Rattle.kinds.specs.declared.table.Fields.{Fields}
 use Rattle.kinds.specs.declared.table.Row.{Row}
 use Rattle.kinds.specs.declared.Kind.{Kind}
-use Rattle.kinds.specs.declared.Kind.the-variants.{Composite, And, Or, Not, Nand, Nor, Xor, Switch, Input, Output, Splitter, Joiner, Clock, Const}
+use Rattle.kinds.specs.declared.Kind.the-variants.{Composite, And, Or, Not, Nand, Nor, Xor, Switch, Input, Output, Splitter, Joiner, Clock, Const, Majority}
 use Rattle.kinds.specs.declared.Seen.{Seen}
 use Rattle.kinds.specs.declared.Seen.the-variants.{Known, Kept, Unknown}
 
--- The append rule: these fourteen kinds have these numbers, whatever kinds there are besides.
+-- The append rule: these fifteen kinds have these numbers, and 14 is kept, whatever kinds there are besides.
 pub numberOf-fixed : map numberOf
-    (Composite ∷ And ∷ Or ∷ Not ∷ Nand ∷ Nor ∷ Xor ∷ Switch ∷ Input ∷ Output ∷ Splitter ∷ Joiner ∷ Clock ∷ Const ∷ [])
-    ≡ from 0 14
+    (Composite ∷ And ∷ Or ∷ Not ∷ Nand ∷ Nor ∷ Xor ∷ Switch ∷ Input ∷ Output ∷ Splitter ∷ Joiner ∷ Clock ∷ Const ∷ Majority ∷ [])
+    ≡ from 0 14 ++ (15 ∷ [])
 numberOf-fixed = refl
+
+pub forCustom-fixed : forCustom 14 ≡ true
+forCustom-fixed = refl
 
 -- A kind's number is read as that kind.
 pub seenAs-numberOf : (k : Kind) → seenAs (numberOf k) ≡ Known k
@@ -42,6 +45,7 @@ seenAs-numberOf Splitter = refl
 seenAs-numberOf Joiner = refl
 seenAs-numberOf Clock = refl
 seenAs-numberOf Const = refl
+seenAs-numberOf Majority = refl
 
 -- A number is a kind's.
 abbrev pub isKind : ℕ → Bool

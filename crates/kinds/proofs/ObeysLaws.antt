@@ -11,7 +11,7 @@ use Rattle.lists.proofs.ListsLaws.{within-least, within-most}
 use Rattle.lists.proofs.TestsLaws.{and-left, and-right}
 use Rattle.value.specs.Value.{widest}
 use Rattle.kinds.specs.declared.Kind.{Kind}
-use Rattle.kinds.specs.declared.Kind.the-variants.{Composite, And, Or, Not, Nand, Nor, Xor, Switch, Input, Output, Splitter, Joiner, Clock, Const}
+use Rattle.kinds.specs.declared.Kind.the-variants.{Composite, And, Or, Not, Nand, Nor, Xor, Switch, Input, Output, Splitter, Joiner, Clock, Const, Majority}
 use Rattle.kinds.specs.declared.Seen.{Seen}
 use Rattle.kinds.specs.declared.Seen.the-variants.{Known, Kept, Unknown}
 use Rattle.kinds.specs.declared.table.Fields.{Fields}
@@ -91,6 +91,7 @@ row-bits f Splitter r = (bits (f .parameter) (r .parameter), refl)
 row-bits f Joiner r = (refl, bits (f .parameter) (r .parameter))
 row-bits f Clock r = (refl, refl)
 row-bits f Const r = (refl, bits (f .width) (r .width))
+row-bits f Majority r = (refl, refl)
 
 -- A primitive of kind k that obeys the table lies in the row of k.
 pub obeyed-row : (f : Fields) (k : Kind) → (primitive f && obeys f) ≡ true → f .kind ≡ numberOf k

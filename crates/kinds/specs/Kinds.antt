@@ -13,7 +13,7 @@ use lib.Dec.{eqb, leb}
 use Rattle.lists.specs.Lists.{within}
 use Rattle.value.specs.Value.{widest, ones}
 use Rattle.kinds.specs.declared.Kind.{Kind}
-use Rattle.kinds.specs.declared.Kind.the-variants.{Composite, And, Or, Not, Nand, Nor, Xor, Switch, Input, Output, Splitter, Joiner, Clock, Const}
+use Rattle.kinds.specs.declared.Kind.the-variants.{Composite, And, Or, Not, Nand, Nor, Xor, Switch, Input, Output, Splitter, Joiner, Clock, Const, Majority}
 use Rattle.kinds.specs.declared.Seen.{Seen}
 use Rattle.kinds.specs.declared.Seen.the-variants.{Known, Kept, Unknown}
 use Rattle.kinds.specs.declared.table.Fields.{Fields}
@@ -36,12 +36,13 @@ numberOf Splitter = 10
 numberOf Joiner = 11
 numberOf Clock = 12
 numberOf Const = 13
+numberOf Majority = 15
 
 -- What each number is read as, from 0 on: a kind, or kept for `Custom`.
 abbrev pub numbered : List Seen
 numbered =
     Known Composite ∷ Known And ∷ Known Or ∷ Known Not ∷ Known Nand ∷ Known Nor ∷ Known Xor ∷ Known Switch ∷ Known Input ∷ Known Output
-    ∷ Known Splitter ∷ Known Joiner ∷ Known Clock ∷ Known Const ∷ Kept ∷ []
+    ∷ Known Splitter ∷ Known Joiner ∷ Known Clock ∷ Known Const ∷ Kept ∷ Known Majority ∷ []
 
 -- What a number is read as; past the last there is no kind.
 abbrev pub seenAs : ℕ → Seen
@@ -67,9 +68,13 @@ keptIn Unknown = false
 abbrev pub forCustom : ℕ → Bool
 forCustom n = keptIn (seenAs n)
 
--- "component kind 15-255": a number past the last is no kind.
+-- "8 now starts at kind 16": a number past the last is no kind.
 abbrev pub unknown : ℕ → Bool
 unknown n = leb (length numbered) n
+
+-- A number that is no kind, and stays none.
+abbrev pub noKind : ℕ
+noKind = 255
 
 -- A component is of a kind.
 abbrev pub is : Kind → Fields → Bool
@@ -113,6 +118,7 @@ row Splitter c p = line (only 1) (only p) (only 0) (1 to widest) p 1
 row Joiner c p = line (only p) (only 1) (only 0) (1 to widest) 1 p
 row Clock c p = line (only 0) (only 1) (only 0) (1 to 2 ^ 62) 1 1
 row Const c p = line (only 0) (only 1) (1 to widest) (0 to ones (min c widest)) 1 c
+row Majority c p = line (1 to mostPorts) (only 1) (only 0) (only 0) 1 1
 
 -- The row that a component must obey.
 abbrev pub rowOf : Fields → Row

@@ -21,8 +21,9 @@ pub struct Id(pub u32);
 
 // To whoever adds a kind: append yours after the last, never between two. A kind's number is saved in the drawing files of every
 // gate, and all of them are read by this table: a kind put in before Nand would make each Nand drawn so far another gate, and
-// a screen would light a closed run. 14 is kept for the Rust's `Custom`, so the next number is 15. Besides this file the
-// table of kinds and the rules want a line, and so do the definitions of all three.
+// a screen would light a closed run. 14 is kept for the Rust's `Custom`, and 15 is Majority: the next number is 16. Besides this
+// file the table of kinds, the rules and the names want a line, and so do the definitions of all four; docs/CHECKLISTS.md has
+// the whole way.
 pub enum Kind {
     Composite,
     And,
@@ -38,7 +39,11 @@ pub enum Kind {
     Joiner,
     Clock,
     Const,
+    Majority,
 }
+
+// A number that is no kind, and stays none.
+pub const NO_KIND: u8 = 255;
 
 // What a number is read as: a kind, the number kept for Custom, or no kind.
 pub enum Seen {
@@ -66,6 +71,7 @@ pub fn number_of(kind: Kind) -> u8
         Kind::Joiner => 11,
         Kind::Clock => 12,
         Kind::Const => 13,
+        Kind::Majority => 15,
     }
 }
 
@@ -89,6 +95,7 @@ pub fn kind_of(number: u8) -> Seen
         12 => Seen::Known(Kind::Clock),
         13 => Seen::Known(Kind::Const),
         14 => Seen::Kept,
+        15 => Seen::Known(Kind::Majority),
         _ => Seen::Unknown,
     }
 }

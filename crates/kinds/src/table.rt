@@ -121,6 +121,7 @@ fn table_row(kind: Kind, c: u64, p: u64) -> Row
         Kind::Joiner => line(only(p), ONE, NONE, BITS, 1, p),
         Kind::Clock => line(NONE, ONE, NONE, PERIODS, 1, 1),
         Kind::Const => line(NONE, ONE, BITS, values(c), 1, c),
+        Kind::Majority => line(SOME, ONE, NONE, NONE, 1, 1),
     }
 }
 

@@ -17,7 +17,7 @@ use Rattle.lists.proofs.MembersLaws.{In}
 use Rattle.value.specs.Value.{below}
 use Rattle.value.proofs.ValueLaws.{below-lt}
 use Rattle.kinds.specs.declared.Kind.{Kind}
-use Rattle.kinds.specs.declared.Kind.the-variants.{Composite, And, Or, Not, Nand, Nor, Xor, Switch, Input, Output, Splitter, Joiner, Clock, Const}
+use Rattle.kinds.specs.declared.Kind.the-variants.{Composite, And, Or, Not, Nand, Nor, Xor, Switch, Input, Output, Splitter, Joiner, Clock, Const, Majority}
 use Rattle.kinds.specs.declared.answers.Refusal.{Refusal}
 use Rattle.kinds.specs.Given.{tellsOfTwo}
 use Rattle.kinds.specs.Kinds.{kindOf}
@@ -93,6 +93,7 @@ name-few Splitter = omega arith
 name-few Joiner = omega arith
 name-few Clock = omega arith
 name-few Const = omega arith
+name-few Majority = omega arith
 
 -- The lines.
 component-few : (i k d : ℕ) → i < 1000 → d < 2 ^ 32 → length (componentLine i k d) ≤ 24

@@ -41,16 +41,16 @@ pub ring-listing :
 unfolding listing roundLines componentLine wireLine numeral loadTables loadVerdict drawingTables judgement verdict overlay fullSize deepest obeys outputBelow inputsBelow comesFrom goesTo roundTables netNumber isNet countsWithin kindsObeyed idsDistinct portsFollow valuesFit constsHeld wiresFit inputsOnce names roundOf leave round visit evaluated send outputsAfter functionOf appendNew strike calm
 ring-listing = refl
 
--- A drawing of all thirteen kinds.
+-- A drawing of all kinds.
 abbrev allKinds : List ℕ
 allKinds =
     componentBytes 0 0 0 0 100 0 ++ componentBytes 1 0 2 1 1 0 ++ componentBytes 2 0 2 1 2 0 ++ componentBytes 3 0 1 1 3 0
     ++ componentBytes 4 0 2 1 4 0 ++ componentBytes 5 0 2 1 5 0 ++ componentBytes 6 0 2 1 6 0 ++ componentBytes 7 0 0 1 7 0
     ++ componentBytes 8 0 1 1 8 1 ++ componentBytes 9 0 1 1 9 1 ++ componentBytes 10 0 1 2 10 2 ++ componentBytes 11 0 2 1 11 2
-    ++ componentBytes 12 0 0 1 12 10 ++ recordBytes 1 13 0 0 1 1 0 13 0
+    ++ componentBytes 12 0 0 1 12 10 ++ recordBytes 1 13 0 0 1 1 0 13 0 ++ componentBytes 15 0 3 1 15 0
 
 pub allKinds-listing :
     listing allKinds
-    ≡ ascii "components 13\n0 And 1\n1 Or 2\n2 Not 3\n3 Nand 4\n4 Nor 5\n5 Xor 6\n6 Switch 7\n7 Input 8\n8 Output 9\n9 Splitter 10\n10 Joiner 11\n11 Clock 12\n12 Const 13\nwires 0\nround 1 next 11 12\nround 2 next 11\ncalm\n"
+    ≡ ascii "components 14\n0 And 1\n1 Or 2\n2 Not 3\n3 Nand 4\n4 Nor 5\n5 Xor 6\n6 Switch 7\n7 Input 8\n8 Output 9\n9 Splitter 10\n10 Joiner 11\n11 Clock 12\n12 Const 13\n13 Majority 15\nwires 0\nround 1 next 11 12\nround 2 next 11\ncalm\n"
 unfolding listing roundLines componentLine wireLine numeral loadTables loadVerdict drawingTables judgement verdict overlay fullSize deepest obeys outputBelow inputsBelow comesFrom goesTo roundTables netNumber isNet countsWithin kindsObeyed idsDistinct portsFollow valuesFit constsHeld wiresFit inputsOnce names roundOf leave round visit evaluated send outputsAfter functionOf appendNew strike calm
 allKinds-listing = refl

@@ -133,6 +133,15 @@ module _ {A : Type 0} where
       by-test later false z e (inl u) = ap f u ∙ z
       by-test later false z e (inr u) = later e u
 
+  -- Where no member passes, a search finds nothing; and equal tests find the same.
+  pub first-nothing : (f : A → Bool) (xs : List A) → ((a : A) → In a xs → f a ≡ false) → first f xs ≡ none
+  first-nothing f [] h = refl
+  first-nothing f (x ∷ xs) h = rw (h x (inl refl)) (first-nothing f xs (λ a u. h a (inr u)))
+
+  pub first-cong : (f g : A → Bool) (xs : List A) → ((a : A) → In a xs → f a ≡ g a) → first f xs ≡ first g xs
+  first-cong f g [] h = refl
+  first-cong f g (x ∷ xs) h = let later = first-cong f g xs (λ a u. h a (inr u)) in λ i. cond (h x (inl refl) i) (some x) (later i)
+
   -- A test that each passes is one that every member passes; and the other way.
   pub every-sound : (f : A → Bool) (a : A) (xs : List A) → every f xs ≡ true → In a xs → f a ≡ true
   every-sound f a [] e h = absurd h

@@ -129,6 +129,15 @@ module _ {A : Type 0} (f : ℕ → A) (d : A) where
   pub map-indexes : (xs : List A) → ((i : ℕ) → i < length xs → f i ≡ getD xs i d) → map f (from 0 (length xs)) ≡ xs
   map-indexes xs h = map-indexes-on 0 xs (λ i u. let z : 0 + i ≡ i = omega arith in ap f z ∙ h i u)
 
+-- and entry i of what is given at each index is what is given at i;
+map-at-on : {A : Type 0} (f : ℕ → A) (q n i : ℕ) (d : A) → i < n → getD (map f (from q n)) i d ≡ f (q + i)
+map-at-on f q zero i d h = absurd (omega arith)
+map-at-on f q (suc n) zero d h = let z : q ≡ q + 0 = omega arith in ap f z
+map-at-on f q (suc n) (suc i) d h = map-at-on f (suc q) n i d (omega arith) ∙ ap f (index-next q i)
+
+pub map-at : {A : Type 0} (f : ℕ → A) (n i : ℕ) (d : A) → i < n → getD (map f (from 0 n)) i d ≡ f i
+map-at f n i d h = let z : 0 + i ≡ i = omega arith in map-at-on f 0 n i d h ∙ ap f z
+
 -- and sums are those of the list.
 module _ {A : Type 0} (f : ℕ → ℕ) (g : A → ℕ) (d : A) where
   total-indexes-on : (q : ℕ) (xs : List A) → ((i : ℕ) → i < length xs → f (q + i) ≡ g (getD xs i d))

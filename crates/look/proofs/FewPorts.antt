@@ -7,7 +7,7 @@ use native.Mathlib.Omega.{arith}
 use mathlib.Core.List.{List}
 use Rattle.kinds.specs.declared.table.Fields.{Fields}
 use Rattle.kinds.specs.declared.Kind.{Kind}
-use Rattle.kinds.specs.declared.Kind.the-variants.{Composite, And, Or, Not, Nand, Nor, Xor, Switch, Input, Output, Splitter, Joiner, Clock, Const}
+use Rattle.kinds.specs.declared.Kind.the-variants.{Composite, And, Or, Not, Nand, Nor, Xor, Switch, Input, Output, Splitter, Joiner, Clock, Const, Majority}
 use Rattle.kinds.specs.Kinds.{kindOf, row, mostPorts}
 use Rattle.kinds.proofs.ObeysLaws.{InRow, obeys-row}
 use Rattle.component.specs.declared.Verdict.the-variants.{Accepted}
@@ -33,6 +33,7 @@ row-few Splitter f r = (omega (arith, r .inputs .most), omega (arith, r .outputs
 row-few Joiner f r = (omega (arith, r .inputs .most, r .parameter .most), omega (arith, r .outputs .most))
 row-few Clock f r = (omega (arith, r .inputs .most), omega (arith, r .outputs .most))
 row-few Const f r = (omega (arith, r .inputs .most), omega (arith, r .outputs .most))
+row-few Majority f r = (omega (arith, r .inputs .most), omega (arith, r .outputs .most))
 
 pub ports-few : (file : List ℕ) → verdict file ≡ Accepted → (c : ℕ)
     → (inputsOf (recordAt file c) ≤ mostPorts) × (outputsOf (recordAt file c) ≤ mostPorts)

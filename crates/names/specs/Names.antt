@@ -4,7 +4,7 @@
 use Prim.Native.Nat.{ℕ}
 use mathlib.Core.List.{List, []}
 use Rattle.kinds.specs.declared.Kind.{Kind}
-use Rattle.kinds.specs.declared.Kind.the-variants.{Composite, And, Or, Not, Nand, Nor, Xor, Switch, Input, Output, Splitter, Joiner, Clock, Const}
+use Rattle.kinds.specs.declared.Kind.the-variants.{Composite, And, Or, Not, Nand, Nor, Xor, Switch, Input, Output, Splitter, Joiner, Clock, Const, Majority}
 use Rattle.text.specs.Text.{ascii}
 
 -- The name of a kind. A composite is never listed.
@@ -23,3 +23,4 @@ nameOf Splitter = ascii "Splitter"
 nameOf Joiner = ascii "Joiner"
 nameOf Clock = ascii "Clock"
 nameOf Const = ascii "Const"
+nameOf Majority = ascii "Majority"

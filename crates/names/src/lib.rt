@@ -26,6 +26,7 @@ fn put_name(out: &mut [u8], at: usize, kind: Kind) -> usize
         Kind::Joiner => text::put_bytes(out, at, b"Joiner"),
         Kind::Clock => text::put_bytes(out, at, b"Clock"),
         Kind::Const => text::put_bytes(out, at, b"Const"),
+        Kind::Majority => text::put_bytes(out, at, b"Majority"),
     }
 }
 

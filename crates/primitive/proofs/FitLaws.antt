@@ -13,11 +13,11 @@ use Rattle.lists.proofs.TestsLaws.{and-left, and-right}
 use Rattle.value.specs.Value.{below, ofWidth, allFit, bitOf, complement}
 use Rattle.value.proofs.ValueLaws.{bitOf-fits, complement-fits}
 use Rattle.kinds.specs.declared.Kind.{Kind}
-use Rattle.kinds.specs.declared.Kind.the-variants.{Composite, And, Or, Not, Nand, Nor, Xor, Switch, Input, Output, Splitter, Joiner, Clock, Const}
+use Rattle.kinds.specs.declared.Kind.the-variants.{Composite, And, Or, Not, Nand, Nor, Xor, Switch, Input, Output, Splitter, Joiner, Clock, Const, Majority}
 use Rattle.kinds.specs.declared.table.Fields.{Fields}
 use Rattle.kinds.specs.Kinds.{numberOf, kindOf, row, only, primitive, obeys, inputWidth, outputWidth}
 use Rattle.primitive.specs.Evaluate.{one, clockHigh, join, rule, outputsAfter}
-use Rattle.primitive.specs.Own.{allHigh, anyHigh, oddHigh}
+use Rattle.primitive.specs.Own.{allHigh, anyHigh, oddHigh, mostHigh}
 use Rattle.primitive.specs.Own.{Own}
 use Rattle.kinds.proofs.KindsLaws.{numberOf-kindOf}
 use Rattle.primitive.proofs.RulesLaws.{join-lt}
@@ -81,6 +81,7 @@ module _ (f : Fields) (xs : List ℕ) (t : ℕ) (all : length xs ≡ f .inputs) 
   rule-length Joiner r l n = sym (only-is 1 (f .outputs) (r .outputs))
   rule-length Clock r l n = sym (only-is 1 (f .outputs) (r .outputs))
   rule-length Const r l n = absurd (false≢true (sym l))
+  rule-length Majority r l n = sym (only-is 1 (f .outputs) (r .outputs))
 
   -- What it gives fits, where its inputs do.
   rule-fits : (k : Kind) → InRow (row k c p) f → leaves k ≡ false → allBelow (row k c p .inward) xs ≡ true
@@ -102,6 +103,7 @@ module _ (f : Fields) (xs : List ℕ) (t : ℕ) (all : length xs ≡ f .inputs) 
       single p (join xs) (lt-ltb (join xs) (2 ^ p) (subst (λ (n : ℕ). join xs < 2 ^ n) (all ∙ only-is p (f .inputs) (r .inputs)) (join-lt xs)))
   rule-fits Clock r l e = one-below (clockHigh p t)
   rule-fits Const r l e = absurd (false≢true (sym l))
+  rule-fits Majority r l e = one-below (mostHigh xs)
 
 -- The outputs of a component after an evaluation.
 module _ (f : Fields) (xs ys : List ℕ) (t : ℕ) (own : Own f xs ys) where

@@ -18,7 +18,7 @@ use Rattle.primitive.specs.Own.{high, allHigh, anyHigh, oddHigh}
 abbrev pub xor : Bool → Bool → Bool
 xor a b = cond a (not b) b
 
-highs-le : (xs : List ℕ) → highs xs ≤ length xs
+pub highs-le : (xs : List ℕ) → highs xs ≤ length xs
 highs-le [] = omega arith
 highs-le (x ∷ xs) = omega (arith, highs-le xs, level-le (high x))
 

@@ -14,7 +14,7 @@ use lib.Dec.{eqb, ltb}
 use Rattle.lists.specs.Lists.{from, every, total, refusal, _if_}
 use Rattle.value.specs.Value.{level, bitOf, complement, ofWidth, fitsIn}
 use Rattle.kinds.specs.declared.Kind.{Kind}
-use Rattle.kinds.specs.declared.Kind.the-variants.{Composite, And, Or, Not, Nand, Nor, Xor, Switch, Input, Output, Splitter, Joiner, Clock, Const}
+use Rattle.kinds.specs.declared.Kind.the-variants.{Composite, And, Or, Not, Nand, Nor, Xor, Switch, Input, Output, Splitter, Joiner, Clock, Const, Majority}
 use Rattle.kinds.specs.declared.table.Fields.{Fields}
 use Rattle.primitive.specs.declared.Evaluated.{Evaluated}
 use Rattle.primitive.specs.declared.Evaluated.the-variants.{Done, Refused}
@@ -43,7 +43,7 @@ abbrev pub one : Bool → List ℕ
 one b = level b ∷ []
 
 -- The function of a kind, at its parameter p, of its inputs and the time: And is high where as many inputs are high as there are, Or where one is,
--- Xor where an odd number is. A Switch has none: its output is free.
+-- Xor where an odd number is; Majority "when twice the number of high inputs exceeds the number of inputs". A Switch has none: its output is free.
 abbrev pub rule : Kind → ℕ → List ℕ → ℕ → List ℕ
 rule Composite p xs t = []
 rule And p xs t = one (eqb (highs xs) (length xs))
@@ -59,6 +59,7 @@ rule Splitter p xs t = split (getD xs 0 0) p
 rule Joiner p xs t = join xs ∷ []
 rule Clock p xs t = one (clockHigh p t)
 rule Const p xs t = p ∷ []
+rule Majority p xs t = one (ltb (length xs) (2 * highs xs))
 
 -- "its function of its inputs", at a time.
 unfoldable pub functionOf : Fields → List ℕ → ℕ → List ℕ

@@ -1,7 +1,7 @@
 -- What `update` is handed, and what its gates ask of their inputs. Only contracts of functions inside our crates cite it; nobody has to believe
 -- anything here.
 -- Assumes nothing.
-use Prim.Native.Nat.{ℕ, _%_}
+use Prim.Native.Nat.{ℕ, _*_, _%_}
 use mathlib.Core.Path.{_≡_}
 use mathlib.Core.Bool.{Bool, true, _&&_}
 use mathlib.Core.List.{List}
@@ -21,7 +21,7 @@ pub record Own (f : Fields) (xs ys : List ℕ) : Type 0 where
 abbrev pub high : ℕ → Bool
 high x = ltb 0 x
 
--- All inputs are high; one is; an odd number of them is.
+-- All inputs are high; one is; an odd number of them is; most of them are.
 abbrev pub allHigh : List ℕ → Bool
 allHigh xs = eqb (highs xs) (length xs)
 
@@ -30,3 +30,6 @@ anyHigh xs = ltb 0 (highs xs)
 
 abbrev pub oddHigh : List ℕ → Bool
 oddHigh xs = eqb (highs xs % 2) 1
+
+abbrev pub mostHigh : List ℕ → Bool
+mostHigh xs = ltb (length xs) (2 * highs xs)

@@ -7,7 +7,7 @@ ghost use lib.ListN.{length};
 ghost use Rattle.value.specs.Value.{level, complement};
 ghost use Rattle.kinds.specs.Kinds.{numberOf};
 ghost use Rattle.primitive.specs.Evaluate.{highs, join, split, one, clockHigh, outputsAfter};
-ghost use Rattle.primitive.specs.Own.{allHigh, anyHigh, oddHigh};
+ghost use Rattle.primitive.specs.Own.{allHigh, anyHigh, oddHigh, mostHigh};
 ghost use Rattle.primitive.specs.Own.{Own};
 use kinds::Fields;
 use kinds::Kind;
@@ -49,6 +49,14 @@ fn odd_high(ports: &[u64]) -> bool
     ensures { λ r. ⌜ r ≡ oddHigh (now (ports .entry)) ⌝ }
 {
     count_high(ports) % 2 == 1
+}
+
+// Majority: twice the number of high ports exceeds the number of ports. Half of them are not most.
+fn most_high(ports: &[u64]) -> bool
+    requires { ⌜ length (now ports) ≤ 64 ⌝ }
+    ensures { λ r. ⌜ r ≡ mostHigh (now (ports .entry)) ⌝ }
+{
+    ports.len() < 2 * count_high(ports)
 }
 
 // Not.
@@ -146,6 +154,7 @@ fn update_as(kind: Kind, f: Fields, inputs: &[u64], outputs: &mut [u64], time: u
         Kind::Joiner => put(outputs, join(inputs)),
         Kind::Clock => put_level(outputs, clock_high(f.parameter, time)),
         Kind::Const => {}
+        Kind::Majority => put_level(outputs, most_high(inputs)),
     }
 }
 

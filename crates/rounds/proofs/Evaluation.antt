@@ -8,7 +8,7 @@ use native.Mathlib.Omega.{arith}
 use borrow.Author.Tests.{eqb-true, eqb-false}
 use lib.Dec.{eqb}
 use Rattle.kinds.specs.declared.Kind.{Kind}
-use Rattle.kinds.specs.declared.Kind.the-variants.{Composite, And, Or, Not, Nand, Nor, Xor, Switch, Input, Output, Splitter, Joiner, Clock, Const}
+use Rattle.kinds.specs.declared.Kind.the-variants.{Composite, And, Or, Not, Nand, Nor, Xor, Switch, Input, Output, Splitter, Joiner, Clock, Const, Majority}
 use Rattle.kinds.specs.declared.table.Fields.{Fields}
 use Rattle.kinds.specs.Kinds.{numberOf, kindOf, is, primitive, obeys}
 use Rattle.primitive.specs.Evaluate.{rule, functionOf, outputsAfter}
@@ -35,6 +35,7 @@ rule-time Splitter p xs t u n = refl
 rule-time Joiner p xs t u n = refl
 rule-time Clock p xs t u n = absurd (n refl)
 rule-time Const p xs t u n = refl
+rule-time Majority p xs t u n = refl
 
 module _ (f : Fields) (o : (primitive f && obeys f) ≡ true) where
   pub clock-inputs : is Clock f ≡ true → f .inputs ≡ 0

@@ -13,7 +13,7 @@ use lib.Seq.{sets}
 use Rattle.lists.proofs.TestsLaws.{and-left, and-right}
 use Rattle.value.specs.Value.{below}
 use Rattle.kinds.specs.declared.Kind.{Kind}
-use Rattle.kinds.specs.declared.Kind.the-variants.{Composite, And, Or, Not, Nand, Nor, Xor, Switch, Input, Output, Splitter, Joiner, Clock, Const}
+use Rattle.kinds.specs.declared.Kind.the-variants.{Composite, And, Or, Not, Nand, Nor, Xor, Switch, Input, Output, Splitter, Joiner, Clock, Const, Majority}
 use Rattle.kinds.specs.declared.table.Fields.{Fields}
 use Rattle.kinds.specs.Kinds.{kindOf, primitive, obeys, row}
 use Rattle.kinds.proofs.ObeysLaws.{InRow, obeys-row, obeyed-kind}
@@ -83,6 +83,7 @@ row-small f Splitter r = record { inputs = omega arith; outputs = omega arith; w
 row-small f Joiner r = record { inputs = omega arith; outputs = omega arith; width = omega arith }
 row-small f Clock r = record { inputs = omega arith; outputs = omega arith; width = omega arith }
 row-small f Const r = record { inputs = omega arith; outputs = omega arith; width = omega arith }
+row-small f Majority r = record { inputs = omega arith; outputs = omega arith; width = omega arith }
 
 pub obeyed-fit : (f : Fields) → (primitive f && obeys f) ≡ true → fieldsFit f ≡ true
 unfolding fieldsFit

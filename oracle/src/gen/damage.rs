@@ -11,6 +11,9 @@ use crate::plain::kinds::PERIOD_MAX;
 /// The numbers that damage aims at, those that are often missed more than once.
 const AIMS: [u64; 22] = [1, 3, 4, 5, 5, 6, 7, 8, 9, 10, 11, 11, 12, 13, 14, 15, 15, 15, 22, 22, 23, 23];
 
+/// The kind that logix has none of.
+const MAJORITY: u8 = 15;
+
 /// A damaged file, with one fault or two.
 pub fn damaged(random: &mut Random, mut records: Vec<Record>) -> Vec<u8> {
     let mut length_aim = false;
@@ -33,7 +36,7 @@ fn damage(random: &mut Random, records: &mut Vec<Record>, aim: u64) {
         5 => damage_owner(random, records),
         6 => too_many_or_deep(random, records),
         7 => component(random, records).component_kind = 14,
-        8 => component(random, records).component_kind = random.pick(&[15, 16, 100, 255]),
+        8 => component(random, records).component_kind = random.pick(&[16, 17, 100, 255]),
         9 => damage_fields(random, records),
         10 => repeat_id(random, records),
         11 => too_many_ports(random, records),
@@ -164,6 +167,8 @@ fn too_many_or_deep(random: &mut Random, records: &mut Vec<Record>) {
 
 /// Aims at 9: one field breaks the table of kinds.
 fn damage_fields(random: &mut Random, records: &mut [Record]) {
+    // A drawing of the kinds that logix has stays one.
+    let votes = records.iter().any(|record| record.component_kind == MAJORITY);
     let record = component(random, records);
     let past = match record.component_kind {
         12 => random.pick(&[0, PERIOD_MAX + 1, u64::MAX]),
@@ -174,6 +179,7 @@ fn damage_fields(random: &mut Random, records: &mut [Record]) {
         0 => record.a = random.pick(&[0, 1, 2, record.a + 1, 64, 65, 65_535]),
         1 => record.b = random.pick(&[0, 1, 2, record.b + 1, 64, 65, 65_535]),
         2 => record.c = random.pick(&[0, 1, 32, 33, 64, 65_535]),
+        3 if votes && random.once_in(3) => record.component_kind = MAJORITY,
         3 => record.component_kind = random.below(14) as u8,
         _ => record.parameter = past,
     }

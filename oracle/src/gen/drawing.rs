@@ -36,6 +36,8 @@ pub struct Profile {
     pub lively: bool,
     /// Of ten composites, how many have no input that reaches nothing.
     pub whole: u64,
+    /// Whether there are Majority gates, which logix has none of.
+    pub votes: bool,
 }
 
 /// A profile of any kind, small ones more often.
@@ -60,7 +62,13 @@ pub fn any_profile(random: &mut Random) -> Profile {
         chain: components > 16 && random.once_in(4),
         lively: random.once_in(2),
         whole: 0,
+        votes: false,
     }
+}
+
+/// The same profile, with Majority gates in one drawing of so many.
+pub fn voting(random: &mut Random, one_in: u64, profile: Profile) -> Profile {
+    Profile { votes: random.once_in(one_in), ..profile }
 }
 
 /// A profile for running: kinds that move, most inputs entered, few tiny ones.
@@ -244,9 +252,17 @@ impl<'a> Drawer<'a> {
         if self.profile.fill_outputs && splitter {
             row(10, 1, outputs, 0, outputs)
         } else if inputs > 0 {
-            row(self.random.pick(&[1, 2, 4, 5, 6]), inputs, 1, 0, 0)
+            row(self.gate(), inputs, 1, 0, 0)
         } else {
             row(7, 0, 1, 0, 0)
+        }
+    }
+
+    /// A kind of gate that may have many inputs.
+    fn gate(&mut self) -> u64 {
+        match self.profile.votes {
+            true => self.random.pick(&[1, 2, 4, 5, 6, 15, 15]),
+            false => self.random.pick(&[1, 2, 4, 5, 6]),
         }
     }
 
@@ -260,9 +276,10 @@ impl<'a> Drawer<'a> {
             true => self.random.pick(&[1, 2, 3, 3, 4, 4, 5, 5, 6, 6, 7, 7, 8, 9, 10, 11, 12, 12, 13]),
             false => self.random.between(1, 13),
         };
+        let kind = if self.profile.votes && self.random.once_in(4) { 15 } else { kind };
         match kind {
             3 => row(3, 1, 1, 0, 0),
-            6 => row(6, self.gate_inputs().max(1), 1, 0, 0),
+            kind @ (6 | 15) => row(kind, self.gate_inputs().max(1), 1, 0, 0),
             7 => row(7, 0, 1, 0, 0),
             kind @ (8 | 9) => row(kind, 1, 1, 0, bits),
             10 => row(10, 1, bits, 0, bits),

@@ -38,13 +38,13 @@ fn right(random: &mut Random) -> Single {
 
 /// Fields that obey the table of kinds, each kind as likely as another.
 pub fn fields(random: &mut Random) -> Fields {
-    let kind = random.between(1, 13);
+    let kind = random.pick(&[1, 2, 3, 4, 5, 6, 7, 8, 9, 10, 11, 12, 13, 15]);
     let bits = bits(random);
     let mut fields = Fields { kind, inputs: 0, outputs: 1, width: 0, parameter: 0 };
     match kind {
         1 | 2 | 4 | 5 => fields.inputs = gate_inputs(random),
         3 => fields.inputs = 1,
-        6 => fields.inputs = gate_inputs(random).max(1),
+        6 | 15 => fields.inputs = gate_inputs(random).max(1),
         8 | 9 => (fields.inputs, fields.parameter) = (1, bits),
         10 => (fields.inputs, fields.outputs, fields.parameter) = (1, bits, bits),
         11 => (fields.inputs, fields.parameter) = (bits, bits),
@@ -114,6 +114,9 @@ fn inputs(random: &mut Random, fields: &Fields) -> Vec<PortValue> {
     if width > 1 || random.once_in(3) {
         return (0..fields.inputs).map(|_| fitting(random, width)).collect();
     }
+    if fields.kind == 15 && random.once_in(2) {
+        return nearly_half(random, fields.inputs);
+    }
     let level = random.below(2);
     let mut values = vec![PortValue { number: level, width: 1 }; fields.inputs as usize];
     for _ in 0..random.below(3) {
@@ -121,6 +124,18 @@ fn inputs(random: &mut Random, fields: &Fields) -> Vec<PortValue> {
             let at = random.below(fields.inputs) as usize;
             values[at].number = 1 - level;
         }
+    }
+    values
+}
+
+/// Half of the inputs high, or one more, or one less, anywhere among them.
+fn nearly_half(random: &mut Random, inputs: u64) -> Vec<PortValue> {
+    let wanted = (inputs / 2 + random.below(3)).saturating_sub(1).min(inputs);
+    let mut values = vec![PortValue { number: 0, width: 1 }; inputs as usize];
+    let mut low: Vec<usize> = (0..inputs as usize).collect();
+    for _ in 0..wanted {
+        let at = low.swap_remove(random.below(low.len() as u64) as usize);
+        values[at].number = 1;
     }
     values
 }
@@ -141,7 +156,7 @@ fn more(random: &mut Random, values: &mut Vec<PortValue>) {
 fn damage(random: &mut Random, single: &mut Single) {
     let fields = &mut single.fields;
     match random.below(10) {
-        0 => fields.kind = random.pick(&[0, 0, 14, 14, 15, 16, 255]),
+        0 => fields.kind = random.pick(&[0, 0, 14, 14, 15, 16, 17, 255]),
         1 => fields.kind = random.below(256),
         2 => fields.inputs = wrong_ports(random, fields.inputs),
         3 => fields.outputs = wrong_ports(random, fields.outputs),

@@ -16,16 +16,18 @@ pub fn full_net(random: &mut Random) -> Tables {
     tables
 }
 
-/// 25 Splitters with a Const for each width, and gates of four and five inputs.
+/// 25 Splitters with a Const for each width, and gates of four and five inputs, Majority
+/// among them in one net of two.
 fn rows(random: &mut Random) -> Vec<Fields> {
     let row = |kind, inputs, outputs, width, parameter| Fields { kind, inputs, outputs, width, parameter };
     let mut rows = vec![row(10, 1, 32, 0, 32); 24];
     rows.push(row(10, 1, 25, 0, 25));
     rows.push(row(13, 0, 1, 32, random.below(1 << 32)));
     rows.push(row(13, 0, 1, 25, random.below(1 << 25)));
+    let gates: &[u64] = if random.once_in(2) { &[1, 2, 4, 5, 6, 15] } else { &[1, 2, 4, 5, 6] };
     for gate in 0..229 {
         let inputs = if gate < 83 { 5 } else { 4 };
-        rows.push(row(random.pick(&[1, 2, 4, 5, 6]), inputs, 1, 0, 0));
+        rows.push(row(random.pick(gates), inputs, 1, 0, 0));
     }
     rows
 }

@@ -8,7 +8,13 @@ use crate::plain::net::entries;
 use std::io::{Result, Write};
 
 pub fn one<W: Write>(random: &mut Random, stream: &mut Stream<W>) -> Result<()> {
-    stream.put(Command::Load(good_file(random)))?;
+    let file = good_file(random);
+    load(random, stream, file)
+}
+
+/// One accepted file, and all that can be asked of it.
+pub fn load<W: Write>(random: &mut Random, stream: &mut Stream<W>, file: Vec<u8>) -> Result<()> {
+    stream.put(Command::Load(file))?;
     stream.put_all([Command::Net, Command::State])?;
     if random.once_in(8) {
         stream.put(Command::All)?;

@@ -17,7 +17,12 @@ use std::io::{Result, Write};
 pub fn one<W: Write>(random: &mut Random, stream: &mut Stream<W>) -> Result<()> {
     let profile = boxes_profile(random);
     let drawn = drawing(random, profile);
-    let file = file_of(&drawn);
+    boxes(random, stream, &drawn)
+}
+
+/// One accepted drawing, and looks at its boxes.
+pub fn boxes<W: Write>(random: &mut Random, stream: &mut Stream<W>, drawn: &[Record]) -> Result<()> {
+    let file = file_of(drawn);
     for _ in 0..random.between(1, 3) {
         stream.put_all([Command::Keep(file.clone()), Command::Load(file.clone())])?;
         steps(random, stream)?;
@@ -25,7 +30,7 @@ pub fn one<W: Write>(random: &mut Random, stream: &mut Stream<W>) -> Result<()> 
             other_values(random, stream)?;
         }
         looks(random, stream)?;
-        otherwise(random, stream, &drawn)?;
+        otherwise(random, stream, drawn)?;
         looks(random, stream)?;
     }
     let table = random.pick(&[NUMBERS, NUMBERS, WIDTHS, WIDTHS, ANSWER, INPUTS, ALL]);

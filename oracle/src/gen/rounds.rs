@@ -12,6 +12,11 @@ use std::io::{Result, Write};
 pub fn one<W: Write>(random: &mut Random, stream: &mut Stream<W>) -> Result<()> {
     let profile = running_profile(random);
     let file = file_of(&drawing(random, profile));
+    run(random, stream, file)
+}
+
+/// One accepted file, and calls on it.
+pub fn run<W: Write>(random: &mut Random, stream: &mut Stream<W>, file: Vec<u8>) -> Result<()> {
     stream.put_all([Command::Load(file), Command::State])?;
     let mut time = first_time(random);
     for _ in 0..random.between(3, 25) {

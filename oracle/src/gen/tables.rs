@@ -1,7 +1,7 @@
 //! Tables changed by hand after a load: one fault, or another net, then every
 //! call on it. The next one begins with a load that repairs.
 
-use super::drawing::{drawing, file_of, running_profile, Profile};
+use super::drawing::{drawing, file_of, running_profile, voting, Profile};
 use super::full::full_net;
 use super::look::any_path;
 use super::random::Random;
@@ -34,7 +34,7 @@ pub fn one<W: Write>(random: &mut Random, stream: &mut Stream<W>) -> Result<()> 
     }
 }
 
-/// A drawing small enough to be written word by word.
+/// A drawing small enough to be written word by word, one in four with Majority gates.
 fn small_file(random: &mut Random) -> Vec<u8> {
     let components = random.between(3, 40) as usize;
     let profile = Profile {
@@ -45,6 +45,7 @@ fn small_file(random: &mut Random) -> Vec<u8> {
         chain: false,
         ..running_profile(random)
     };
+    let profile = voting(random, 4, profile);
     file_of(&drawing(random, profile))
 }
 
@@ -201,7 +202,7 @@ fn count_fault(random: &mut Random, tables: &Tables) -> Command {
     Command::SetCount { which: which as u8, number }
 }
 
-/// "kinds 1 to 13, obey the table of kinds and have distinct ids, ports follow
+/// "kinds 1 to 13", and 15, "obey the table of kinds and have distinct ids, ports follow
 /// each other without gaps": one word of one component.
 fn component_fault(random: &mut Random, tables: &Tables) -> Vec<Command> {
     let entries = entries(tables);
@@ -213,7 +214,7 @@ fn component_fault(random: &mut Random, tables: &Tables) -> Vec<Command> {
     let old = tables.words[COMPONENTS][(8 * at + field) as usize];
     let other = random.pick(&entries);
     let word = match field {
-        0 => random.pick(&[0, 14, 15, 255, 256 + old, 263, 1 << 32 | old, u64::MAX, other.fields.kind]),
+        0 => random.pick(&[0, 14, 15, 16, 255, 256 + old, 271, 1 << 32 | old, u64::MAX, other.fields.kind]),
         1 => random.pick(&[other.id, other.id, 1 << 32, 1 << 32 | old, u64::MAX, old ^ 1, u32::MAX as u64]),
         2 => random.pick(&[0, 1, 32, 33, 64, 1 << 16 | old, 1 << 32 | old, u64::MAX]),
         3 => parameter(random, &entries[at as usize]),

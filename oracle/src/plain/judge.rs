@@ -7,6 +7,7 @@
 
 use super::drawing::{records, Drawing, Record};
 use super::drawing::{COMPONENT, CONNECTION, DEPTH_MAX, INPUT_MAP, OUTPUT_MAP, RECORD_BYTES};
+use super::kinds::{CUSTOM, NO_KIND};
 use std::collections::HashMap;
 
 pub const RECORDS_MAX: usize = 1_024;
@@ -173,12 +174,12 @@ fn depth(drawing: &Drawing, component: usize) -> usize {
 
 /// Check 7: component kind 14, kept for `Custom`.
 fn check_7(drawing: &Drawing, at: usize) -> bool {
-    is_component(drawing, at) && drawing.records[at].component_kind == 14
+    is_component(drawing, at) && drawing.records[at].component_kind as u64 == CUSTOM
 }
 
-/// Check 8: component kind 15-255.
+/// Check 8: component kind 16-255.
 fn check_8(drawing: &Drawing, at: usize) -> bool {
-    is_component(drawing, at) && drawing.records[at].component_kind >= 15
+    is_component(drawing, at) && drawing.records[at].component_kind as u64 >= NO_KIND
 }
 
 /// Check 9: a component breaks the table of kinds.

@@ -4,6 +4,10 @@
 pub const PERIOD_MAX: u64 = 1 << 62;
 /// The greatest width of a port.
 pub const WIDTH_MAX: u64 = 32;
+/// "component kind 14, kept for `Custom`".
+pub const CUSTOM: u64 = 14;
+/// "8 now starts at kind 16".
+pub const NO_KIND: u64 = 16;
 /// The most ports that a gate or a composite has on one side.
 pub const PORTS_MAX: u64 = 64;
 
@@ -32,8 +36,14 @@ impl Fields {
             11 => self.ports(self.parameter, 1) && self.has_bits(),
             12 => self.ports(0, 1) && self.has_period(),
             13 => self.ports(0, 1) && self.has_const_value(),
+            15 => self.inputs >= 1 && self.ports_up_to_64() && self.outputs == 1 && self.bare(),
             _ => false,
         }
+    }
+
+    /// Of kinds 1 to 13, or 15.
+    pub fn is_primitive(&self) -> bool {
+        (1..NO_KIND).contains(&self.kind) && self.kind != CUSTOM
     }
 
     fn ports(&self, inputs: u64, outputs: u64) -> bool {

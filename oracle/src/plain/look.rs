@@ -4,7 +4,8 @@
 //! of ids below the root (empty: the root itself)".
 
 use super::calls::{lent_short, load_verdict_with, table_short};
-use super::drawing::{records, Drawing, Id, Port, Record, COMPONENT, CONNECTION};
+use super::drawing::{records, Drawing, Id, Port};
+use super::flat::{component_words, index, is_primitive, wire_words};
 use super::judge::Refusal;
 use super::net::{entries, is_net};
 use super::single::PortValue;
@@ -43,37 +44,6 @@ fn named(drawing: &Drawing, path: &[Id]) -> Option<usize> {
 /// of the file gives."
 fn matches(drawing: &Drawing, tables: &Tables) -> bool {
     tables.used(COMPONENTS) == component_words(drawing) && tables.used(WIRES) == wire_words(drawing)
-}
-
-fn is_primitive(record: &Record) -> bool {
-    record.kind == COMPONENT && !record.is_composite()
-}
-
-/// The flat index of a primitive: "Primitives keep file order".
-fn index(drawing: &Drawing, number: usize) -> usize {
-    drawing.records[..number].iter().filter(|record| is_primitive(record)).count()
-}
-
-/// The words of the components table after a load of the drawing.
-fn component_words(drawing: &Drawing) -> Vec<u64> {
-    let mut words = vec![];
-    let (mut inputs, mut outputs) = (0, 0);
-    for record in drawing.records.iter().filter(|record| is_primitive(record)) {
-        let (own_inputs, own_outputs) = (record.a as u64, record.b as u64);
-        words.extend([record.component_kind as u64, record.id as u64, record.c as u64, record.parameter]);
-        words.extend([own_inputs, own_outputs, inputs, outputs]);
-        inputs += own_inputs;
-        outputs += own_outputs;
-    }
-    words
-}
-
-/// The words of the wires table after a load: "Wires stand in order of their connection."
-pub fn wire_words(drawing: &Drawing) -> Vec<u64> {
-    let connections = drawing.records.iter().filter(|record| record.kind == CONNECTION);
-    let wires = connections.flat_map(|record| drawing.wires_of(record));
-    let ends = wires.flat_map(|(source, target)| [source, target]);
-    ends.flat_map(|(number, port)| [index(drawing, number), port]).map(|word| word as u64).collect()
 }
 
 /// The values of a component's ports; none where an input of it reaches nothing.

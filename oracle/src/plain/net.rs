@@ -24,13 +24,21 @@ pub struct Entry {
 
 /// The components below the count, which is within the table.
 pub fn entries(tables: &Tables) -> Vec<Entry> {
-    tables.used(COMPONENTS).chunks_exact(8).map(entry).collect()
+    tables.used(COMPONENTS).chunks_exact(8).map(Entry::of).collect()
 }
 
-fn entry(words: &[u64]) -> Entry {
-    let fields =
-        Fields { kind: words[0], inputs: words[4], outputs: words[5], width: words[2], parameter: words[3] };
-    Entry { fields, id: words[1], first_input: words[6], first_output: words[7] }
+impl Entry {
+    /// The entry of eight words.
+    pub fn of(words: &[u64]) -> Entry {
+        let fields = Fields {
+            kind: words[0],
+            inputs: words[4],
+            outputs: words[5],
+            width: words[2],
+            parameter: words[3],
+        };
+        Entry { fields, id: words[1], first_input: words[6], first_output: words[7] }
+    }
 }
 
 pub fn is_net(tables: &Tables) -> bool {
@@ -70,10 +78,10 @@ fn counts_broken(tables: &Tables) -> Broken {
     past.map(|table| NAMES[table])
 }
 
-/// "components are of kinds 1 to 13, obey the table of kinds"
+/// "components are of kinds 1 to 13, obey the table of kinds"; "9 and 16 cover the new kind", 15.
 fn kinds_broken(entries: &[Entry]) -> Broken {
-    if entries.iter().any(|entry| !(1..=13).contains(&entry.fields.kind)) {
-        return Some("a kind not 1 to 13");
+    if entries.iter().any(|entry| !entry.fields.is_primitive()) {
+        return Some("a kind not 1 to 13, nor 15");
     }
     let obeyed = entries.iter().all(|entry| entry.fields.obey_the_table());
     (!obeyed).then_some("the table of kinds")

@@ -1,6 +1,6 @@
 //! Evaluating a single component: checks 7, 8, 9, 2, 19, in that order.
 
-use super::kinds::{fits, Fields};
+use super::kinds::{fits, Fields, CUSTOM, NO_KIND};
 
 /// A value as it is handed in: any number with any width.
 #[derive(Clone, Copy, Debug, PartialEq)]
@@ -12,8 +12,8 @@ pub struct PortValue {
 /// The number given back, 0 where the component is evaluated.
 pub fn single_number(fields: &Fields, inputs: &[PortValue], outputs: &[PortValue]) -> u64 {
     let checks = [
-        (7, fields.kind == 14),
-        (8, fields.kind >= 15),
+        (7, fields.kind == CUSTOM),
+        (8, fields.kind >= NO_KIND),
         (9, fields.kind == 0 || !fields.obey_the_table()),
         (2, too_few(fields, inputs, outputs)),
         (19, misfits(fields, inputs, outputs)),

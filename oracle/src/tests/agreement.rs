@@ -8,8 +8,8 @@ use crate::gen::judge::any_file;
 use crate::gen::random::Random;
 use crate::gen::rounds::step;
 use crate::plain::drawing::{records, Drawing, Record, CONNECTION, INPUT_MAP};
+use crate::plain::flat::wire_words;
 use crate::plain::judge::{judge, words, MEETINGS};
-use crate::plain::look::wire_words;
 use crate::plain::net::{broken, is_net};
 use crate::program::Program;
 use crate::tables::{Tables, COMPONENTS, FULL_WORDS, INPUTS, OUTPUTS, WIRES};
@@ -45,9 +45,12 @@ fn later_entries(drawing: &Drawing) -> usize {
 fn build_panics_exactly_where_13_22_or_23_is_given() {
     let mut random = Random::new(13);
     let (mut met, mut alone, mut once) = ([0; 3], [0; 3], 0);
-    for _ in 0..3_000 {
+    for _ in 0..4_500 {
         let file = any_file(&mut random);
         let drawing = Drawing::new(records(&file));
+        if !Engine::has_kinds_of(&drawing) {
+            continue;
+        }
         let [number, position, _] = words(judge(&file));
         match MEETINGS.iter().position(|meeting| *meeting == number) {
             Some(at) => {

@@ -106,11 +106,14 @@ fn primitives_have_at_most_1024_inputs_and_outputs() {
 
 #[test]
 fn a_side_has_at_most_64_ports() {
-    for kind in [1, 2, 4, 5, 6] {
+    for kind in [1, 2, 4, 5, 6, 15] {
         assert_eq!(verdict(&root_and(1, component(kind, 0, 64, 1, 0))), (0, 0));
         assert_eq!(verdict(&root_and(1, component(kind, 0, 65, 1, 0))), (9, 1));
     }
-    assert_eq!(verdict(&root_and(1, component(6, 0, 0, 1, 0))), (9, 1));
+    for kind in [6, 15] {
+        assert_eq!(verdict(&root_and(1, component(kind, 0, 1, 1, 0))), (0, 0));
+        assert_eq!(verdict(&root_and(1, component(kind, 0, 0, 1, 0))), (9, 1));
+    }
     assert_eq!(verdict(&root_and(1, component(0, 0, 65, 0, 0))), (9, 1));
     let with_outputs = |outputs: u16| {
         let mut records = vec![component(0, 0, 0, outputs, 8), component(7, 0, 0, 1, 9)];
@@ -136,9 +139,9 @@ fn periods_and_const_values_have_bounds() {
 }
 
 #[test]
-fn kinds_14_and_15_are_7_and_8() {
-    let kind = |kind| verdict(&[component(kind, 0, 0, 1, 0)]);
-    assert_eq!([kind(14), kind(15), kind(255)], [(7, 0), (8, 0), (8, 0)]);
+fn kinds_14_and_16_are_7_and_8() {
+    let kind = |kind| verdict(&[component(kind, 0, 1, 1, 0)]);
+    assert_eq!([kind(14), kind(15), kind(16), kind(255)], [(7, 0), (0, 0), (8, 0), (8, 0)]);
 }
 
 #[test]

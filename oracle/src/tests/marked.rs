@@ -56,7 +56,8 @@ fn refusals_come_in_the_order_7_8_9_2_19() {
         answer(&mut Program::new(), Command::Evaluate(single))
     };
     assert_eq!(no_values(14), "evaluate 7\n");
-    assert_eq!(no_values(15), "evaluate 8\n");
+    assert_eq!(no_values(16), "evaluate 8\n");
+    assert_eq!(no_values(15), "evaluate 2\n");
     assert_eq!(no_values(0), "evaluate 9\n");
     assert_eq!(no_values(7), "evaluate 9\n");
     assert_eq!(no_values(3), "evaluate 2\n");

@@ -17,6 +17,9 @@ enum-told c = search needs
 returns : tie.Need-returns
 returns c = search (given-passes, fails14-other)
 
+number-of-requires : tie.Need-number-of-requires
+number-of-requires c κs = search needs
+
 returns-2 : tie.Need-returns-2
 returns-2 c = search (given-passes, fails14-primitive)
 
@@ -24,7 +27,7 @@ cast-given : tie.Need-cast-given
 cast-given c = search needs
 
 out-map-count-requires : tie.Need-out-map-count-requires
-out-map-count-requires c κs = (c .before .before .before .before .before .before .before .before .before .pre .0 .size, search (component-few))
+out-map-count-requires c κs = (c .before .before .before .before .before .before .before .before .before .before .pre .0 .size, search (component-few))
 
 given-requires : tie.Need-given-requires
 given-requires c κs = search needs
@@ -40,6 +43,7 @@ check14-spec =
     enum-known-fields
     enum-told
     returns
+    number-of-requires
     returns-2
     cast-given
     out-map-count-requires

@@ -48,7 +48,10 @@ returns-15 : tie.Need-returns-15
 returns-15 c = rw (c .match .keys15)
 
 returns-16 : tie.Need-returns-16
-returns-16 c = seenAs-unknown (c .before .args .number) (c .match .rest)
+returns-16 c = rw (c .match .keys16)
+
+returns-17 : tie.Need-returns-17
+returns-17 c = seenAs-unknown (c .before .args .number) (c .match .rest)
 
 pub kind-of-spec : {M : Type 1} → statement M
 kind-of-spec =
@@ -69,4 +72,5 @@ kind-of-spec =
     returns-13
     returns-14
     returns-15
-    returns-16)
+    returns-16
+    returns-17)

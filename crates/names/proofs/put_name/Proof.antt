@@ -49,10 +49,16 @@ returns-13 c = rw (c .before .before .before .before .before .enum-told13 .given
 returns-14 : tie.Need-returns-14
 returns-14 c = rw (c .before .before .before .before .before .enum-told14 .given .1) (put (ascii "Const") (c .before .before .put-bytes14 .ensures))
 
+returns-15 : tie.Need-returns-15
+returns-15 c = rw (c .before .before .before .before .before .enum-told15 .given .1) (put (ascii "Majority") (c .before .before .put-bytes15 .ensures))
+
 pub put-name-spec : {M : Type 1} → statement M
 put-name-spec =
     tie.close
     (tie.spec
+    (λ c. search needs)
+    (λ c. search needs)
+    (λ c κs. search needs)
     (λ c. search needs)
     (λ c. search needs)
     (λ c κs. search needs)
@@ -122,4 +128,6 @@ put-name-spec =
     (λ c. search needs)
     returns-13
     (λ c. search needs)
-    returns-14)
+    returns-14
+    (λ c. search needs)
+    returns-15)

@@ -44,6 +44,9 @@ returns-13 c = rw (c .line13 .ensures, c .before .enum-told13 .given .1)
 returns-14 : tie.Need-returns-14
 returns-14 c = rw (c .line14 .ensures, c .before .values .ensures, c .before .before .enum-told14 .given .1)
 
+returns-15 : tie.Need-returns-15
+returns-15 c = rw (c .line15 .ensures, c .before .enum-told15 .given .1)
+
 pub table-row-spec : {M : Type 1} → statement M
 table-row-spec =
     tie.close
@@ -79,6 +82,8 @@ table-row-spec =
     (λ c. search needs)
     (λ c κs. search needs)
     (λ c κs. search needs)
+    (λ c. search needs)
+    (λ c κs. search needs)
     returns
     returns-2
     returns-3
@@ -92,4 +97,5 @@ table-row-spec =
     returns-11
     returns-12
     returns-13
-    returns-14)
+    returns-14
+    returns-15)

@@ -8,7 +8,7 @@ use Prim.Native.Nat.{ℕ, _<_}
 use native.Mathlib.Omega.{arith}
 use lib.ListN.{length, getD}
 use Rattle.kinds.specs.declared.Kind.{Kind}
-use Rattle.kinds.specs.declared.Kind.the-variants.{Composite, And, Or, Not, Nand, Nor, Xor, Switch, Input, Output, Splitter, Joiner, Clock, Const}
+use Rattle.kinds.specs.declared.Kind.the-variants.{Composite, And, Or, Not, Nand, Nor, Xor, Switch, Input, Output, Splitter, Joiner, Clock, Const, Majority}
 use Rattle.kinds.specs.Kinds.{numberOf, row, only}
 use Rattle.primitive.specs.Evaluate.{one, split, rule, outputsAfter}
 use Rattle.primitive.proofs.UpdateLaws.{leaves, outputsAfter-rule, outputsAfter-left}
@@ -99,6 +99,15 @@ clock-high-requires c κs =
 put-level-requires-6 : tie.Need-put-level-requires-6
 put-level-requires-6 c κs = one-output (c .before .before .before .before .before .before) Clock refl (c .before .before .enum-told13 .given .1)
 
+most-high-requires : tie.Need-most-high-requires
+most-high-requires c κs =
+    let s = c .before .before .before .before .before in
+    let r = in-row s Majority (c .before .enum-told15 .given .1) in
+    omega (arith, r .inputs .most, s .pre .1 .all-inputs)
+
+put-level-requires-7 : tie.Need-put-level-requires-7
+put-level-requires-7 c κs = one-output (c .before .before .before .before .before .before) Majority refl (c .before .before .enum-told15 .given .1)
+
 -- Composite: no primitive
 returns : tie.Need-returns
 returns c =
@@ -183,6 +192,12 @@ returns-13 c =
 returns-14 : tie.Need-returns-14
 returns-14 c = left (c .before .before .before .before) Const (c .enum-told14 .given .1) refl
 
+-- Majority
+returns-15 : tie.Need-returns-15
+returns-15 c =
+    after (c .before .before .before .before .before .before .before .before .before) Majority _ (c .before .before .before .before .before .enum-told15 .given .1) refl
+    (c .before .before .put-level7 .ensures ∙ ap (one) (c .before .before .before .most-high .ensures))
+
 pub update-as-spec : {M : Type 1} → statement M
 update-as-spec =
     tie.close
@@ -224,6 +239,9 @@ update-as-spec =
     clock-high-requires
     put-level-requires-6
     (λ c. search needs)
+    (λ c. search needs)
+    most-high-requires
+    put-level-requires-7
     returns
     (λ c. search needs)
     returns-2
@@ -248,4 +266,6 @@ update-as-spec =
     returns-12
     (λ c. search needs)
     returns-13
-    returns-14)
+    returns-14
+    (λ c. search needs)
+    returns-15)

@@ -1,0 +1,4 @@
+pub mod TakenLaws
+pub mod EarlierHolds
+pub mod LaterHolds
+pub mod Votes
