@@ -1,6 +1,6 @@
 -- The kinds of component, their numbers and their table. docs/SPECIFICATION.md, "The drawing file".
 --   numberOf k, seenAs n, kindOf n   the number of a kind, and back
---   forCustom n, unknown n           a number kept for Custom; one that is no kind
+--   forCustom n, unknown n, noKind   a number kept for Custom; one that is no kind; one that stays none
 --   row k c p                        the table of kinds
 --   obeys f                          a component obeys it
 --   inputWidth f, outputWidth f      the bits of each port

@@ -36,7 +36,7 @@ use Rattle.loaded.proofs.Drawn.{IsDrawn, drawn-primitive, drawn-every, 
 use Rattle.loaded.proofs.Drawn.{drawn-inputPlace-inj}
 
 module _ (at : ℕ → Record) (n : ℕ) (p : Passed at n) (U : Tables) (d : IsDrawn at n U) where
-  -- Components are of kinds 1 to 13 and obey the table of kinds.
+  -- Components are primitives and obey the table of kinds.
   pub drawn-kindsObeyed : kindsObeyed U ≡ true
   unfolding kindsObeyed
   drawn-kindsObeyed =

@@ -62,7 +62,7 @@ countsWithin-complete m z =
       le-leb (m .standing) 256 (z .standing),
     )
 
--- "components are of kinds 1 to 13, obey the table of kinds"
+-- "components are of kinds 1 to 13 or 15, obey the table of kinds"
 module _ (T : Tables) (e : kindsObeyed T ≡ true) (i : ℕ) (h : i < T .counts .components) where
   pub kindsObeyed-at : (primitive (fieldsAt T i) && obeys (fieldsAt T i)) ≡ true
   unfolding kindsObeyed

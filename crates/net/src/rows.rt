@@ -1,5 +1,5 @@
-// The components of a net, in one pass: a function for each clause that asks something of one component. "components are of kinds 1 to 13,
-// obey the table of kinds, have distinct ids, ports follow each other without gaps, values fit, each Const's output is its value"
+// The components of a net, in one pass: a function for each clause that asks something of one component. "components are of kinds 1 to 13 or
+// 15, obey the table of kinds, have distinct ids, ports follow each other without gaps, values fit, each Const's output is its value"
 ghost use mathlib.Core.Path.{_≡_};
 ghost use mathlib.Core.Bool.{true, _&&_};
 ghost use mathlib.Core.List.{[]};

@@ -176,8 +176,8 @@ fn damage_fields(random: &mut Random, records: &mut [Record]) {
         _ => random.pick(&[0, 1, 33, 64, 1 << 32, u64::MAX]),
     };
     match random.below(6) {
-        0 => record.a = random.pick(&[0, 1, 2, record.a + 1, 64, 65, 65_535]),
-        1 => record.b = random.pick(&[0, 1, 2, record.b + 1, 64, 65, 65_535]),
+        0 => record.a = random.pick(&[0, 1, 2, record.a.saturating_add(1), 64, 65, 65_535]),
+        1 => record.b = random.pick(&[0, 1, 2, record.b.saturating_add(1), 64, 65, 65_535]),
         2 => record.c = random.pick(&[0, 1, 32, 33, 64, 65_535]),
         3 if votes && random.once_in(3) => record.component_kind = MAJORITY,
         3 => record.component_kind = random.below(14) as u8,
