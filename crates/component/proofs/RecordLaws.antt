@@ -9,6 +9,7 @@ use native.Mathlib.Omega.{arith}
 use borrow.Author.Tests.{eqb-true, eqb-false, ne-eqb, lt-ltb, le-ltb, not-true, not-false}
 use lib.Dec.{eqb}
 use lib.ListN.{length, getD, take, drop}
+use lib.Seq.{getD-take, getD-drop}
 use types.Run.{OneOf}
 use denote.Enum.Declared.{tagOf}
 use Rattle.lists.proofs.TestsLaws.{or-first}
@@ -241,11 +242,18 @@ module _ (s : List ℕ) (p : ℕ) where
             let z : recordAt s p ≡ noRecord = sym known-in ∙ rw w in
             absurd (eqb-false (formOf (recordAt s p)) 0 (k p h) (ap formOf z))
 
+    pub known-is : Readable s → recordAt s p ≡ r
+    known-is k = sym known-in ∙ ap (λ (b : Bool). cond b r noRecord) (known-well k)
+
     pub known-taken : (x : Says) → Readable s → apart (r .owner) x ≡ r → said (Taken (r .owner) x) ≡ recordAt s p
-    known-taken x k a = a ∙ sym (ap (λ (b : Bool). cond b r noRecord) (known-well k)) ∙ known-in
+    known-taken x k a = a ∙ sym (known-is k)
 
   pub recordAt-past : length s / 24 ≤ p → (said (Refused 3) ≡ recordAt s p) × (number (Refused 3) ≡ given 3 (eqb (formOf (recordAt s p)) 0))
   recordAt-past h = (rw (le-ltb p (length s / 24) h), rw (le-ltb p (length s / 24) h))
+
+-- Byte k of the 24 bytes of a record.
+pub part-at : (s : List ℕ) (p k : ℕ) → k < 24 → getD (take 24 (drop (24 * p) s)) k 0 ≡ getD s (24 * p + k) 0
+part-at s p k h = getD-take 24 (drop (24 * p) s) k 0 h ∙ getD-drop (24 * p) s k 0
 
 -- The nine numbers, each read at its offset.
 pub numbers-read : (s : List ℕ) (o a b c d i p : ℕ) → o ≡ le16 s 2 → a ≡ le16 s 4 → b ≡ le16 s 6 → c ≡ le16 s 8 → d ≡ le16 s 10

@@ -3,14 +3,13 @@
 --   recordTo last r   a record so
 -- Assumes nothing.
 use mathlib.Core.Path.{_≡_, refl, sym, ap, _∙_, subst}
-use mathlib.Core.Bool.{Bool, true, false, cond, not, _&&_, true≢false}
+use mathlib.Core.Bool.{Bool, true, false, cond, not, _&&_}
 use mathlib.Core.List.{List, map}
 use Prim.Native.Nat.{ℕ, _+_, _*_, _-_, _/_, _%_, _≤_, _<_}
 use native.Mathlib.Omega.{arith}
 use native.Mathlib.Decide.{decLt}
 use borrow.Author.Tests.{lt-ltb, le-ltb, eqb-true, eq-eqb, ne-eqb}
 use lib.ListN.{length, getD, take, drop, length-map}
-use lib.Seq.{getD-take, getD-drop}
 use lib.Dec.{eqb, leb, ltb}
 use Rattle.lists.specs.Lists.{from}
 use Rattle.lists.proofs.MembersLaws.{from-length}
@@ -19,6 +18,7 @@ use Rattle.lists.proofs.OverlayLaws.{map-at, map-indexes}
 use Rattle.component.specs.declared.Record.{Record}
 use Rattle.component.specs.Record.{le16, le32, le64, numbersIn, wellFormed, noRecord, recordCount, sized, recordAt}
 use Rattle.component.specs.Reading.{recordIn, Readable}
+use Rattle.component.proofs.RecordLaws.{part-at, known-is}
 use Rattle.earlier.specs.Earlier.{kindTo, byteTo, fileTo}
 
 -- A record, as the reader takes it.
@@ -47,9 +47,6 @@ wellFormed-to last r = by-form (eqb (r .form) 1) refl
 -- The 24 bytes of a record.
 abbrev part : List ℕ → ℕ → List ℕ
 part s p = take 24 (drop (24 * p) s)
-
-part-at : (s : List ℕ) (p k : ℕ) → k < 24 → getD (part s p) k 0 ≡ getD s (24 * p + k) 0
-part-at s p k h = getD-take 24 (drop (24 * p) s) k 0 h ∙ getD-drop (24 * p) s k 0
 
 module _ (last : ℕ) (file : List ℕ) where
   pub fileTo-length : length (fileTo last file) ≡ length file
@@ -148,11 +145,6 @@ module _ (last : ℕ) (file : List ℕ) where
   pub records-to : recordAt (fileTo last file) ≡ (λ p. recordTo last (recordAt file p))
   records-to i p = recordAt-to p i
 
--- A record that check 3 passes is read from its bytes.
-read-formed : (b : Bool) (r : Record) → eqb (cond b r noRecord .form) 0 ≡ false → cond b r noRecord ≡ r
-read-formed true r e = refl
-read-formed false r e = absurd (true≢false e)
-
 -- A file whose components are of no later kind is taken for what it is.
 module _ (last : ℕ) (file : List ℕ) (whole : sized file ≡ true) (readable : Readable file)
     (within : (p : ℕ) → p < recordCount file → recordAt file p .form ≡ 1 → ltb last (recordAt file p .kind) ≡ false) where
@@ -164,9 +156,8 @@ module _ (last : ℕ) (file : List ℕ) (whole : sized file ≡ true) (readable 
 
   bytes-of : (p : ℕ) → p < recordCount file → recordAt file p ≡ numbersIn (part file p)
   bytes-of p l =
-      let r = numbersIn (part file p) in
-      let e : recordAt file p ≡ cond (wellFormed r) r noRecord = rw (lt-ltb p (recordCount file) l) in
-      e ∙ read-formed (wellFormed r) r (ap (λ (x : Record). eqb (x .form) 0) (sym e) ∙ readable p l)
+      let n : 24 ≡ 24 * p + 24 - 24 * p = omega arith in
+      known-is file p (numbersIn (part file p)) l (ap (λ (k : ℕ). numbersIn (take k (drop (24 * p) file))) n) readable
 
   byte-same : (i : ℕ) → i < length file → byteTo last file i ≡ getD file i 0
   byte-same i h = by-place (eqb (i % 24) 1 && eqb (getD file (i - 1) 0) 1) refl

@@ -12,7 +12,7 @@ use lib.ListN.{length, List·getD-eq-default}
 use Rattle.lists.specs.Lists.{from, every}
 use Rattle.lists.proofs.ListsLaws.{every-from}
 use Rattle.lists.proofs.TestsLaws.{and-left, and-right}
-use Rattle.kinds.specs.Kinds.{numbered, numberOf, kindIn, kindOf, keptIn, forCustom, unknown, seenAs, row, rowOf}
+use Rattle.kinds.specs.Kinds.{numbered, numberOf, kindIn, kindOf, keptIn, forCustom, unknown, noKind, seenAs, row, rowOf}
 use Rattle.kinds.specs.declared.table.Fields.{Fields}
 use Rattle.kinds.specs.declared.table.Row.{Row}
 use Rattle.kinds.specs.declared.Kind.{Kind}
@@ -20,7 +20,7 @@ use Rattle.kinds.specs.declared.Kind.the-variants.{Composite, And, Or, N
 use Rattle.kinds.specs.declared.Seen.{Seen}
 use Rattle.kinds.specs.declared.Seen.the-variants.{Known, Kept, Unknown}
 
--- The append rule: these fifteen kinds have these numbers, and 14 is kept, whatever kinds there are besides.
+-- The append rule: these fifteen kinds have these numbers, 14 is kept and 255 is none, whatever kinds there are besides.
 pub numberOf-fixed : map numberOf
     (Composite ∷ And ∷ Or ∷ Not ∷ Nand ∷ Nor ∷ Xor ∷ Switch ∷ Input ∷ Output ∷ Splitter ∷ Joiner ∷ Clock ∷ Const ∷ Majority ∷ [])
     ≡ from 0 14 ++ (15 ∷ [])
@@ -28,6 +28,9 @@ numberOf-fixed = refl
 
 pub forCustom-fixed : forCustom 14 ≡ true
 forCustom-fixed = refl
+
+pub noKind-fixed : unknown noKind ≡ true
+noKind-fixed = refl
 
 -- A kind's number is read as that kind.
 pub seenAs-numberOf : (k : Kind) → seenAs (numberOf k) ≡ Known k

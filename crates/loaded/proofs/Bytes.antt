@@ -1,17 +1,17 @@
 -- A file of bytes: an id in it has 32 bits. docs/SPECIFICATION.md, "The drawing file".
 -- Assumes nothing.
-use mathlib.Core.Path.{sym, _∙_, subst}
+use mathlib.Core.Path.{sym, subst}
 use mathlib.Core.Bool.{Bool, true, false, cond}
 use mathlib.Core.List.{List}
 use Prim.Native.Nat.{ℕ, _+_, _*_, _^_, _<_}
 use native.Mathlib.Omega.{arith}
 use lib.ListN.{getD, take, drop}
-use lib.Seq.{getD-take, getD-drop}
 use lib.Dec.{ltb}
 use Rattle.component.specs.declared.Record.{Record}
 use Rattle.component.specs.Record.{IsBytes, le32, numbersIn, wellFormed, noRecord, recordCount, recordAt}
 use Rattle.component.specs.Reading.{recordIn}
 use Rattle.component.specs.Reading.{idOf}
+use Rattle.component.proofs.RecordLaws.{part-at}
 
 module _ (file : List ℕ) (bytes : IsBytes file) where
   -- The 24 bytes of a record.
@@ -21,8 +21,7 @@ module _ (file : List ℕ) (bytes : IsBytes file) where
   -- A byte of a record.
   part-byte : (p i : ℕ) → i < 24 → getD (partAt p) i 0 < 256
   part-byte p i h =
-      subst (λ (x : ℕ). x < 256) (sym (getD-take 24 (drop (24 * p) file) i 0 h ∙ getD-drop (24 * p) file i 0))
-      (bytes (24 * p + i))
+      subst (λ (x : ℕ). x < 256) (sym (part-at file p i h)) (bytes (24 * p + i))
 
   part-id : (p : ℕ) → le32 (partAt p) 12 < 2 ^ 32
   part-id p =
