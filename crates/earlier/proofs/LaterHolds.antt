@@ -27,16 +27,16 @@ use Rattle.earlier.specs.Earlier.{kindTo, fileTo, LaterFiles}
 use Rattle.earlier.proofs.TakenLaws.{recordTo, fileTo-count, fileTo-sized, records-to, fileTo-same}
 
 -- What a test finds of a component's kind, as the reader takes it, where it finds the same of a later kind and of no kind.
-kind-taken : (last : ℕ) (g : ℕ → Bool) (r : Record) → (last < r .kind → g noKind ≡ g (r .kind))
+kind-taken : (last : ℕ) (g : ℕ → Bool) (r : Record) → (eqb (r .form) 1 ≡ true → last < r .kind → g noKind ≡ g (fieldsOf r .kind))
     → g (fieldsOf (recordTo last r) .kind) ≡ g (fieldsOf r .kind)
 kind-taken last g r same = by-form (eqb (r .form) 1) refl
   where
-    by-kind : (b : Bool) → ltb last (r .kind) ≡ b → g (cond b noKind (r .kind)) ≡ g (r .kind)
-    by-kind true q = same (ltb-true last (r .kind) q)
-    by-kind false q = refl
+    by-kind : (b : Bool) → ltb last (r .kind) ≡ b → (last < r .kind → g noKind ≡ g (r .kind)) → g (cond b noKind (r .kind)) ≡ g (r .kind)
+    by-kind true q later = later (ltb-true last (r .kind) q)
+    by-kind false q later = refl
 
     by-form : (b : Bool) → eqb (r .form) 1 ≡ b → g (fieldsOf (recordTo last r) .kind) ≡ g (fieldsOf r .kind)
-    by-form true e = rw e (by-kind (ltb last (r .kind)) refl)
+    by-form true e = rw e (by-kind (ltb last (r .kind)) refl (rw e at (same e)))
     by-form false e = rw e
 
 module _ (last : ℕ) (at : ℕ → Record) where
@@ -45,7 +45,7 @@ module _ (last : ℕ) (at : ℕ → Record) where
   taken q = recordTo last (at q)
 
   composite-taken : (q : ℕ) → composite (taken q) ≡ composite (at q)
-  composite-taken q = kind-taken last (λ k. eqb k 0) (at q) (λ h. sym (ne-eqb (at q .kind) 0 (λ e. omega arith)))
+  composite-taken q = kind-taken last (λ k. eqb k 0) (at q) (λ f h. rw f (sym (ne-eqb (at q .kind) 0 (λ e. omega arith))))
 
   holds-taken : (f o q : ℕ) → holds taken f o q ≡ holds at f o q
   holds-taken zero o q = refl
@@ -69,19 +69,14 @@ module _ (last : ℕ) (at : ℕ → Record) where
   taken6 : (p : ℕ) → fails6 taken p ≡ fails6 at p
   taken6 p = rw (deeper-taken deepest p)
 
-  -- A kind that is none is not Custom's; and where there is a kind, the reader finds none exactly if it is a later one.
-  custom-taken : (r : Record) → (eqb (r .form) 1 && forCustom (fieldsOf r .kind)) ≡ false
-      → (eqb (r .form) 1 && forCustom (fieldsOf (recordTo last r) .kind)) ≡ false
-  custom-taken r e = by-form (eqb (r .form) 1) refl
-    where
-      by-kind : (b : Bool) → forCustom (r .kind) ≡ false → forCustom (cond b noKind (r .kind)) ≡ false
-      by-kind true n = refl
-      by-kind false n = n
+  -- No kind is not Custom's.
+  taken7 : (p : ℕ) → fails7 at p ≡ false → fails7 taken p ≡ false
+  taken7 p e =
+      ap (λ (b : Bool). isComponent at p && b)
+      (kind-taken last forCustom (at p) (λ f h. sym (and-right-false (isComponent at p) (forCustom (fieldsOf (at p) .kind)) e f)))
+      ∙ e
 
-      by-form : (b : Bool) → eqb (r .form) 1 ≡ b → (b && forCustom (fieldsOf (recordTo last r) .kind)) ≡ false
-      by-form true f = rw f (by-kind (ltb last (r .kind)) (rw f at e))
-      by-form false f = refl
-
+  -- Where there is a kind, the reader finds none exactly if it is a later one.
   unknown-taken : (r : Record) → (eqb (r .form) 1 && unknown (fieldsOf r .kind)) ≡ false
       → (eqb (r .form) 1 && unknown (fieldsOf (recordTo last r) .kind)) ≡ (eqb (r .form) 1 && ltb last (r .kind))
   unknown-taken r e = by-form (eqb (r .form) 1) refl
@@ -121,7 +116,7 @@ module _ (last : ℕ) (file : List ℕ) (accepted : verdict file ≡ Accepted) w
         passing 4 (fails4 (taken last at)) (λ q z. taken4 last at q ∙ z),
         passing 5 (fails5 (taken last at)) (λ q z. taken5 last at q ∙ z),
         passing 6 (fails6 (taken last at)) (λ q z. taken6 last at q ∙ z),
-        passing 7 (fails7 (taken last at)) (λ q z. custom-taken last at (at q) z),
+        passing 7 (fails7 (taken last at)) (taken7 last at),
         found8 p e,
       )
 
