@@ -1,23 +1,26 @@
 /*
  * Our side of tests/instructions: instructions FILE makes each call below on a drawing, between two marks for tests/plugin.c, TIMES
- * times over. tests/instructions.rs is the Rust's side: the same calls in the same order. Prints what it loaded, and how many rounds
- * it took to settle: both sides must print the same. Leaves with 1 where a call is refused or does not do what its name says.
+ * times over; instructions FILE TIME makes only the round with all listed, at that time, for a drawing with Clocks, whose lists are
+ * never empty. oracle/src/count.rs is the Rust's side: the same calls in the same order. Prints what it loaded, and how many rounds it
+ * took to settle (0 with a TIME): both sides must print the same. Leaves with 1 where a call is refused or does not do what its name
+ * says.
  */
 #include "berxundar.h"
 #include "file.h"
 
 #include <stdio.h>
+#include <stdlib.h>
 #include <string.h>
 
 enum { START = 1, STOP = 2, MARK = 0x6d61726b };
 
 /* The first is to warm up; the others must be counted alike. */
 #define TIMES 3
-#define TIME 5
 #define ROUNDS_MAX 10000
 
 static uint8_t bytes[FILE_ROOM];
 static size_t length;
+static uint64_t at = 5;
 
 /* What a call works on, and the states that it is made on: after a load; settled, with an empty current list; settled, with all listed. */
 static berxundar_net net, loaded, quiet, idle;
@@ -25,7 +28,7 @@ static berxundar_net net, loaded, quiet, idle;
 static uint32_t nothing(void) { return 0; }
 static uint32_t judge(void) { return berxundar_judge(bytes, length); }
 static uint32_t load(void) { return berxundar_net_load(&net, bytes, length); }
-static uint32_t run_round(void) { return berxundar_net_round(&net, TIME); }
+static uint32_t run_round(void) { return berxundar_net_round(&net, at); }
 static uint32_t check(void) { return berxundar_net_check(&net); }
 
 static const struct {
@@ -56,7 +59,7 @@ static int settle(void)
     int rounds = 0;
     net = loaded;
     do {
-        if (berxundar_net_round(&net, TIME) != 0 || ROUNDS_MAX < ++rounds)
+        if (berxundar_net_round(&net, at) != 0 || ROUNDS_MAX < ++rounds)
             return -1;
     } while (net.counts[BERXUNDAR_COUNT_CURRENT] + net.counts[BERXUNDAR_COUNT_FOLLOWING] + net.counts[BERXUNDAR_COUNT_STANDING]);
     quiet = net;
@@ -85,25 +88,37 @@ static int measure(size_t which)
     return 1;
 }
 
+/* Measures all calls, or with a time the round that a load leaves. */
+static int measure_all(int with_time)
+{
+    size_t i;
+    for (i = 0; i < sizeof calls / sizeof calls[0]; i++)
+        if (!with_time || calls[i].call == nothing || (calls[i].call == run_round && calls[i].from == &loaded))
+            if (!measure(i))
+                return 0;
+    return 1;
+}
+
 int main(int argc, char **argv)
 {
-    long read = argc == 2 ? file_read(argv[1], bytes) : -1;
-    int rounds;
-    size_t i;
+    int with_time = argc == 3;
+    long read = argc == 2 || with_time ? file_read(argv[1], bytes) : -1;
+    int rounds = 0;
     if (read < 0) {
-        fprintf(stderr, "usage: instructions FILE\n");
+        fprintf(stderr, "usage: instructions FILE [TIME]\n");
         return 1;
     }
     length = (size_t)read;
-    if (berxundar_net_load(&loaded, bytes, length) != 0 || (rounds = settle()) < 0) {
+    if (with_time)
+        at = strtoull(argv[2], NULL, 10);
+    if (berxundar_net_load(&loaded, bytes, length) != 0 || (!with_time && (rounds = settle()) < 0)) {
         fprintf(stderr, "instructions: %s is refused, or does not settle\n", argv[1]);
         return 1;
     }
-    for (i = 0; i < sizeof calls / sizeof calls[0]; i++)
-        if (!measure(i))
-            return 1;
+    if (!measure_all(with_time))
+        return 1;
     net = idle;
-    if (run_round() != 0 || !same_values(&net, &quiet) || net.counts[BERXUNDAR_COUNT_CURRENT]) {
+    if (!with_time && (run_round() != 0 || !same_values(&net, &quiet) || net.counts[BERXUNDAR_COUNT_CURRENT])) {
         fprintf(stderr, "instructions: an idle round changes something\n");
         return 1;
     }

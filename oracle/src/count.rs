@@ -4,8 +4,9 @@
 //!
 //! A load is what logix does for one: the records, the nested component, the flat one, the
 //! simulator with its lists filled. A round is one pass of logix, without check 16. logix has
-//! no judge: what is counted in its place is the plain second coding of the checks. Prints
-//! what it loaded, and how many rounds it took to settle.
+//! no judge: what is counted in its place is the plain second coding of the checks. With a
+//! time after the file only the round with all listed is made, at that time. Prints what it
+//! loaded, and how many rounds it took to settle, or 0 with a time.
 
 // Of the oracle's modules little is needed here.
 #![allow(dead_code)]
@@ -91,17 +92,31 @@ fn idle(file: &[u8]) -> Simulator {
     simulator
 }
 
-fn main() {
-    let path = std::env::args().nth(1).expect("usage: instructions FILE");
-    let file = &std::fs::read(path).expect("the drawing can be read")[..];
+fn measure_all(file: &[u8]) {
     let round = |simulator: &mut Simulator| simulator.pass(TIME);
-    measure(0, || (), |_| ());
     measure(1, || (), |_| assert!(plain::judge::judge(black_box(file)).is_ok()));
     measure(2, || (), |_| load(black_box(file)));
     measure(3, || load(file), round);
     measure(4, || idle(file), round);
     measure(5, || settled(file).0, round);
-    let (mut simulator, rounds) = settled(file);
+}
+
+fn main() {
+    let mut words = std::env::args().skip(1);
+    let path = words.next().expect("usage: instructions FILE [TIME]");
+    let file = &std::fs::read(path).expect("the drawing can be read")[..];
+    measure(0, || (), |_| ());
+    let (mut simulator, rounds) = match words.next() {
+        None => {
+            measure_all(file);
+            settled(file)
+        }
+        Some(time) => {
+            let time = time.parse().expect("a time");
+            measure(3, || load(file), |simulator| simulator.pass(time));
+            (load(file), 0)
+        }
+    };
     let [components, inputs, outputs, wires] = simulator.state(|state| {
         let parts = &state.comp.components;
         let inputs = parts.iter().map(|part| part.inputs.len()).sum();

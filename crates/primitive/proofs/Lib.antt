@@ -1,3 +1,4 @@
+pub mod RemainderLaws
 pub mod RulesLaws
 pub mod FoldLaws
 pub mod UpdateLaws

@@ -1,7 +1,7 @@
--- What `update` is handed, and what its gates ask of their inputs. Only contracts of functions inside our crates cite it; nobody has to believe
--- anything here.
+-- What `update` is handed, what its gates ask of their inputs, and what its Clock's remainder goes by. Only contracts of functions inside our
+-- crates cite it; nobody has to believe anything here.
 -- Assumes nothing.
-use Prim.Native.Nat.{ℕ, _*_, _%_}
+use Prim.Native.Nat.{ℕ, _*_, _%_, _^_}
 use mathlib.Core.Path.{_≡_}
 use mathlib.Core.Bool.{Bool, true, _&&_}
 use mathlib.Core.List.{List}
@@ -33,3 +33,8 @@ oddHigh xs = eqb (highs xs % 2) 1
 
 abbrev pub mostHigh : List ℕ → Bool
 mostHigh xs = ltb (length xs) (2 * highs xs)
+
+-- The divisor d, doubled some times.
+pub record Doubled (d m : ℕ) : Type 0 where
+  pub times : ℕ
+  pub multiple : m ≡ d * 2 ^ times

@@ -1,4 +1,5 @@
 // Evaluating a component. Rules: docs/SPECIFICATION.md, "The drawing file" and "Rounds". Source: primitive.rs.
+mod remainder;
 mod rules;
 mod single;
 

@@ -9,6 +9,7 @@ ghost use Rattle.kinds.specs.Kinds.{numberOf};
 ghost use Rattle.primitive.specs.Evaluate.{highs, join, split, one, clockHigh, outputsAfter};
 ghost use Rattle.primitive.specs.Own.{allHigh, anyHigh, oddHigh, mostHigh};
 ghost use Rattle.primitive.specs.Own.{Own};
+use crate::remainder::remainder;
 use kinds::Fields;
 use kinds::Kind;
 use kinds::Seen;
@@ -115,7 +116,7 @@ fn clock_high(period: u64, time: u64) -> bool
     requires { ⌜ (0 < period) × (period ≤ 2 ^ 62) ⌝ }
     ensures { λ r. ⌜ r ≡ clockHigh period time ⌝ }
 {
-    period < time % (2 * period)
+    period < remainder(time, 2 * period)
 }
 
 // Writes the one output.
