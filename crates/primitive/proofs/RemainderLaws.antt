@@ -18,6 +18,7 @@ reached n d h l =
 pub halved-mod : (n m : ℕ) → n % (2 * m) % m ≡ n % m
 halved-mod n m = mod-mod-of-dvd m n (dvd-mul-left m 2)
 
+-- The divisor itself, doubled no time.
 pub once : (d : ℕ) → Doubled d d
 once d = record { times = 0; multiple = sym (mul-one d) }
 
