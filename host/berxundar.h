@@ -52,10 +52,11 @@
  *   - A call takes at most 48 KiB (49,152 bytes) of stack: a look up to so many, a load or a judgement up to 32,000 bytes, each
  *     other call less than 10,000.
  *
- * WHEN TO LIGHT: once a round has run since the load, and the three lists name nothing but Clocks, the whole drawing is
- * satisfied: each output has the value of every input that it leads to, and each component's outputs are its function of its
- * inputs, Clocks at the last round's time. That is proved. `berxundar_calm` and `berxundar_run_until_calm` look at the current
- * list alone, where an edit that waits in the standing list does not show: light what `berxundar_net_settled` says.
+ * WHEN TO LIGHT: once a round has run since the load and `berxundar_calm` says 1. Calm means that the three lists name nothing but
+ * Clocks: no edit waits, and nothing else is left to evaluate. It is proved, for every drawing that a load accepts and whatever
+ * calls came after it, that the whole drawing is then satisfied: each output has the value of every input that it leads to, and
+ * each component's outputs are its function of its inputs, Clocks at the last round's time. `berxundar_run_until_calm` runs rounds
+ * until calm, up to a limit. Before the first round calm says nothing of the drawing.
  */
 #ifndef BERXUNDAR_H
 #define BERXUNDAR_H
@@ -213,15 +214,15 @@ uint32_t berxundar_edit(
     const uint16_t *following, size_t following_length, uint16_t *standing, size_t standing_length, uint64_t *counts,
     size_t counts_length, size_t index, uint64_t number);
 
-/* Rounds at a time, at least one unless `limit` is 0 and at most `limit`, until one leaves a current list of nothing but Clocks:
- * 2, 16. found[0] is the rounds run, found[1] the evaluations made; `found` has 2 entries or more. */
+/* Rounds at a time, at least one unless `limit` is 0 and at most `limit`, until one leaves calm: 2, 16. found[0] is the rounds run,
+ * found[1] the evaluations made; `found` has 2 entries or more. Whether the last round left calm is `berxundar_calm`'s to say. */
 uint32_t berxundar_run_until_calm(
     const uint64_t *components, size_t components_length, uint64_t *inputs, size_t inputs_length, uint64_t *outputs,
     size_t outputs_length, const uint16_t *wires, size_t wires_length, uint16_t *current, size_t current_length,
     uint16_t *following, size_t following_length, uint16_t *standing, size_t standing_length, uint64_t *counts,
     size_t counts_length, uint64_t time, uint16_t limit, uint64_t *found, size_t found_length);
 
-/* found[0] is 1 where the current list names nothing but Clocks, else 0: 2, 16. `found` has 1 entry or more. */
+/* found[0] is 1 where the three lists name nothing but Clocks, else 0: 2, 16. `found` has 1 entry or more. See WHEN TO LIGHT. */
 uint32_t berxundar_calm(
     const uint64_t *components, size_t components_length, const uint64_t *inputs, size_t inputs_length, const uint64_t *outputs,
     size_t outputs_length, const uint16_t *wires, size_t wires_length, const uint16_t *current, size_t current_length,
@@ -337,7 +338,7 @@ static inline uint32_t berxundar_net_run_until_calm(berxundar_net *net, uint64_t
     return answer;
 }
 
-/* *calm is 1 or 0. Not what a screen lights by: see `berxundar_net_settled`. */
+/* *calm is 1 or 0. Once a round has run since the load, 1 means that the whole drawing is satisfied: its Outputs may be lit. */
 static inline uint32_t berxundar_net_calm(const berxundar_net *net, uint64_t *calm)
 {
     return berxundar_calm(BERXUNDAR_LENT(net), net->counts, BERXUNDAR_COUNTS, calm, 1);
@@ -398,30 +399,6 @@ static inline uint32_t berxundar_net_look(const berxundar_net *net, const uint8_
 static inline uint32_t berxundar_net_check(const berxundar_net *net)
 {
     return berxundar_check(BERXUNDAR_LENT(net), net->counts, BERXUNDAR_COUNTS);
-}
-
-/*
- * *settled is 1 where the three lists name nothing but Clocks, else 0. Once a round has run since the load, 1 means that the
- * whole drawing is satisfied, and its Outputs may be lit. Before the first round it means nothing.
- */
-static inline uint32_t berxundar_net_settled(const berxundar_net *net, int *settled)
-{
-    uint32_t answer = berxundar_net_check(net);
-    const uint16_t *lists[3];
-    int list;
-    if (answer != 0)
-        return answer;
-    lists[0] = net->current;
-    lists[1] = net->following;
-    lists[2] = net->standing;
-    *settled = 1;
-    for (list = 0; list < 3; list++) {
-        uint64_t at;
-        for (at = 0; at < net->counts[BERXUNDAR_COUNT_CURRENT + list]; at++)
-            if (net->components[BERXUNDAR_WORDS_OF_COMPONENT * lists[list][at] + BERXUNDAR_WORD_KIND] != BERXUNDAR_CLOCK)
-                *settled = 0;
-    }
-    return 0;
 }
 
 /* One component outside any net: its fields, as a record has them, and the number and width in bits of each of its ports. */

@@ -14,12 +14,14 @@
 #include "number.h"
 #include "record.h"
 #include "refusal.h"
-#include "settle.h"
 
 #include <stdio.h>
 
 /* No component is so deep that its path has more ids: of a longer one that many are kept, and they lead nowhere either. */
 #define PATH_ROOM 256
+
+/* The most rounds that are run. */
+#define ROUNDS 1000
 
 static uint8_t bytes[FILE_ROOM];
 static size_t length;
@@ -98,7 +100,7 @@ static void show_port(const char *side, uint64_t port, uint64_t place)
         (unsigned long long)box.widths[place], plural(box.widths[place]));
 }
 
-static void show_ports(int settled)
+static void show_ports(uint64_t settled)
 {
     uint64_t port;
     printf("%s\n", settled ? "settled" : "not settled");
@@ -112,8 +114,10 @@ static void show_ports(int settled)
 /* Runs the loaded drawing and looks at the component that a path leads to: the exit status that it asks for. */
 static int look(const char *name, const uint32_t *path, size_t path_length)
 {
-    int settled = 0;
-    uint32_t answer = settle(&net, 0, &settled);
+    uint64_t settled = 0;
+    uint32_t answer = berxundar_net_run_until_calm(&net, 0, ROUNDS, NULL, NULL);
+    if (answer == 0)
+        answer = berxundar_net_calm(&net, &settled);
     if (answer == 0)
         answer = berxundar_net_look(&net, bytes, length, path, path_length, &box);
     if (answer != 0) {
@@ -122,7 +126,7 @@ static int look(const char *name, const uint32_t *path, size_t path_length)
     }
     show_ports(settled);
     if (!settled)
-        fprintf(stderr, "%s: not settled after %d rounds at time 0, so these values may go on changing\n", name, SETTLE_ROUNDS);
+        fprintf(stderr, "%s: not settled after %d rounds at time 0, so these values may go on changing\n", name, ROUNDS);
     return settled ? 0 : 1;
 }
 

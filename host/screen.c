@@ -1,20 +1,21 @@
 /*
  * The example that a screen starts from: screen FILE [--time T] [ID=NUMBER ..]
  *
- * Loads a drawing, sets the Switches and Inputs that are named by id, runs rounds at the time (0 where none is given) until the
- * net is settled, and prints a line for each Output: its id, its value, and `lit` or `dark`. It lights only what a settled net
- * says: where the three lists name nothing but Clocks, every wire has one value at both ends and every component's outputs are
- * its function of its inputs. Where that is not reached within SETTLE_ROUNDS rounds nothing is lit. The file `-` is standard
- * input. Exit status: 0 settled; 1 the file or a setting is refused, or the net is not settled; 2 the file cannot be read or a
- * word is none.
+ * Loads a drawing, sets the Switches and Inputs that are named by id, runs rounds at the time (0 where none is given) until
+ * calm, and prints a line for each Output: its id, its value, and `lit` or `dark`. It lights only what a settled net says, one
+ * that is calm after a round: every wire then has one value at both ends and every component's outputs are its function of its
+ * inputs. Where that is not reached within ROUNDS rounds nothing is lit. The file `-` is standard input. Exit status: 0 settled;
+ * 1 the file or a setting is refused, or the net is not settled; 2 the file cannot be read or a word is none.
  */
 #include "berxundar.h"
 #include "file.h"
 #include "number.h"
 #include "refusal.h"
-#include "settle.h"
 
 #include <stdio.h>
+
+/* The most rounds that are run. */
+#define ROUNDS 1000
 
 static uint8_t bytes[FILE_ROOM];
 
@@ -136,7 +137,7 @@ static int set(const char *word)
 /* ---- Running and lighting. ---- */
 
 /* Prints a line for each Output, lit only in a settled net. */
-static void show(int settled)
+static void show(uint64_t settled)
 {
     uint64_t i;
     printf("%s\n", settled ? "settled" : "not settled");
@@ -152,7 +153,7 @@ static void show(int settled)
 }
 
 /* Loads the drawing, sets what is asked for and runs at the time: the exit status where that fails, else 0. */
-static int work(const char *path, uint64_t time, char **settings, int count, int *settled)
+static int work(const char *path, uint64_t time, char **settings, int count, uint64_t *settled)
 {
     long length = file_read(path, bytes);
     uint32_t answer;
@@ -169,7 +170,9 @@ static int work(const char *path, uint64_t time, char **settings, int count, int
         status = set(settings[i]);
     if (status)
         return status;
-    answer = settle(&net, time, settled);
+    answer = berxundar_net_run_until_calm(&net, time, ROUNDS, NULL, NULL);
+    if (answer == 0)
+        answer = berxundar_net_calm(&net, settled);
     if (answer != 0)
         fprintf(stderr, "%s: refused %u: %s\n", path, berxundar_number(answer), berxundar_words(answer));
     return answer == 0 ? 0 : 1;
@@ -178,8 +181,8 @@ static int work(const char *path, uint64_t time, char **settings, int count, int
 int main(int argc, char **argv)
 {
     const char *path;
-    uint64_t time;
-    int settled = 0, settings, status;
+    uint64_t time, settled = 0;
+    int settings, status;
     if (!take_words(argc - 1, argv + 1, &path, &time, &settings))
         return 2;
     status = work(path, time, argv + 1, settings, &settled);
@@ -192,6 +195,6 @@ int main(int argc, char **argv)
     }
     if (!settled)
         fprintf(stderr, "%s: not settled after %d rounds at time %llu, so nothing is lit: does the drawing feed back on itself?\n",
-            path, SETTLE_ROUNDS, (unsigned long long)time);
+            path, ROUNDS, (unsigned long long)time);
     return settled ? 0 : 1;
 }

@@ -3,7 +3,7 @@
  * call answers as for any short table (2), a load and a look as for an empty file (1), and a component without ports is
  * evaluated; a net of zeros is one of no components, the net of a root alone, which is looked at along no path; a sentence
  * belongs to an answer and to its number; half of the votes are not most of them; of two records that meet the first call says
- * 13, and the others what they are. Leaves with 1 at the first other answer.
+ * 13, and the others what they are; while an edit waits a net is not calm. Leaves with 1 at the first other answer.
  */
 #include "berxundar.h"
 
@@ -43,11 +43,10 @@ static int nothing_lent(void)
 
 static int zeros(void)
 {
-    int settled = 0;
     uint64_t calm = 0, rounds = 9;
-    return berxundar_net_check(&net) == 0 && berxundar_net_settled(&net, &settled) == 0 && settled == 1
-        && berxundar_net_calm(&net, &calm) == 0 && calm == 1 && berxundar_net_run_until_calm(&net, 5, 7, &rounds, NULL) == 0
-        && rounds == 1 && berxundar_net_edit(&net, 0, 0) == NUMBER(17);
+    return berxundar_net_check(&net) == 0 && berxundar_net_calm(&net, &calm) == 0 && calm == 1
+        && berxundar_net_run_until_calm(&net, 5, 7, &rounds, NULL) == 0 && rounds == 1
+        && berxundar_net_edit(&net, 0, 0) == NUMBER(17);
 }
 
 /* A root alone in a net of zeros is looked at along no path and not by its id; with an input it is 21, with a Switch in it 20. */
@@ -169,4 +168,29 @@ static int met(void)
     return 1;
 }
 
-int main(void) { return !(zeros() && nothing_lent() && looked_at() && joined() && voted() && sentences() && met()); }
+/*
+ * A Switch leads to a Not. Once it is set the net is not calm until the round has ended that evaluates the Not again: the edit
+ * waits in the standing list, the following list, the current list. A run waits for it too, and then the Not is high again.
+ */
+static int waited(void)
+{
+    uint8_t file[4 * BERXUNDAR_RECORD] = { 0 };
+    uint64_t calm = 9, rounds = 0, evaluations = 0, value = 9;
+    int i;
+    record(file, 1, BERXUNDAR_COMPOSITE, 0, 0, 0, 0, 1);
+    record(file + 24, 1, BERXUNDAR_SWITCH, 0, 0, 1, 0, 2);
+    record(file + 48, 1, BERXUNDAR_NOT, 0, 1, 1, 0, 3);
+    record(file + 72, 2, 0, 0, 0, 0, 1, 0);
+    if (berxundar_net_load(&net, file, sizeof file) != 0 || berxundar_net_run_until_calm(&net, 0, 9, NULL, NULL) != 0
+        || berxundar_net_calm(&net, &calm) != 0 || calm != 1 || berxundar_net_edit(&net, 0, 1) != 0)
+        return 0;
+    for (i = 0; i < 4; i++)
+        if (berxundar_net_calm(&net, &calm) != 0 || calm != 0 || berxundar_net_round(&net, 0) != 0)
+            return 0;
+    if (berxundar_net_calm(&net, &calm) != 0 || calm != 1 || berxundar_net_value(&net, 1, 1, 0, &value, NULL) != 0 || value != 0)
+        return 0;
+    return berxundar_net_edit(&net, 0, 0) == 0 && berxundar_net_run_until_calm(&net, 0, 9, &rounds, &evaluations) == 0
+        && rounds == 4 && evaluations == 3 && berxundar_net_value(&net, 1, 1, 0, &value, NULL) == 0 && value == 1;
+}
+
+int main(void) { return !(zeros() && nothing_lent() && looked_at() && joined() && voted() && sentences() && met() && waited()); }

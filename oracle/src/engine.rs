@@ -144,12 +144,13 @@ impl Engine {
         self.simulator.state(|state| state.local_upd_list.len() as u64)
     }
 
-    /// Added: the current list names only Clocks.
+    /// Added: all three lists name only Clocks.
     pub fn calm(&mut self) -> bool {
         self.simulator.state(|state| {
             let clock =
                 |index: &usize| matches!(state.comp.components[*index].prim_type, Primitive::Clock { .. });
-            state.local_upd_list.iter().all(clock)
+            let lists = [&state.local_upd_list, &state.local_next_upd_list, &state.to_upd];
+            lists.into_iter().flatten().all(clock)
         })
     }
 

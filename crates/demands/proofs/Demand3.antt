@@ -106,7 +106,7 @@ module _ (file : List ℕ) (T₀ : Tables) (a : loadVerdict file T₀ ≡ Accept
   leads-in = accepted-leads-wired file T₀ a T same
 
   module _ (ran : Bool) (t : ℕ) (o : ObeyedAt T ran t) where
-    satisfied : SatisfiedAt T t → Satisfied at n T t
+    pub satisfied : SatisfiedAt T t → Satisfied at n T t
     satisfied s =
         record {
           equal = λ p d l. transport (places p d l) (s .equal (wire (flatPin at n p) (flatPin at n d)) (leads-in p d l));

@@ -1,8 +1,9 @@
 -- What the definitions make of the lamp drawing: its verdict, its wires, its lists round by round, and the timing case.
 -- Each is a computation. Assumes nothing.
 use mathlib.Core.Path.{_≡_, refl}
-use mathlib.Core.List.{[], _∷_}
-use Rattle.lists.specs.Lists.{appendNew, strike, overlay}
+use mathlib.Core.Bool.{true, false}
+use mathlib.Core.List.{[], _∷_, map}
+use Rattle.lists.specs.Lists.{from, appendNew, strike, overlay}
 use Rattle.kinds.specs.Kinds.{obeys}
 use Rattle.primitive.specs.Evaluate.{functionOf, outputsAfter}
 use Rattle.component.specs.declared.Verdict.the-variants.{Accepted}
@@ -47,3 +48,13 @@ pub lamp-timing :
     ≡ [] ∷ [] ∷ (0 ∷ []) ∷ (0 ∷ 2 ∷ []) ∷ (3 ∷ []) ∷ [] ∷ []
 unfolding loadTables loadVerdict drawingTables judgement verdict overlay fullSize deepest obeys outputBelow inputsBelow comesFrom goesTo roundTables netNumber isNet countsWithin kindsObeyed idsDistinct portsFollow valuesFit constsHeld wiresFit inputsOnce names roundOf leave round visit evaluated send outputsAfter functionOf appendNew strike editTables editNumber editedState portSet
 lamp-timing = refl
+
+-- Calm before rounds 3 to 7, and before round 8: false until round 7 has ended.
+pub lamp-calm : map (λ k. calm (lampSet k)) (from 0 6) ≡ false ∷ false ∷ false ∷ false ∷ false ∷ true ∷ []
+unfolding loadTables loadVerdict drawingTables judgement verdict overlay fullSize deepest obeys outputBelow inputsBelow comesFrom goesTo roundTables netNumber isNet countsWithin kindsObeyed idsDistinct portsFollow valuesFit constsHeld wiresFit inputsOnce names roundOf leave round visit evaluated send outputsAfter functionOf appendNew strike editTables editNumber editedState portSet calm
+lamp-calm = refl
+
+-- Run until calm from there: the five rounds, with 0 + 0 + 1 + 2 + 1 evaluations.
+pub lamp-timing-run : run 16 0 (lampSet 0) .rounds ∷ run 16 0 (lampSet 0) .evaluations ∷ [] ≡ 5 ∷ 4 ∷ []
+unfolding loadTables loadVerdict drawingTables judgement verdict overlay fullSize deepest obeys outputBelow inputsBelow comesFrom goesTo roundTables netNumber isNet countsWithin kindsObeyed idsDistinct portsFollow valuesFit constsHeld wiresFit inputsOnce names roundOf leave round visit evaluated send outputsAfter functionOf appendNew strike editTables editNumber editedState portSet run calm
+lamp-timing-run = refl

@@ -1,24 +1,24 @@
--- What a screen does every morning: the lamp drawing, loaded and run until calm at time 0, is satisfied. By `demand3`, whose hypotheses it meets: the
--- drawing is accepted, a round has run, and the lists name nothing. Assumes nothing.
-use mathlib.Core.Path.{_≡_, refl, sym, subst, ap, _∙_}
-use mathlib.Core.Bool.{Bool, true, false, cond, true≢false, _||_}
+-- What a screen does every morning: the lamp drawing, loaded and run until calm at time 0, is satisfied. By `calm-satisfied`, whose hypotheses
+-- it meets: the drawing is accepted, a round has run, and the state is calm. Assumes nothing.
+use mathlib.Core.Path.{_≡_, refl, subst}
+use mathlib.Core.Bool.{Bool, true, false, cond}
 use mathlib.Core.List.{List, [], _∷_}
 use Prim.Native.Nat.{ℕ, zero, suc, _<_}
 use native.Mathlib.Omega.{arith}
 use borrow.Author.Tests.{eq-eqb, ltb-true}
 use lib.ListN.{getD}
 use lib.Dec.{ltb}
-use Rattle.lists.specs.Lists.{has, every, appendNew, strike, overlay}
+use Rattle.lists.specs.Lists.{every, appendNew, strike, overlay}
 use Rattle.lists.proofs.TestsLaws.{and-left, and-right}
 use Rattle.kinds.specs.Kinds.{obeys}
 use Rattle.primitive.specs.Evaluate.{functionOf, outputsAfter}
 use Rattle.component.specs.declared.Verdict.the-variants.{Accepted}
 use Rattle.component.specs.Record.{IsBytes, recordAt, recordCount}
 use Rattle.component.specs.Drawing.{deepest}
-use Rattle.flatten.specs.Descent.{flat, outputBelow, inputsBelow, comesFrom, goesTo}
+use Rattle.flatten.specs.Descent.{outputBelow, inputsBelow, comesFrom, goesTo}
 use Rattle.flatten.specs.Verdict.{verdict}
 use Rattle.meeting.specs.Meeting.{judgement}
-use Rattle.tables.specs.Tables.{Tables, fullSize, currentList, followingList, standingList, named}
+use Rattle.tables.specs.Tables.{Tables, fullSize}
 use Rattle.load.specs.Load.{drawingTables, loadVerdict, loadTables}
 use Rattle.net.specs.Net.{countsWithin, kindsObeyed, idsDistinct, portsFollow, valuesFit, constsHeld, wiresFit, inputsOnce, names, isNet, netNumber}
 use Rattle.rounds.specs.Round.{leave, evaluated, send, visit, round, calm, roundOf}
@@ -29,6 +29,7 @@ use Rattle.demands.specs.Reached.{Reached, untilCalm, called}
 use Rattle.demands.specs.Reached as reached
 use Rattle.demands.specs.Demand.{Satisfied}
 use Rattle.demands.proofs.Demand3.{demand3}
+use Rattle.demands.proofs.Calm.{calm-satisfied}
 
 lamp-load : loadVerdict lamp sevens ≡ Accepted
 unfolding loadVerdict judgement verdict fullSize deepest obeys outputBelow inputsBelow comesFrom goesTo
@@ -44,14 +45,10 @@ lamp-reached b =
     let z = demand3 lamp false 0 lampLoaded l .0 in
     subst (λ (r : Bool). Reached lamp r (cond r 0 0) lampCalm) (eq-eqb (netNumber lampLoaded) 0 z) (called (untilCalm 0 16) l)
 
--- No list names anything.
-lamp-lists : currentList lampCalm ∷ followingList lampCalm ∷ standingList lampCalm ∷ [] ≡ [] ∷ [] ∷ [] ∷ []
+-- It leaves calm.
+lamp-left-calm : calm lampCalm ≡ true
 unfolding loadTables loadVerdict drawingTables judgement verdict overlay fullSize deepest obeys outputBelow inputsBelow comesFrom goesTo roundTables netNumber isNet countsWithin kindsObeyed idsDistinct portsFollow valuesFit constsHeld wiresFit inputsOnce names roundOf leave round visit evaluated send outputsAfter functionOf appendNew strike runTables run calm
-lamp-lists = refl
-
-nothing-named : (T : Tables) → currentList T ∷ followingList T ∷ standingList T ∷ [] ≡ [] ∷ [] ∷ [] ∷ [] → (i : ℕ) → named T i ≡ false
-nothing-named T e i =
-    ap (λ (ls : List (List ℕ)). has i (getD ls 0 []) || has i (getD ls 1 []) || has i (getD ls 2 [])) e
+lamp-left-calm = refl
 
 bytes-below : (xs : List ℕ) → every (λ x. ltb x 256) xs ≡ true → (i : ℕ) → getD xs i 0 < 256
 bytes-below [] e i = omega arith
@@ -59,6 +56,4 @@ bytes-below (x ∷ xs) e zero = ltb-true x 256 (and-left (ltb x 256) (every (λ 
 bytes-below (x ∷ xs) e (suc i) = bytes-below xs (and-right (ltb x 256) (every (λ y. ltb y 256) xs) e) i
 
 pub lamp-satisfied : Satisfied (recordAt lamp) (recordCount lamp) lampCalm 0
-lamp-satisfied =
-    demand3 lamp true 0 lampCalm (lamp-reached (bytes-below lamp refl)) .1 .settled refl
-    (λ x h e m. absurd (true≢false (sym m ∙ nothing-named lampCalm lamp-lists (flat (recordAt lamp) (recordCount lamp) x))))
+lamp-satisfied = calm-satisfied lamp 0 lampCalm (lamp-reached (bytes-below lamp refl)) lamp-left-calm

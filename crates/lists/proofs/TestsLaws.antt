@@ -19,6 +19,13 @@ pub and-right-false : (a b : Bool) → (a && b) ≡ false → a ≡ true → b �
 and-right-false true b e h = e
 and-right-false false b e h = absurd (false≢true h)
 
+-- The second is asked only where the first holds, and then decides.
+pub and-first : (a b c : Bool) → a ≡ false → c ≡ false → c ≡ (a && b)
+and-first a b c e d = rw e d
+
+pub and-second : (a b c : Bool) → a ≡ true → c ≡ b → c ≡ (a && b)
+and-second a b c e d = rw e d
+
 -- Of two tests neither of which holds.
 pub or-left : (a b : Bool) → (a || b) ≡ false → a ≡ false
 or-left true b e = e

@@ -10,15 +10,14 @@ use native.Mathlib.Omega.{arith}
 use borrow.Author.Tests.{ne-eqb, le-leb, lt-leb, leb-false, lt-ltb, le-ltb, ltb-false}
 use lib.ListN.{length, getD}
 use lib.Dec.{eqb, leb, ltb}
-use Rattle.lists.specs.Lists.{every, first, overlay}
+use Rattle.lists.specs.Lists.{first, overlay}
 use Rattle.lists.proofs.TestsLaws.{or-right}
 use Rattle.value.specs.declared.Value.{Value}
 use Rattle.value.specs.Value.{level, ofWidth}
-use Rattle.kinds.specs.declared.Kind.the-variants.{Clock}
 use Rattle.kinds.specs.declared.table.Fields.{Fields}
-use Rattle.kinds.specs.Kinds.{is, inputWidth, outputWidth}
+use Rattle.kinds.specs.Kinds.{inputWidth, outputWidth}
 use Rattle.kinds.specs.Given.{Given, done, declined, refusedBy}
-use Rattle.tables.specs.Tables.{Tables, fieldsAt, idAt, firstInput, firstOutput, indexes, currentList, wireAt, indexOf}
+use Rattle.tables.specs.Tables.{Tables, fieldsAt, idAt, firstInput, firstOutput, indexes, wireAt, indexOf}
 use Rattle.tables.specs.Words.{noCounts, uncounted}
 use Rattle.net.specs.Net.{netNumber, onNet}
 use Rattle.net.specs.Parts.{lent}
@@ -70,9 +69,7 @@ of-net T g z = rw z
 pub calm-refused : (T : Tables) (k : ℕ) → k ≡ netNumber T → (k ≡ 0 → ⊥) → AsksCalm T (NoCalm (refusedBy k))
 calm-refused T = of-refused T (done (level (calm T) ∷ []))
 
-pub calm-is : (T : Tables) (b : Bool) → netNumber T ≡ 0 → b ≡ every (λ i. is Clock (fieldsAt T i)) (currentList T)
-    → AsksCalm T (CalmIs b)
-unfolding calm
+pub calm-is : (T : Tables) (b : Bool) → netNumber T ≡ 0 → b ≡ calm T → AsksCalm T (CalmIs b)
 calm-is T b z e = ap (λ (x : Bool). done (level x ∷ [])) e ∙ of-net T (done (level (calm T) ∷ [])) z
 
 -- The index of an id.

@@ -16,7 +16,7 @@ ghost use Rattle.questions.specs.Asked.{compAt, endOf, meets, met, marke
 use kinds::Id;
 use kinds::Refusal;
 use kinds::refused_by;
-use rounds::only_clocks;
+use rounds::net_calm;
 use tables::Counts;
 use tables::FlatIdx;
 use tables::Wire;
@@ -283,7 +283,7 @@ fn list_joined(
     Listed::Count(list_ends(wires, counts, near, far, i, list))
 }
 
-// Calm or not: whether the current list names only Clocks.
+// Calm or not: whether all three lists name only Clocks.
 pub fn is_calm(
     components: &[u64],
     inputs: &[u64],
@@ -312,7 +312,7 @@ pub fn is_calm(
     if number != 0 {
         return Calm::Refused(refused_by(number));
     }
-    Calm::Is(only_clocks(components, current, counts.current))
+    Calm::Is(net_calm(components, current, following, standing, counts))
 }
 
 // The index of an id.

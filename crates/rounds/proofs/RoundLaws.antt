@@ -1,6 +1,6 @@
 -- A whole round, from what a net gives to the tables that it leaves.
 -- Assumes nothing.
-use mathlib.Core.Path.{_≡_, sym, ap, _∙_, subst}
+use mathlib.Core.Path.{_≡_, refl, sym, ap, _∙_, subst}
 use mathlib.Core.Bool.{true}
 use mathlib.Core.List.{List, [], foldl}
 use Prim.Native.Nat.{ℕ, _≤_, _<_}
@@ -12,14 +12,14 @@ use Rattle.lists.proofs.MembersLaws.{In, in-getD}
 use Rattle.tables.specs.declared.Wire.{Wire}
 use Rattle.tables.specs.declared.Counts.{Counts}
 use Rattle.tables.specs.Tables.{Tables, tablesOf, wireAt, wiresIn, currentList, followingList, standingList}
-use Rattle.tables.specs.Words.{RowInside, RowsInside, WiresInside}
+use Rattle.tables.specs.Words.{RowsInside, WiresInside}
 use Rattle.tables.proofs.NamedLaws.{overlay-list}
 use Rattle.net.specs.Net.{names, netNumber}
 use Rattle.net.proofs.NetLaws.{names-existing, netNumber-net, netNumber-sizes}
 use Rattle.rounds.specs.declared.Sizes.{Sizes}
-use Rattle.rounds.specs.Round.{State, stateOf, leave, turn, evaluated, send, visit, round, roundOf}
+use Rattle.rounds.specs.Round.{State, stateOf, leave, turn, evaluated, send, visit, round, calm, roundOf}
 use Rattle.rounds.specs.Links.{SourcesFew}
-use Rattle.rounds.specs.Steps.{wiring, stateAt, CanRun, ListFits}
+use Rattle.rounds.specs.Steps.{wiring, stateAt, CanRun, ListFits, ListInside}
 use Rattle.rounds.proofs.Sound.{net-sound, net-within, current-in, following-in, standing-in, wire-in, output-room, input-room}
 use Rattle.rounds.proofs.StepsLaws.{visits-current}
 
@@ -66,33 +66,35 @@ module _ (T : Tables) (z : netNumber T ≡ 0) where
         named = netNumber-net T z .current;
       }
 
-  -- The words of the components that the current list names stand in the table.
-  pub net-listed : (j : ℕ) → j < T .counts .current → RowInside (T .components) (getD (T .current) j 0)
-  net-listed j h =
-      let b : j < length (take (T .counts .current) (T .current)) = omega (arith, length-take-le (T .counts .current) (T .current) (current-in T z)) in
-      omega (
-        arith,
-        net-rows,
-        names-existing T (currentList T) (netNumber-net T z .current) (getD (T .current) j 0)
-            (subst (λ (x : ℕ). In x (currentList T)) (getD-take (T .counts .current) (T .current) j 0 h) (in-getD (currentList T) j 0 b)),
-      )
+  -- An entry of a list is a component.
+  entry-named : (n : ℕ) (t : List ℕ) → n ≤ length t → names T (take n t) ≡ true → (j : ℕ) → j < n → getD t j 0 < T .counts .components
+  entry-named n t l e j h =
+      let b : j < length (take n t) = omega (arith, length-take-le n t l) in
+      names-existing T (take n t) e (getD t j 0) (subst (λ (x : ℕ). In x (take n t)) (getD-take n t j 0 h) (in-getD (take n t) j 0 b))
+
+  -- The words of the components that the three lists name stand in the table.
+  pub net-listed : ListInside (T .components) (T .counts .current) (T .current)
+      × ListInside (T .components) (T .counts .following) (T .following)
+      × ListInside (T .components) (T .counts .standing) (T .standing)
+  net-listed = (
+    inside (T .counts .current) (T .current) (current-in T z) (netNumber-net T z .current),
+    inside (T .counts .following) (T .following) (following-in T z) (netNumber-net T z .following),
+    inside (T .counts .standing) (T .standing) (standing-in T z) (netNumber-net T z .standing),
+  )
+    where
+      inside : (n : ℕ) (t : List ℕ) → n ≤ length t → names T (take n t) ≡ true → ListInside (T .components) n t
+      inside n t l e = (l, λ j h. omega (arith, net-rows, entry-named n t l e j h))
 
   -- The entries of the following and of the standing list are components of full size.
   pub net-named : ((j : ℕ) → j < T .counts .following → getD (T .following) j 0 < 256)
       × ((j : ℕ) → j < T .counts .standing → getD (T .standing) j 0 < 256)
   net-named = (
-    λ j h. named (T .counts .following) (T .following) (following-in T z) (netNumber-net T z .following) j h,
-    λ j h. named (T .counts .standing) (T .standing) (standing-in T z) (netNumber-net T z .standing) j h,
+    few (T .counts .following) (T .following) (following-in T z) (netNumber-net T z .following),
+    few (T .counts .standing) (T .standing) (standing-in T z) (netNumber-net T z .standing),
   )
     where
-      named : (n : ℕ) (t : List ℕ) → n ≤ length t → names T (take n t) ≡ true → (j : ℕ) → j < n → getD t j 0 < 256
-      named n t l e j h =
-          let b : j < length (take n t) = omega (arith, length-take-le n t l) in
-          omega (
-            arith,
-            names-existing T (take n t) e (getD t j 0) (subst (λ (x : ℕ). In x (take n t)) (getD-take n t j 0 h) (in-getD (take n t) j 0 b)),
-            net-within T z .components,
-          )
+      few : (n : ℕ) (t : List ℕ) → n ≤ length t → names T (take n t) ≡ true → (j : ℕ) → j < n → getD t j 0 < 256
+      few n t l e j h = omega (arith, entry-named n t l e j h, net-within T z .components)
 
   -- The following list, copied to a table of full size.
   pub net-copied : (t t' : List ℕ) → 256 ≤ length t' → t' ≡ overlay (followingList T) t
@@ -174,3 +176,9 @@ module _ (T U : Tables) (t : ℕ) where
   pub round-wires : U ≡ roundOf t T → U .counts .wires ≡ T .counts .wires
   unfolding roundOf leave
   round-wires e = ap (λ (u : Tables). u .counts .wires) e
+
+-- Calm is read off the components and the three lists.
+pub calm-lists : (T : Tables)
+    → calm (tablesOf (T .components) [] [] [] (T .current) (T .following) (T .standing) (T .counts)) ≡ calm T
+unfolding calm
+calm-lists T = refl

@@ -4,12 +4,13 @@
 --   CanEvaluate, CanSend   component i can be evaluated; wire w can be sent along, and its target appended
 --   CanRun               all components and all wires can
 --   ListFits T n t       the first n entries of the table t name components of T, none twice
+--   ListInside cs n t    the words of the components that the first n entries of the table t name stand in the table cs
 -- Assumes nothing.
 use Prim.Native.Nat.{ℕ, _+_, _≤_, _<_}
 use mathlib.Core.Path.{_≡_}
 use mathlib.Core.Bool.{true, _&&_}
 use mathlib.Core.List.{List, []}
-use lib.ListN.{length, take}
+use lib.ListN.{length, getD, take}
 use Rattle.lists.specs.Lists.{appendNew}
 use Rattle.kinds.specs.Kinds.{primitive, obeys}
 use Rattle.tables.specs.declared.Wire.{Wire}
@@ -64,6 +65,10 @@ pub record ListFits (T : Tables) (n : ℕ) (t : List ℕ) : Type 0 where
   pub whole : 256 ≤ length t
   pub count : n ≤ length t
   pub named : names T (take n t) ≡ true
+
+-- What a list names can be looked up.
+abbrev pub ListInside : List ℕ → ℕ → List ℕ → Type 0
+ListInside cs n t = (n ≤ length t) × ((j : ℕ) → j < n → RowInside cs (getD t j 0))
 
 -- The count is within the table, and the state is what it should be.
 pub record Step (n : ℕ) (t : List ℕ) (s should : State) : Type 0 where

@@ -1,25 +1,24 @@
 // A round of a net: each component of the current list evaluated, its wires sent, and the lists turned. Rule:
 // docs/SPECIFICATION.md, "Rounds". Source: simulator.rs, one pass of the loop in `start`, as with `keep_running` true.
 // Each step is the definition of the same name in specs/Round.antt.
+mod calm;
 mod links;
 mod marks;
 
-ghost use Rattle.kinds.specs.Kinds.{is};
-ghost use Rattle.kinds.specs.declared.Kind.the-variants.{Clock};
-ghost use Rattle.lists.specs.Lists.{every};
 ghost use mathlib.Core.Path.{_≡_};
 ghost use mathlib.Core.List.{List, [], foldl};
 ghost use Prim.Native.Nat.{ℕ, _≤_, _<_};
-ghost use lib.ListN.{length, getD, take};
+ghost use lib.ListN.{length, take};
 ghost use Rattle.tables.specs.declared.Wire.{Wire};
 ghost use Rattle.tables.specs.Tables.{tablesOf};
-ghost use Rattle.tables.specs.Words.{RowInside, uncounted, fieldsIn};
+ghost use Rattle.tables.specs.Words.{uncounted};
 ghost use Rattle.net.specs.Net.{netNumber};
 ghost use Rattle.rounds.specs.Round.{stateOf, wiresFrom, turn, leave, send, evaluated, visit, round};
 ghost use Rattle.rounds.specs.Steps.{wiring, stateAt, CanEvaluate, CanSend, CanRun, ListFits, Step};
 ghost use Rattle.rounds.specs.Links.{Follows, HasLinks, IsListed, ListMarked, ListCovered};
 use crate::marks::append_marked;
 use crate::marks::mark;
+pub use calm::net_calm;
 use kinds::Kind;
 pub use links::NO_WIRE;
 pub use links::link_once;
@@ -337,20 +336,4 @@ pub fn net_round(
         time,
     );
     end_round(&next, &left, current, following, standing, counts, reached)
-}
-
-// Whether the first `count` entries of a list name only Clocks. Crates simulator and questions call it for the current list of a net.
-pub fn only_clocks(components: &[u64], list: &[u16], count: usize) -> bool
-    requires { ⌜ (count ≤ length (now list)) × ((j : ℕ) → j < count → RowInside (now components) (getD (now list) j 0)) ⌝ }
-    ensures { λ r. ⌜ r ≡ every (λ i. is Clock (fieldsIn (now (components .entry)) i)) (take count (now (list .entry))) ⌝ }
-{
-    let mut k: usize = 0;
-    while k < count {
-        let i = tables::entry(list, k);
-        if !tables::is_kind(components, i, Kind::Clock) {
-            return false;
-        }
-        k += 1;
-    }
-    true
 }

@@ -9,17 +9,13 @@ use Prim.Native.Nat.{ℕ, suc, _+_, _-_, _≤_, _<_}
 use native.Mathlib.Nat.{sub-zero, zero-add, add-zero}
 use native.Mathlib.Omega.{arith}
 use borrow.Author.Tests.{ltb-true, ltb-false, not-true}
-use lib.ListN.{length, take}
+use lib.ListN.{length}
 use lib.Seq.{length-take-le}
 use lib.Dec.{ltb}
-use Rattle.lists.specs.Lists.{every}
 use Rattle.lists.proofs.TestsLaws.{and-left, and-right}
-use Rattle.kinds.specs.declared.Kind.the-variants.{Clock}
-use Rattle.kinds.specs.Kinds.{is}
 use Rattle.kinds.specs.Given.{refusedBy, done}
 use Rattle.tables.specs.declared.Counts.{Counts}
 use Rattle.tables.specs.Tables.{Tables, currentList, countWords}
-use Rattle.tables.specs.Words.{fieldsIn}
 use Rattle.net.specs.Net.{netNumber}
 use Rattle.simulator.specs.declared.Ran.the-variants.{Done as RanOut, Refused as NotRun}
 use Rattle.rounds.specs.Round.{calm, roundOf}
@@ -103,12 +99,6 @@ pub run-end : (b : Bool) (limit r e t : ℕ) (T : Tables) (x : Run) → (not b &
     → onTop r e (stopped b (limit - r) t T) ≡ x → record { tables = T; rounds = r; evaluations = e } ≡ x
 run-end true limit r e t T x q so-far = run-calm limit r e t T x so-far
 run-end false limit r e t T x q so-far = run-limit limit r e t T x (ltb-false r limit q) so-far
-
--- Calm is read off the components and the current list.
-pub calm-list : (U : Tables)
-    → every (λ i. is Clock (fieldsIn (U .components) i)) (take (U .counts .current) (U .current)) ≡ calm U
-unfolding calm
-calm-list U = refl
 
 -- The call.
 module _ (T : Tables) (t limit k : ℕ) (number : k ≡ netNumber T) where

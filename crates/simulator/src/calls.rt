@@ -8,8 +8,8 @@ use crate::Ran;
 use kinds::refused_by;
 use rounds::NO_WIRE;
 use rounds::link_once;
+use rounds::net_calm;
 use rounds::net_round;
-use rounds::only_clocks;
 use tables::Answer;
 use tables::Counts;
 
@@ -132,7 +132,7 @@ fn net_run(
             time,
         );
         rounds += 1;
-        calm = only_clocks(components, current, reached.current);
+        calm = net_calm(components, current, following, standing, reached);
     }
     Run {
         counts: reached,

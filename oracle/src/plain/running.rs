@@ -93,9 +93,11 @@ fn append(list: &mut Vec<u64>, index: u64) {
     }
 }
 
-/// "a state is calm when the current list names only Clocks"
+/// "a state is calm when all three lists name only Clocks"
 pub fn calm(tables: &Tables) -> bool {
-    tables.used(CURRENT).iter().all(|index| entry(tables, *index).fields.kind == CLOCK)
+    let only_clocks =
+        |list: usize| tables.used(list).iter().all(|index| entry(tables, *index).fields.kind == CLOCK);
+    [CURRENT, FOLLOWING, STANDING].into_iter().all(only_clocks)
 }
 
 /// The index of an id that exists.

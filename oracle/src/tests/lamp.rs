@@ -82,10 +82,12 @@ fn a_switch_set_after_round_2_gets_out_in_round_5() {
     assert_eq!(answer(&mut program, Command::Edit { index: 0, number: 1 }), "edit 0 0\n");
     let mut lists = vec![];
     for _ in 3..=7 {
+        assert_eq!(answer(&mut program, Command::Calm), "calm 0 0\n");
         lists.push(current(&program));
         answer(&mut program, Command::Round { time: 0 });
     }
     assert_eq!(lists, ["", "", " 0", " 0 2", " 3"]);
+    assert_eq!(answer(&mut program, Command::Calm), "calm 0 1\n", "round 7 has ended");
 }
 
 #[test]
@@ -94,6 +96,12 @@ fn run_until_calm_gives_rounds_and_evaluations() {
     assert_eq!(answer(&mut program, Command::Run { time: 0, limit: 0 }), "run 0 0 0\n");
     assert_eq!(answer(&mut program, Command::Run { time: 0, limit: 16 }), "run 0 2 5\n");
     assert_eq!(answer(&mut program, Command::Run { time: 0, limit: 16 }), "run 0 1 0\n");
+    answer(&mut program, Command::Edit { index: 0, number: 1 });
+    assert_eq!(
+        answer(&mut program, Command::Run { time: 0, limit: 16 }),
+        "run 0 5 4\n",
+        "the edit is waited for"
+    );
 }
 
 #[test]

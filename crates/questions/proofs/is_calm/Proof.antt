@@ -1,8 +1,8 @@
--- `is_calm`: refused by the number, or what the current list names.
+-- `is_calm`: refused by the number, or what the three lists name.
 -- Assumes nothing.
+use mathlib.Core.Path.{_∙_}
 use Rattle.tables.specs.Tables.{Tables, tablesOf}
-use Rattle.rounds.proofs.Sound.{current-in}
-use Rattle.rounds.proofs.RoundLaws.{net-listed}
+use Rattle.rounds.proofs.RoundLaws.{net-listed, calm-lists}
 use Rattle.questions.proofs.QuestionsLaws.{calm-refused, calm-is}
 use Rattle.net.proofs.NetLaws.{passed-net}
 use borrow.Author.Needs.{needs}
@@ -24,16 +24,15 @@ returns c =
     let s = c .before .before .before .before .before .before .before .before .before .before in
     rw (c .refused-by .ensures) (calm-refused (came s) _ (c .before .before .net-number .ensures) (c .before .if1 .taken))
 
-only-clocks-requires : tie.Need-only-clocks-requires
-only-clocks-requires c κs =
+net-calm-requires : tie.Need-net-calm-requires
+net-calm-requires c κs =
     let s = c .before .before .before .before .before .before .before .before .before in
-    let z = passed-net (came s) _ (c .before .net-number .ensures) (c .if1 .left) in
-    (current-in (came s) z, net-listed (came s) z)
+    net-listed (came s) (passed-net (came s) _ (c .before .net-number .ensures) (c .if1 .left))
 
 returns-2 : tie.Need-returns-2
 returns-2 c =
     let s = c .before .before .before .before .before .before .before .before .before .before in
-    calm-is (came s) _ (passed-net (came s) _ (c .before .before .net-number .ensures) (c .before .if1 .left)) (c .only-clocks .ensures)
+    calm-is (came s) _ (passed-net (came s) _ (c .before .before .net-number .ensures) (c .before .if1 .left)) (c .net-calm .ensures ∙ calm-lists (came s))
 
 pub is-calm-spec : {M : Type 1} → statement M
-is-calm-spec = tie.close (tie.spec (λ c κs. search needs) (λ c κs. search needs) returns only-clocks-requires returns-2)
+is-calm-spec = tie.close (tie.spec (λ c κs. search needs) (λ c κs. search needs) returns net-calm-requires returns-2)

@@ -6,14 +6,13 @@ use native.Mathlib.Omega.{arith}
 use lib.ListN.{length}
 use Rattle.tables.specs.Tables.{Tables, tablesOf, wiresIn}
 use Rattle.net.specs.Net.{netNumber}
-use Rattle.net.proofs.NetLaws.{netNumber-sizes}
 use Rattle.simulator.specs.Calls.{run}
 use Rattle.rounds.specs.Round.{roundOf}
 use Rattle.rounds.specs.Links.{Ready}
 use Rattle.rounds.proofs.Sound.{net-within}
 use Rattle.rounds.proofs.LinksLaws.{linked-none, ready-follows}
-use Rattle.rounds.proofs.RoundLaws.{net-sources, net-wires, net-listed, round-stored, round-wires}
-use Rattle.simulator.proofs.RunLaws.{onTop, stopped, run-start, round-net, run-turn, test-going, test-below, run-end, calm-list}
+use Rattle.rounds.proofs.RoundLaws.{net-sources, net-wires, net-listed, round-stored, round-wires, calm-lists}
+use Rattle.simulator.proofs.RunLaws.{onTop, stopped, run-start, round-net, run-turn, test-going, test-below, run-end}
 use borrow.Author.Needs.{needs}
 use Rattle.simulator.proofs.calls.net_run.Statement.{statement}
 use Rattle.simulator.proofs.calls.net_run.Tie as tie
@@ -127,18 +126,17 @@ made c =
     (c .net-round .ensures (wiresIn T)
     (λ h. ready-follows _ (s .args .wires .now) (T .counts .wires) _ _ (k .ensures .0 h) (k .ensures .1)))
 
-only-clocks-requires : tie.Need-only-clocks-requires Inv-loop μ-loop
-only-clocks-requires c κs =
-    let at-net-round = c .before .before .before .before .before .before .before .before .before .before .before in
+net-calm-requires : tie.Need-net-calm-requires Inv-loop μ-loop
+net-calm-requires c κs =
+    let at-net-round = c .before .before .before .before .before .before .before .before .before .before .before .before .before in
     let at-loop = at-net-round .before .before .before .before .before .before .before .before .before .before .before .before .before in
     let s = at-loop .before .before .before .before .before .before .before .before in
     let U = then at-net-round in
-    let z = round-net (s .args .time) (here at-loop) U (at-loop .loop .inv .7) (made at-net-round) in
-    (omega (arith, net-within U z .current, netNumber-sizes U z .current), net-listed U z)
+    net-listed U (round-net (s .args .time) (here at-loop) U (at-loop .loop .inv .7) (made at-net-round))
 
 loop-less : tie.Need-loop-less Inv-loop μ-loop
 loop-less c =
-    let at-net-round = c .before .before .before .before .before .before .before .before .before .before .before .before in
+    let at-net-round = c .before .before .before .before .before .before .before .before .before .before .before .before .before .before in
     let at-loop-test = at-net-round .before .before .before .before .before .before .before .before .before .before .before .before in
     let at-loop = at-loop-test .before in
     let s = at-loop .before .before .before .before .before .before .before .before in
@@ -147,7 +145,7 @@ loop-less c =
 
 loop-again : tie.Need-loop-again Inv-loop μ-loop
 loop-again c =
-    let at-net-round = c .before .before .before .before .before .before .before .before .before .before .before .before in
+    let at-net-round = c .before .before .before .before .before .before .before .before .before .before .before .before .before .before in
     let at-link-once = at-net-round .before .before .before .before .before .before .before .before in
     let at-loop-test = at-link-once .before .before .before .before in
     let at-loop = at-loop-test .before in
@@ -168,7 +166,7 @@ loop-again c =
       r .kept .1 .1 .1 .1 .1 .1 .1 .1 .0 ∙ l .inv .6,
       round-net (s .args .time) T U (l .inv .7) (made at-net-round),
       run-turn (s .args .time) T U (l .inv .7) (made at-net-round) (s .args .limit) (l .rounds) (l .evaluations) _ _ b
-          (c .only-clocks .ensures ∙ calm-list U)
+          (c .net-calm .ensures ∙ calm-lists U)
           (rw (test-going (l .calm) (l .rounds) (s .args .limit) (at-loop-test .loop-test .taken)) at (l .inv .8)),
       subst (λ (n : ℕ). Ready (k .result) (s .args .wires .now) n (k .last .1 .1 .1 .1 .0) (k .last .1 .1 .1 .1 .1 .0))
           (sym (round-wires T U (s .args .time) (made at-net-round))) (k .ensures .1),
@@ -194,7 +192,7 @@ net-run-spec =
     link-once-requires
     net-round-requires
     add-rounds
-    only-clocks-requires
+    net-calm-requires
     loop-less
     loop-again
     (λ c. search needs)

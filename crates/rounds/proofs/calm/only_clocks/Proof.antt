@@ -14,8 +14,8 @@ use Rattle.kinds.specs.Kinds.{is}
 use Rattle.net.proofs.LoopsLaws.{everySlice-fails, everySlice-next, everySlice-end}
 use Rattle.tables.specs.Words.{fieldsIn}
 use borrow.Author.Needs.{needs}
-use Rattle.rounds.proofs.only_clocks.Statement.{statement}
-use Rattle.rounds.proofs.only_clocks.Tie as tie
+use Rattle.rounds.proofs.calm.only_clocks.Statement.{statement}
+use Rattle.rounds.proofs.calm.only_clocks.Tie as tie
 
 abbrev clock : List ℕ → ℕ → Bool
 clock cs i = is Clock (fieldsIn cs i)
