@@ -3,18 +3,19 @@
 --   Net T      the tables T pass every clause
 -- Not here: laws of countsWithin, kindsObeyed and portsFollow (ClausesLaws).
 -- Assumes nothing.
-use mathlib.Core.Path.{_≡_, refl, _∙_, sym}
+use mathlib.Core.Path.{_≡_, refl, _∙_, sym, subst}
 use mathlib.Core.Bool.{Bool, true, false, not, _&&_, _||_, cond}
 use mathlib.Core.List.{List, [], _∷_, map}
 use Prim.Native.Nat.{ℕ, _≤_, _<_}
 use native.Mathlib.Omega.{arith}
 use borrow.Author.Tests.{ltb-true, eqb-true, not-false, eq-eqb, ne-eqb}
-use lib.ListN.{length, getD}
+use lib.ListN.{length, getD, take}
+use lib.Seq.{length-take-le, getD-take}
 use lib.Dec.{eqb, ltb}
 use Rattle.lists.specs.Lists.{from, every, distinct}
 use Rattle.lists.proofs.ListsLaws.{every-from, refusal-first, refusal-rest}
 use Rattle.lists.proofs.TestsLaws.{and-left, and-right}
-use Rattle.lists.proofs.MembersLaws.{In, Distinct, every-sound, distinct-sound, distinct-bound, from-length, from0-complete}
+use Rattle.lists.proofs.MembersLaws.{In, in-getD, Distinct, every-sound, distinct-sound, distinct-bound, from-length, from0-complete}
 use Rattle.value.specs.Value.{allFit}
 use Rattle.kinds.specs.declared.Kind.the-variants.{Const}
 use Rattle.kinds.specs.Kinds.{is, inputWidth, outputWidth}
@@ -208,6 +209,12 @@ module _ (T : Tables) (xs : List ℕ) (e : names T xs ≡ true) where
             (λ i h. from0-complete (T .counts .components) i (names-existing i h)),
         from-length 0 (T .counts .components),
       )
+
+-- So is each of the first n entries of a table.
+pub names-entry : (T : Tables) (n : ℕ) (t : List ℕ) → n ≤ length t → names T (take n t) ≡ true → (j : ℕ) → j < n → getD t j 0 < T .counts .components
+names-entry T n t l e j h =
+    let b : j < length (take n t) = omega (arith, length-take-le n t l) in
+    names-existing T (take n t) e (getD t j 0) (subst (λ (x : ℕ). In x (take n t)) (getD-take n t j 0 h) (in-getD (take n t) j 0 b))
 
 -- The test of the lists after that of the rest.
 module _ (T : Tables) where

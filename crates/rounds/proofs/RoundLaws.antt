@@ -1,21 +1,20 @@
 -- A whole round, from what a net gives to the tables that it leaves.
 -- Assumes nothing.
-use mathlib.Core.Path.{_≡_, refl, sym, ap, _∙_, subst}
+use mathlib.Core.Path.{_≡_, refl, sym, ap, _∙_}
 use mathlib.Core.Bool.{true}
 use mathlib.Core.List.{List, [], foldl}
 use Prim.Native.Nat.{ℕ, _≤_, _<_}
 use native.Mathlib.Omega.{arith}
 use lib.ListN.{length, getD, take}
-use lib.Seq.{length-take-le, getD-take}
+use lib.Seq.{length-take-le}
 use Rattle.lists.specs.Lists.{overlay}
-use Rattle.lists.proofs.MembersLaws.{In, in-getD}
 use Rattle.tables.specs.declared.Wire.{Wire}
 use Rattle.tables.specs.declared.Counts.{Counts}
 use Rattle.tables.specs.Tables.{Tables, tablesOf, wireAt, wiresIn, currentList, followingList, standingList}
 use Rattle.tables.specs.Words.{RowsInside, WiresInside}
 use Rattle.tables.proofs.NamedLaws.{overlay-list}
 use Rattle.net.specs.Net.{names, netNumber}
-use Rattle.net.proofs.NetLaws.{names-existing, netNumber-net, netNumber-sizes}
+use Rattle.net.proofs.NetLaws.{names-entry, netNumber-net, netNumber-sizes}
 use Rattle.rounds.specs.declared.Sizes.{Sizes}
 use Rattle.rounds.specs.Round.{State, stateOf, leave, turn, evaluated, send, visit, round, calm, roundOf}
 use Rattle.rounds.specs.Links.{SourcesFew}
@@ -66,12 +65,6 @@ module _ (T : Tables) (z : netNumber T ≡ 0) where
         named = netNumber-net T z .current;
       }
 
-  -- An entry of a list is a component.
-  entry-named : (n : ℕ) (t : List ℕ) → n ≤ length t → names T (take n t) ≡ true → (j : ℕ) → j < n → getD t j 0 < T .counts .components
-  entry-named n t l e j h =
-      let b : j < length (take n t) = omega (arith, length-take-le n t l) in
-      names-existing T (take n t) e (getD t j 0) (subst (λ (x : ℕ). In x (take n t)) (getD-take n t j 0 h) (in-getD (take n t) j 0 b))
-
   -- The words of the components that the three lists name stand in the table.
   pub net-listed : ListInside (T .components) (T .counts .current) (T .current)
       × ListInside (T .components) (T .counts .following) (T .following)
@@ -83,7 +76,7 @@ module _ (T : Tables) (z : netNumber T ≡ 0) where
   )
     where
       inside : (n : ℕ) (t : List ℕ) → n ≤ length t → names T (take n t) ≡ true → ListInside (T .components) n t
-      inside n t l e = (l, λ j h. omega (arith, net-rows, entry-named n t l e j h))
+      inside n t l e = (l, λ j h. omega (arith, net-rows, names-entry T n t l e j h))
 
   -- The entries of the following and of the standing list are components of full size.
   pub net-named : ((j : ℕ) → j < T .counts .following → getD (T .following) j 0 < 256)
@@ -94,7 +87,7 @@ module _ (T : Tables) (z : netNumber T ≡ 0) where
   )
     where
       few : (n : ℕ) (t : List ℕ) → n ≤ length t → names T (take n t) ≡ true → (j : ℕ) → j < n → getD t j 0 < 256
-      few n t l e j h = omega (arith, entry-named n t l e j h, net-within T z .components)
+      few n t l e j h = omega (arith, names-entry T n t l e j h, net-within T z .components)
 
   -- The following list, copied to a table of full size.
   pub net-copied : (t t' : List ℕ) → 256 ≤ length t' → t' ≡ overlay (followingList T) t

@@ -1,7 +1,7 @@
 -- Laws of the steps of a round, one step at a time: a wire, the wires of a component, an evaluation, and a component of
 -- the list.
 -- Assumes nothing.
-use mathlib.Core.Path.{_≡_, refl, sym, ap, _∙_, subst}
+use mathlib.Core.Path.{_≡_, refl, sym, ap, _∙_}
 use mathlib.Core.Bool.{Bool, true, false, cond}
 use mathlib.Core.List.{List, [], _∷_, _++_, foldl, append-assoc}
 use Prim.Native.Nat.{ℕ, zero, suc, _+_, _-_, _≤_, _<_}
@@ -11,10 +11,9 @@ use native.Mathlib.Omega.{arith}
 use borrow.Rule.Slice.PartMut.{putMid, post-is}
 use borrow.Author.Tests.{eq-eqb, ne-eqb}
 use lib.ListN.{length, getD, take, drop, set, length-take}
-use lib.Seq.{sets, sets-eq, take-nil, slice, slice-cons, slice-empty, getD-take, length-take-le}
+use lib.Seq.{sets, sets-eq, take-nil, slice, slice-cons, slice-empty}
 use lib.Dec.{eqb}
 use Rattle.lists.specs.Lists.{has, appendNew, strike, overlay}
-use Rattle.lists.proofs.MembersLaws.{In, in-getD}
 use Rattle.lists.proofs.NamesLaws.{names-sound, names-complete, names-append, names-length}
 use Rattle.kinds.specs.declared.Kind.the-variants.{Clock}
 use Rattle.kinds.specs.declared.table.Fields.{Fields}
@@ -28,7 +27,7 @@ use Rattle.tables.specs.Tables.{Tables, fieldsAt, firstInput, firstOutput, numb
 use Rattle.tables.proofs.NamedLaws.{overlay-list, overlay-count}
 use Rattle.tables.specs.Words.{uncounted, wireIn}
 use Rattle.net.specs.Net.{names}
-use Rattle.net.proofs.NetLaws.{names-existing}
+use Rattle.net.proofs.NetLaws.{names-entry}
 use Rattle.rounds.specs.Round.{State, withCurrent, withStanding, wiresFrom, evaluated, send, visit}
 use Rattle.rounds.specs.Steps.{wiring, stateAt, CanEvaluate, CanSend, CanRun, ListFits, Step}
 use Rattle.rounds.proofs.Ports.{numbers-length}
@@ -306,10 +305,7 @@ module _ (cs ws : List ℕ) (m : Counts) where
 
   pub listed-at : (n : ℕ) (t : List ℕ) (k i : ℕ) → ListFits (wiring cs ws m) n t → k < n → i ≡ getD t k 0
       → i < m .components
-  listed-at n t k i l h e =
-      let b : k < length (take n t) = omega (arith, length-take-le n t (l .count)) in
-      names-existing (wiring cs ws m) (take n t) (l .named) i
-      (subst (λ (x : ℕ). In x (take n t)) (getD-take n t k 0 h ∙ sym e) (in-getD (take n t) k 0 b))
+  listed-at n t k i l h e = rw e (names-entry (wiring cs ws m) n t (l .count) (l .named) k h)
 
 -- A loop over a list of components: what is still to come.
 module _ (T : Tables) (ws : List Wire) (t : ℕ) (list : List ℕ) (q n : ℕ) (s x : State) where
