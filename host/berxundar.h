@@ -52,11 +52,13 @@
  *   - A call takes at most 48 KiB (49,152 bytes) of stack: a look up to so many, a load or a judgement up to 32,000 bytes, each
  *     other call less than 10,000.
  *
- * WHEN TO LIGHT: once a round has run since the load and `berxundar_calm` says 1. Calm means that the three lists name nothing but
- * Clocks: no edit waits, and nothing else is left to evaluate. It is proved, for every drawing that a load accepts and whatever
- * calls came after it, that the whole drawing is then satisfied: each output has the value of every input that it leads to, and
- * each component's outputs are its function of its inputs, Clocks at the last round's time. `berxundar_run_until_calm` runs rounds
- * until calm, up to a limit. Before the first round calm says nothing of the drawing.
+ * WHEN TO LIGHT: once a round has run since the load, and `berxundar_satisfied` or `berxundar_calm` says 1. It is proved, for every
+ * drawing that a load accepts and whatever calls came after it and after that round: satisfied says 1 exactly where the whole
+ * drawing is satisfied, that is where each output has the value of every input that it leads to, and each component's outputs are
+ * its function of its inputs, Clocks at the last round's time; and where calm says 1 it is. Calm means that the three lists name
+ * nothing but Clocks: no edit waits, and nothing else is left to evaluate. So satisfied may say 1 some rounds before calm does, as
+ * long as those that wait have nothing to change; it looks only at what the lists name, and is asked after each round.
+ * `berxundar_run_until_calm` runs rounds until calm, up to a limit. Before the first round light nothing.
  */
 #ifndef BERXUNDAR_H
 #define BERXUNDAR_H
@@ -229,6 +231,15 @@ uint32_t berxundar_calm(
     const uint16_t *following, size_t following_length, const uint16_t *standing, size_t standing_length, const uint64_t *counts,
     size_t counts_length, uint64_t *found, size_t found_length);
 
+/* found[0] is 1 where each component that a list names, Switches and Clocks aside, has the outputs of its function of its inputs, and
+ * each wire that leaves a component named has one number at both ends; else 0: 2, 16. `found` has 1 entry or more. See WHEN TO
+ * LIGHT. Where the lists name nothing it costs what `berxundar_check` does. */
+uint32_t berxundar_satisfied(
+    const uint64_t *components, size_t components_length, const uint64_t *inputs, size_t inputs_length, const uint64_t *outputs,
+    size_t outputs_length, const uint16_t *wires, size_t wires_length, const uint16_t *current, size_t current_length,
+    const uint16_t *following, size_t following_length, const uint16_t *standing, size_t standing_length, const uint64_t *counts,
+    size_t counts_length, uint64_t *found, size_t found_length);
+
 /* found[0] is the index of the component with an id: 2, 16, 17. `found` has 1 entry or more. */
 uint32_t berxundar_index(
     const uint64_t *components, size_t components_length, const uint64_t *inputs, size_t inputs_length, const uint64_t *outputs,
@@ -342,6 +353,12 @@ static inline uint32_t berxundar_net_run_until_calm(berxundar_net *net, uint64_t
 static inline uint32_t berxundar_net_calm(const berxundar_net *net, uint64_t *calm)
 {
     return berxundar_calm(BERXUNDAR_LENT(net), net->counts, BERXUNDAR_COUNTS, calm, 1);
+}
+
+/* *satisfied is 1 or 0. Once a round has run since the load, 1 says exactly that the whole drawing is satisfied. */
+static inline uint32_t berxundar_net_satisfied(const berxundar_net *net, uint64_t *satisfied)
+{
+    return berxundar_satisfied(BERXUNDAR_LENT(net), net->counts, BERXUNDAR_COUNTS, satisfied, 1);
 }
 
 static inline uint32_t berxundar_net_index(const berxundar_net *net, uint32_t id, uint64_t *index)

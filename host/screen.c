@@ -1,10 +1,11 @@
 /*
  * The example that a screen starts from: screen FILE [--time T] [ID=NUMBER ..]
  *
- * Loads a drawing, sets the Switches and Inputs that are named by id, runs rounds at the time (0 where none is given) until
- * calm, and prints a line for each Output: its id, its value, and `lit` or `dark`. It lights only what a settled net says, one
- * that is calm after a round: every wire then has one value at both ends and every component's outputs are its function of its
- * inputs. Where that is not reached within ROUNDS rounds nothing is lit. The file `-` is standard input. Exit status: 0 settled;
+ * Loads a drawing, sets the Switches and Inputs that are named by id, runs rounds at the time (0 where none is given) until it is
+ * settled, and prints a line for each Output: its id, its value, and `lit` or `dark`. It lights only what a settled net says, one
+ * that is satisfied after a round: every wire then has one value at both ends and every component's outputs are its function of
+ * its inputs. It asks so after each round, and need not wait for calm, which may come some rounds later and changes no value.
+ * Where no round leaves it satisfied within ROUNDS rounds nothing is lit. The file `-` is standard input. Exit status: 0 settled;
  * 1 the file or a setting is refused, or the net is not settled; 2 the file cannot be read or a word is none.
  */
 #include "berxundar.h"
@@ -152,6 +153,19 @@ static void show(uint64_t settled)
     }
 }
 
+/* Runs rounds at the time until one leaves the drawing satisfied, ROUNDS at most: what the last call answered. */
+static uint32_t settle(uint64_t time, uint64_t *settled)
+{
+    uint32_t answer = 0;
+    int round;
+    for (round = 0; round < ROUNDS && answer == 0 && !*settled; round++) {
+        answer = berxundar_net_round(&net, time);
+        if (answer == 0)
+            answer = berxundar_net_satisfied(&net, settled);
+    }
+    return answer;
+}
+
 /* Loads the drawing, sets what is asked for and runs at the time: the exit status where that fails, else 0. */
 static int work(const char *path, uint64_t time, char **settings, int count, uint64_t *settled)
 {
@@ -170,9 +184,7 @@ static int work(const char *path, uint64_t time, char **settings, int count, uin
         status = set(settings[i]);
     if (status)
         return status;
-    answer = berxundar_net_run_until_calm(&net, time, ROUNDS, NULL, NULL);
-    if (answer == 0)
-        answer = berxundar_net_calm(&net, settled);
+    answer = settle(time, settled);
     if (answer != 0)
         fprintf(stderr, "%s: refused %u: %s\n", path, berxundar_number(answer), berxundar_words(answer));
     return answer == 0 ? 0 : 1;

@@ -3,7 +3,8 @@
  * call answers as for any short table (2), a load and a look as for an empty file (1), and a component without ports is
  * evaluated; a net of zeros is one of no components, the net of a root alone, which is looked at along no path; a sentence
  * belongs to an answer and to its number; half of the votes are not most of them; of two records that meet the first call says
- * 13, and the others what they are; while an edit waits a net is not calm. Leaves with 1 at the first other answer.
+ * 13, and the others what they are; while an edit waits a net is not calm, and not satisfied where it has something to change.
+ * Leaves with 1 at the first other answer.
  */
 #include "berxundar.h"
 
@@ -26,6 +27,8 @@ static int nothing_lent(void)
         && berxundar_run_until_calm(SEVEN, NONE, 3, 3, NONE) == NUMBER(2)
         && berxundar_run_until_calm(BERXUNDAR_LENT(&net), net.counts, 7, 3, 3, NONE) == NUMBER(2)
         && berxundar_calm(BERXUNDAR_LENT(&net), net.counts, 7, NONE) == NUMBER(2)
+        && berxundar_satisfied(BERXUNDAR_LENT(&net), net.counts, 7, NONE) == NUMBER(2)
+        && berxundar_satisfied(SEVEN, NONE, found, 1) == NUMBER(2) && berxundar_satisfied(SEVEN, net.counts, 7, found, 1) == NUMBER(2)
         && berxundar_index(SEVEN, NONE, 3, NONE) == NUMBER(2) && berxundar_value(SEVEN, NONE, 3, 3, 3, NONE) == NUMBER(2)
         && berxundar_sources(BERXUNDAR_LENT(&net), net.counts, 7, 0, NONE, found, 1) == NUMBER(2)
         && berxundar_targets(SEVEN, NONE, 0, NONE, NONE) == NUMBER(2) && berxundar_check(SEVEN, NONE) == NUMBER(2)
@@ -43,8 +46,9 @@ static int nothing_lent(void)
 
 static int zeros(void)
 {
-    uint64_t calm = 0, rounds = 9;
+    uint64_t calm = 0, satisfied = 0, rounds = 9;
     return berxundar_net_check(&net) == 0 && berxundar_net_calm(&net, &calm) == 0 && calm == 1
+        && berxundar_net_satisfied(&net, &satisfied) == 0 && satisfied == 1
         && berxundar_net_run_until_calm(&net, 5, 7, &rounds, NULL) == 0 && rounds == 1
         && berxundar_net_edit(&net, 0, 0) == NUMBER(17);
 }
@@ -193,4 +197,46 @@ static int waited(void)
         && rounds == 4 && evaluations == 3 && berxundar_net_value(&net, 1, 1, 0, &value, NULL) == 0 && value == 1;
 }
 
-int main(void) { return !(zeros() && nothing_lent() && looked_at() && joined() && voted() && sentences() && met() && waited()); }
+static int satisfied_is(uint64_t wanted)
+{
+    uint64_t satisfied = 9;
+    return berxundar_net_satisfied(&net, &satisfied) == 0 && satisfied == wanted;
+}
+
+/*
+ * The same drawing, as `waited` left it: the Switch low, the Not high, calm and satisfied. An edit to the number that is there
+ * leaves it satisfied and not calm. An edit to another leaves the wire with two numbers, and the net is not satisfied until the
+ * round has ended that evaluates the Not again. A wire that no list looks at is not judged, nor is a Switch ever; a Not whose
+ * output is wrong is, where a list names it.
+ */
+static int judged(void)
+{
+    uint64_t calm = 9;
+    int i;
+    if (!satisfied_is(1) || berxundar_net_edit(&net, 0, 0) != 0 || !satisfied_is(1) || berxundar_net_calm(&net, &calm) != 0
+        || calm != 0 || berxundar_net_edit(&net, 0, 1) != 0)
+        return 0;
+    for (i = 0; i < 4; i++)
+        if (!satisfied_is(0) || berxundar_net_round(&net, 0) != 0)
+            return 0;
+    if (!satisfied_is(1))
+        return 0;
+    net.outputs[0] = 0;
+    net.outputs[1] = 1;
+    if (!satisfied_is(1))
+        return 0;
+    net.following[0] = 1;
+    net.counts[BERXUNDAR_COUNT_FOLLOWING] = 1;
+    if (!satisfied_is(0))
+        return 0;
+    net.following[0] = 0;
+    if (!satisfied_is(0))
+        return 0;
+    net.inputs[0] = 0;
+    return satisfied_is(1);
+}
+
+int main(void)
+{
+    return !(zeros() && nothing_lent() && looked_at() && joined() && voted() && sentences() && met() && waited() && judged());
+}

@@ -21,7 +21,7 @@ static uint32_t asked(const berxundar_net *of)
     static berxundar_box box;
     uint16_t list[BERXUNDAR_NAMES];
     uint64_t found, width;
-    return berxundar_net_calm(of, &found) + berxundar_net_index(of, 1, &found)
+    return berxundar_net_calm(of, &found) + berxundar_net_satisfied(of, &found) + berxundar_net_index(of, 1, &found)
         + berxundar_net_value(of, BERXUNDAR_SIDE_INPUTS, 0, 0, &found, &width) + berxundar_net_sources(of, 0, list, &found)
         + berxundar_net_targets(of, 0, list, &found) + berxundar_net_look(of, NULL, 0, NULL, 0, &box) + (uint32_t)box.widths[0]
         + berxundar_net_check(of);

@@ -22,14 +22,16 @@ static uint8_t bytes[FILE_ROOM];
 static size_t length;
 static uint64_t at = 5;
 
-/* What a call works on, and the states that it is made on: after a load; settled, with an empty current list; settled, with all listed. */
-static berxundar_net net, loaded, quiet, idle;
+/* What a call works on, and the states that it is made on: after a load; settled, with empty lists, with one listed, with all listed. */
+static berxundar_net net, loaded, quiet, one, idle;
+static uint64_t found;
 
 static uint32_t nothing(void) { return 0; }
 static uint32_t judge(void) { return berxundar_judge(bytes, length); }
 static uint32_t load(void) { return berxundar_net_load(&net, bytes, length); }
 static uint32_t run_round(void) { return berxundar_net_round(&net, at); }
 static uint32_t check(void) { return berxundar_net_check(&net); }
+static uint32_t satisfied(void) { return berxundar_net_satisfied(&net, &found); }
 
 static const struct {
     const char *name;
@@ -37,7 +39,8 @@ static const struct {
     uint32_t (*call)(void);
 } calls[] = { { "empty", &loaded, nothing }, { "judge", &loaded, judge }, { "load", &loaded, load },
     { "round, all listed", &loaded, run_round }, { "idle, all listed", &idle, run_round }, { "quiet", &quiet, run_round },
-    { "net check", &quiet, check } };
+    { "net check", &quiet, check }, { "satisfied, none listed", &quiet, satisfied }, { "satisfied, one listed", &one, satisfied },
+    { "satisfied, all listed", &idle, satisfied } };
 
 /* A system call that no kernel has, which the plugin sees. */
 static void mark(long what, long name)
@@ -52,7 +55,7 @@ static int same_values(const berxundar_net *a, const berxundar_net *b)
     return memcmp(a->inputs, b->inputs, sizeof a->inputs) == 0 && memcmp(a->outputs, b->outputs, sizeof a->outputs) == 0;
 }
 
-/* Runs the loaded net until its lists are empty, and lays the two settled states: how many rounds that took. */
+/* Runs the loaded net until its lists are empty, and lays the three settled states: how many rounds that took. */
 static int settle(void)
 {
     uint64_t i, components = loaded.counts[BERXUNDAR_COUNT_COMPONENTS];
@@ -67,6 +70,9 @@ static int settle(void)
     for (i = 0; i < components; i++)
         idle.current[i] = (uint16_t)i;
     idle.counts[BERXUNDAR_COUNT_CURRENT] = components;
+    one = net;
+    one.current[0] = (uint16_t)(components / 2);
+    one.counts[BERXUNDAR_COUNT_CURRENT] = 1;
     return rounds;
 }
 
@@ -77,9 +83,14 @@ static int measure(size_t which)
     for (i = 0; i < TIMES; i++) {
         uint32_t answer;
         net = *calls[which].from;
+        found = 1;
         mark(START, (long)which);
         answer = calls[which].call();
         mark(STOP, (long)which);
+        if (!found) {
+            fprintf(stderr, "instructions: %s: a settled net is not satisfied\n", calls[which].name);
+            return 0;
+        }
         if (answer != 0) {
             fprintf(stderr, "instructions: %s: refused %u: %s\n", calls[which].name, berxundar_number(answer), berxundar_words(answer));
             return 0;

@@ -63,6 +63,7 @@ static uint32_t run_round(void) { return berxundar_net_round(&net, 3); }
 static uint32_t run(void) { return berxundar_net_run_until_calm(&net, 4, 5, NULL, NULL); }
 static uint32_t edit(void) { return berxundar_net_edit(&net, 0, 1); }
 static uint32_t calm(void) { return berxundar_net_calm(&net, &found); }
+static uint32_t satisfied(void) { return berxundar_net_satisfied(&net, &found); }
 static uint32_t index_of(void) { return berxundar_net_index(&net, (uint32_t)net.components[BERXUNDAR_WORD_ID], &found); }
 static uint32_t value(void) { return berxundar_net_value(&net, BERXUNDAR_SIDE_OUTPUTS, 0, 0, &found, NULL); }
 static uint32_t sources(void) { return berxundar_net_sources(&net, 0, list, &found); }
@@ -89,8 +90,8 @@ static const struct {
     size_t said;
 } calls[] = { { "judge", judge, 32000 }, { "judge a pair", judge_pair, 32000 }, { "load", load, 32000 },
     { "look at the root", look, 49152 }, { "look inside", look_inside, 49152 }, { "round", run_round, 10000 },
-    { "run until calm", run, 10000 }, { "edit", edit, 10000 }, { "calm", calm, 10000 }, { "index", index_of, 10000 },
-    { "value", value, 10000 }, { "sources", sources, 10000 }, { "targets", targets, 10000 }, { "check", check, 10000 },
+    { "run until calm", run, 10000 }, { "edit", edit, 10000 }, { "calm", calm, 10000 }, { "satisfied", satisfied, 10000 },
+    { "index", index_of, 10000 }, { "value", value, 10000 }, { "sources", sources, 10000 }, { "targets", targets, 10000 }, { "check", check, 10000 },
     { "evaluate", evaluate, 10000 } };
 
 int main(void)

@@ -366,6 +366,17 @@ static int ask_calm(void)
     return 1;
 }
 
+static int ask_satisfied(void)
+{
+    uint32_t answer;
+    found[0] = 0;
+    lend_all(1, 0);
+    answer = berxundar_satisfied(NOW, now.found, 1);
+    back_all(1);
+    pair("satisfied", berxundar_number(answer), found[0]);
+    return 1;
+}
+
 static int ask_index(void)
 {
     uint8_t bytes[4];
@@ -669,6 +680,7 @@ static int answer_one(uint8_t letter)
     case 'E': return edit();
     case 'U': return run();
     case 'C': return ask_calm();
+    case 'Q': return ask_satisfied();
     case 'I': return ask_index();
     case 'V': return ask_value();
     case 'S': return ask_list(0);

@@ -36,6 +36,7 @@ pub enum Command {
     Edit { index: u16, number: u64 },
     Run { time: u64, limit: u16 },
     Calm,
+    Satisfied,
     Index { id: u32 },
     Value { side: u8, index: u16, port: u16 },
     Sources { index: u16 },
@@ -64,6 +65,7 @@ impl Command {
             b'E' => Command::Edit { index: from.number::<2>()? as u16, number: from.number::<8>()? },
             b'U' => Command::Run { time: from.number::<8>()?, limit: from.number::<2>()? as u16 },
             b'C' => Command::Calm,
+            b'Q' => Command::Satisfied,
             b'I' => Command::Index { id: from.number::<4>()? as u32 },
             b'V' => Command::Value {
                 side: from.number::<1>()? as u8,
@@ -103,6 +105,7 @@ impl Command {
             Command::State => to.push(b'P'),
             Command::All => to.push(b'A'),
             Command::Calm => to.push(b'C'),
+            Command::Satisfied => to.push(b'Q'),
             Command::Round { time } => words(to, b'R', &[(*time, 8)]),
             Command::Edit { index, number } => words(to, b'E', &[(*index as u64, 2), (*number, 8)]),
             Command::Run { time, limit } => words(to, b'U', &[(*time, 8), (*limit as u64, 2)]),

@@ -5,6 +5,7 @@ use crate::plain::drawing::{Drawing, Id};
 use crate::plain::flat::is_primitive;
 use crate::plain::look::Shown;
 use crate::plain::net::{entries, Entry};
+use crate::plain::running::Judged;
 use crate::plain::single::PortValue;
 use crate::primitive::{in_logix, kind_words, primitive};
 use crate::tables::{Tables, COMPONENTS, CURRENT, FOLLOWING, INPUTS, OUTPUTS, STANDING, WIRES};
@@ -154,6 +155,22 @@ impl Engine {
         })
     }
 
+    /// Added: every wire that leaves a component judged agrees, and every component judged, but
+    /// for Switches and Clocks, has the outputs that its own `update` would give it.
+    pub fn satisfied(&mut self, judged: Judged) -> bool {
+        self.simulator.state(|state| {
+            let components = &state.comp.components;
+            let lists = [&state.local_upd_list, &state.local_next_upd_list, &state.to_upd];
+            let named = |index: &usize| lists.iter().any(|list| list.contains(index));
+            let judged = |index: &usize| judged == Judged::All || named(index);
+            let mut wires = state.comp.flat_conns.iter().filter(|wire| judged(&wire.from.0));
+            let agree = wires.all(|wire| {
+                components[wire.from.0].outputs[wire.from.1] == components[wire.to.0].inputs[wire.to.1]
+            });
+            agree && (0..components.len()).filter(judged).all(|index| has_outputs(&components[index]))
+        })
+    }
+
     /// Added: sets a Switch's output, or an Input's input, and appends the
     /// component to the standing list unless there.
     pub fn edit(&mut self, index: usize, number: u64) {
@@ -196,6 +213,22 @@ impl Engine {
     pub fn targets(&mut self, index: usize) -> Vec<u64> {
         self.simulator.state(|state| list_words(&state.comp.inv_deps[index]))
     }
+}
+
+/// Whether an evaluation would leave a component's outputs; Switches and Clocks aside.
+fn has_outputs(component: &PrimitiveComponent) -> bool {
+    if matches!(component.prim_type, Primitive::Switch | Primitive::Clock { .. }) {
+        return true;
+    }
+    let mut evaluated = PrimitiveComponent {
+        id: component.id,
+        name: String::new(),
+        prim_type: component.prim_type.clone(),
+        inputs: component.inputs.clone(),
+        outputs: component.outputs.clone(),
+    };
+    evaluated.update(0);
+    evaluated.outputs == component.outputs
 }
 
 /// A primitive below the one composite that holds a table's components.

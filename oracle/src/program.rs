@@ -14,7 +14,7 @@ use crate::plain::host::{first_answer, second_answer};
 use crate::plain::judge::{judge, words};
 use crate::plain::look::{look, Shown};
 use crate::plain::rules::outputs_after;
-use crate::plain::running;
+use crate::plain::running::{self, Judged};
 use crate::plain::single::{single_number, PortValue};
 use crate::primitive::{evaluated, in_logix};
 use crate::tables::{
@@ -29,10 +29,19 @@ const COMMANDS_MAX: u64 = 1 << 32;
 const TABLE_NAMES: [&str; 7] =
     ["components", "inputs", "outputs", "wires", "current", "following", "standing"];
 
+/// Tables that calls have reached from a load.
+#[derive(Clone, Copy)]
+struct Reached {
+    /// The time of the last round, where one has run.
+    last_round: Option<u64>,
+}
+
 pub struct Program {
     pub tables: Tables,
     /// logix's side of the tables; none where they were changed by hand.
     engine: Option<Engine>,
+    /// What calls have made of a load's tables; none where they were changed by hand.
+    reached: Option<Reached>,
     /// The file that looks are handed.
     pub kept: Vec<u8>,
 }
@@ -62,7 +71,7 @@ pub fn run(input: impl Read, output: impl Write) -> Result<()> {
 
 impl Program {
     pub fn new() -> Program {
-        Program { tables: Tables::new(), engine: None, kept: vec![] }
+        Program { tables: Tables::new(), engine: None, reached: None, kept: vec![] }
     }
 
     /// Does one command and appends its lines.
@@ -78,6 +87,7 @@ impl Program {
             Command::Edit { index, number } => self.edit(*index, *number, lines),
             Command::Run { time, limit } => self.run_until_calm(*time, *limit, lines),
             Command::Calm => self.calm(lines),
+            Command::Satisfied => self.satisfied(lines),
             Command::Index { id } => self.index(*id, lines),
             Command::Value { side, index, port } => self.value(*side, *index, *port, lines),
             Command::Sources { index } => {
@@ -88,24 +98,30 @@ impl Program {
             }
             Command::Evaluate(single) => evaluate(single, lines),
             Command::WriteWord { table, place, word } => {
-                self.engine = None;
+                self.by_hand();
                 self.tables.write_word(*table as usize, *place as usize, *word);
             }
             Command::SetCount { which, number } => {
-                self.engine = None;
+                self.by_hand();
                 self.tables.set_count(*which as usize, *number);
             }
             Command::Lend { table, words } => self.tables.lend(*table as usize, *words as usize),
             Command::Keep(file) => self.kept = file[..file.len().min(FILE_KEPT)].to_vec(),
             Command::Table { table } => self.table(*table as usize, lines),
             Command::WriteWords { table, place, words } => {
-                self.engine = None;
+                self.by_hand();
                 for (at, word) in words.iter().enumerate() {
                     self.tables.write_word(*table as usize, *place as usize + at, *word);
                 }
             }
             Command::Look { path } => self.look(path, lines),
         }
+    }
+
+    /// The tables are changed by hand.
+    fn by_hand(&mut self) {
+        self.engine = None;
+        self.reached = None;
     }
 
     /// logix's side of the tables, which are a net; none where logix has not all kinds.
@@ -129,6 +145,7 @@ impl Program {
                 None => self.tables = second.clone(),
             }
             assert_eq!(self.tables, second, "a load in both codings");
+            self.reached = Some(Reached { last_round: None });
         }
         line(lines, "load", words(verdict));
     }
@@ -143,6 +160,9 @@ impl Program {
 
     fn one_round(&mut self, time: u64) {
         self.change(|engine| engine.round(time), |tables| running::round(tables, time));
+        if let Some(reached) = &mut self.reached {
+            reached.last_round = Some(time);
+        }
     }
 
     /// Does something to a net, the tables included, in both codings.
@@ -204,6 +224,24 @@ impl Program {
         let number = round_number(&self.tables);
         let calm = number == 0 && self.ask(Engine::calm, running::calm);
         line(lines, "calm", [number, calm as u64]);
+    }
+
+    /// The named ones are judged. In tables that calls have reached from a load the answer is
+    /// that of judging all, and after a round that of judging the Clocks at its time as well.
+    fn satisfied(&mut self, lines: &mut String) {
+        let number = round_number(&self.tables);
+        let satisfied = number == 0 && self.judge_values(Judged::Named);
+        if let (0, Some(Reached { last_round })) = (number, self.reached) {
+            let all = self.judge_values(Judged::All);
+            assert_eq!(satisfied, all, "judging what the lists name, and judging all");
+            let clocks = last_round.is_none_or(|time| running::clocks_follow(&self.tables, time));
+            assert_eq!(satisfied, all && clocks, "satisfied, Clocks at the last round's time");
+        }
+        line(lines, "satisfied", [number, satisfied as u64]);
+    }
+
+    fn judge_values(&mut self, judged: Judged) -> bool {
+        self.ask(|engine| engine.satisfied(judged), |tables| running::satisfied(tables, judged))
     }
 
     fn index(&mut self, id: u32, lines: &mut String) {

@@ -10,6 +10,7 @@ mod look;
 mod marked;
 mod meet;
 mod net;
+mod satisfied;
 mod votes;
 
 use crate::command::Command;

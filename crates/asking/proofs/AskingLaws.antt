@@ -14,14 +14,13 @@ use Rattle.kinds.specs.Given.{Given, done, declined, refusedBy, giving, spoken}
 use Rattle.tables.specs.declared.Counts.{Counts}
 use Rattle.tables.specs.Tables.{Tables, indexOf}
 use Rattle.net.specs.Net.{netNumber}
-use Rattle.rounds.specs.Round.{calm}
 use Rattle.questions.specs.declared.Side.{Side}
-use Rattle.questions.specs.declared.Calm.{Calm}
+use Rattle.questions.specs.declared.Whether.{Whether}
 use Rattle.questions.specs.declared.Index.{Index}
 use Rattle.questions.specs.declared.Port.{Port}
 use Rattle.questions.specs.declared.Port.the-variants.{Is as PortIs}
 use Rattle.questions.specs.declared.Listed.{Listed}
-use Rattle.questions.specs.Questions.{ofNet, calmGives, AsksCalm, indexGives, AsksIndex, AsksValue, indexFound, portCount, valueAt, valueGives, valueOnNet, listNumber, listGives}
+use Rattle.questions.specs.Questions.{ofNet, whetherGives, indexGives, AsksIndex, AsksValue, indexFound, portCount, valueAt, valueGives, valueOnNet, listNumber, listGives}
 use Rattle.words.specs.Words.{countsIn, valuesIn}
 use Rattle.words.specs.Said.{short}
 use Rattle.words.proofs.PlainLaws.{chosen-small, net-small, on-net-small, Plain, chosen-plain, done-plain, declined-plain, giving-plain, plain-as}
@@ -70,9 +69,9 @@ value-on-net-plain T side i p =
     chosen-plain (leb (T .counts .components) i || leb (portCount T side i) p) (declined (refusedBy 17))
     (valueGives (PortIs (valueAt T side i p))) (declined-plain 17 (omega arith)) (record { small = omega arith; at-0 = refl })
 
-pub calm-plain : (T : Tables) (r : Calm) → AsksCalm T r → Plain (calmGives r)
-calm-plain T r e =
-    plain-as (calmGives r) (ofNet T (done (level (calm T) ∷ []))) e (ofNet-plain T (done (level (calm T) ∷ [])) (done-plain (level (calm T) ∷ [])))
+pub whether-plain : (T : Tables) (b : Bool) (r : Whether) → whetherGives r ≡ ofNet T (done (level b ∷ [])) → Plain (whetherGives r)
+whether-plain T b r e =
+    plain-as (whetherGives r) (ofNet T (done (level b ∷ []))) e (ofNet-plain T (done (level b ∷ [])) (done-plain (level b ∷ [])))
 
 pub index-plain : (T : Tables) (id : ℕ) (r : Index) → AsksIndex T id r → Plain (indexGives r)
 index-plain T id r e =

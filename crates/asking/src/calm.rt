@@ -1,13 +1,13 @@
 // Calm or not, called from C.
 ghost use mathlib.Core.Bool.{_||_};
 ghost use Rattle.tables.specs.Tables.{tablesOf};
-ghost use Rattle.questions.specs.Questions.{calmGives, AsksCalm};
+ghost use Rattle.questions.specs.Questions.{whetherGives, AsksCalm};
 ghost use Rattle.words.specs.Said.{short};
 ghost use Rattle.asking.specs.Asking.{CallAsks};
 use words::counts_in;
-use words::lay_calm;
+use words::lay_whether;
 
-// Whether the current list names only Clocks: a word is lent for the answer, 1 or 0.
+// Whether all three lists name only Clocks: a word is lent for the answer, 1 or 0.
 #[no_mangle]
 pub extern "C" fn berxundar_calm(
     components: &[u64],
@@ -23,7 +23,7 @@ pub extern "C" fn berxundar_calm(
     ensures { λ r.
         let lent = tablesOf (now (components .entry)) (now (inputs .entry)) (now (outputs .entry)) (now (wires .entry))
         (now (current .entry)) (now (following .entry)) (now (standing .entry)) in
-        ⌜ CallAsks calmGives AsksCalm (short (now (counts .entry)) 7 || short (now (found .entry)) 1) (now (counts .entry)) (now (found .entry))
+        ⌜ CallAsks whetherGives AsksCalm (short (now (counts .entry)) 7 || short (now (found .entry)) 1) (now (counts .entry)) (now (found .entry))
         (now (found .exit))
         lent r ⌝ }
 {
@@ -40,5 +40,5 @@ pub extern "C" fn berxundar_calm(
         standing,
         counts_in(counts),
     );
-    lay_calm(found, answer)
+    lay_whether(found, answer)
 }

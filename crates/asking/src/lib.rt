@@ -5,6 +5,7 @@ mod calm;
 mod index_of;
 mod is_net;
 mod port;
+mod satisfied;
 mod sources;
 mod targets;
 
@@ -12,5 +13,6 @@ pub use calm::berxundar_calm;
 pub use index_of::berxundar_index;
 pub use is_net::berxundar_check;
 pub use port::berxundar_value;
+pub use satisfied::berxundar_satisfied;
 pub use sources::berxundar_sources;
 pub use targets::berxundar_targets;

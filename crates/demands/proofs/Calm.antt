@@ -42,4 +42,4 @@ calm-satisfied file t T r c =
     let p = reached-kept file (load-fresh file) r in
     let o = p .0 in
     let kept = unbroken-obeyed T true t (p .1 .net) (p .1 .unbroken) in
-    satisfied file (o .lent) (o .accepted) T (o .wiring) true t kept (kept .settled refl (λ i h m. calm-clock T i c m))
+    satisfied file (o .lent) (o .accepted) T (o .wiring) t (kept .settled refl (λ i h m. calm-clock T i c m))

@@ -20,12 +20,12 @@ use Rattle.flatten.specs.declared.Pin.{Pin}
 use Rattle.flatten.specs.Descent.{flat}
 use Rattle.flatten.specs.Leads.{From, starts, through, Into, ends, maps, Leads}
 use Rattle.flatten.proofs.Primitives.{primitivesBefore-complete}
-use Rattle.tables.specs.Tables.{Tables, fieldsAt, wiresIn, numbers, firstInput, firstOutput, standingList, named}
+use Rattle.tables.specs.Tables.{Tables, fieldsAt, wiresIn, numbers, standingList, named}
 use Rattle.laying.specs.Laid.{flatPin, standingAtLoad}
 use Rattle.load.specs.Load.{loadVerdict, loadTables}
 use Rattle.laying.proofs.FlatWires.{wire}
 use Rattle.loaded.proofs.Drawn.{IsDrawn}
-use Rattle.loaded.proofs.LoadTheorems.{accepted-net, accepted-fullSize, accepted-current, accepted-standing, accepted-following, accepted-drawn, accepted-primitive, accepted-below, accepted-leads-wired}
+use Rattle.loaded.proofs.LoadTheorems.{accepted-net, accepted-fullSize, accepted-current, accepted-standing, accepted-following, accepted-drawn, accepted-primitive, accepted-below, accepted-wire-drawn, accepted-leads-wired}
 use Rattle.net.proofs.NetLaws.{netNumber-0}
 use Rattle.tables.proofs.SameLaws.{SameWiring, sameWiring-none}
 use Rattle.quiet.proofs.Since.{Fresh}
@@ -88,12 +88,13 @@ module _ (file : List ℕ) (T₀ : Tables) (a : loadVerdict file T₀ ≡ Accept
   fields : (x : ℕ) → isPrimitive (at x) ≡ true → fieldsAt T (flat at n x) ≡ fieldsOf (at x)
   fields x e = drawn .fields x e
 
-  -- A component of the tables that follows its function is one of the drawing that does: its ports stand where the records say.
-  follows-drawn : (t x : ℕ) → isPrimitive (at x) ≡ true → FollowsAt T t (flat at n x) → Follows at n T t x
-  follows-drawn t x e h =
-      rw (drawn .first-input x e, drawn .first-output x e) at
-      (subst (λ (f : Fields). numbers (T .outputs) (firstOutput T (flat at n x)) (f .outputs)
-      ≡ functionOf f (numbers (T .inputs) (firstInput T (flat at n x)) (f .inputs)) t) (fields x e) h)
+  -- A component of the tables that follows its function is one of the drawing that does, and the other way: its ports stand where the records say.
+  follows : (t x : ℕ) → isPrimitive (at x) ≡ true → FollowsAt T t (flat at n x) ≡ Follows at n T t x
+  follows t x e =
+      let o = drawn .first-output x e in
+      let i = drawn .first-input x e in
+      let f = fields x e in
+      λ k. numbers (T .outputs) (o k) (f k .outputs) ≡ functionOf (f k) (numbers (T .inputs) (i k) (f k .inputs)) t
 
   -- Two ends that are equal in the tables are equal in the drawing, and the other way.
   places : (s d : Pin) → Leads at n s d → EqualAt T (wire (flatPin at n s) (flatPin at n d)) ≡ Equal at n T s d
@@ -105,16 +106,31 @@ module _ (file : List ℕ) (T₀ : Tables) (a : loadVerdict file T₀ ≡ Accept
   leads-in : (s d : Pin) → Leads at n s d → In (wire (flatPin at n s) (flatPin at n d)) (wiresIn T)
   leads-in = accepted-leads-wired file T₀ a T same
 
-  module _ (ran : Bool) (t : ℕ) (o : ObeyedAt T ran t) where
-    pub satisfied : SatisfiedAt T t → Satisfied at n T t
-    satisfied s =
-        record {
-          equal = λ p d l. transport (places p d l) (s .equal (wire (flatPin at n p) (flatPin at n d)) (leads-in p d l));
-          follow = λ x h e k.
-              follows-drawn t x e
-              (s .follow (flat at n x) (accepted-below file T₀ a T same x e) (ap (is Switch) (fields x e) ∙ k));
-        }
+  -- The drawing is satisfied where the tables are,
+  pub satisfied : (t : ℕ) → SatisfiedAt T t → Satisfied at n T t
+  satisfied t s =
+      record {
+        equal = λ p d l. transport (places p d l) (s .equal (wire (flatPin at n p) (flatPin at n d)) (leads-in p d l));
+        follow = λ x h e k.
+            transport (follows t x e)
+            (s .follow (flat at n x) (accepted-below file T₀ a T same x e) (ap (is Switch) (fields x e) ∙ k));
+      }
 
+  -- and the tables are where the drawing is.
+  pub satisfied-at : (t : ℕ) → Satisfied at n T t → SatisfiedAt T t
+  satisfied-at t s =
+      record {
+        equal = λ w m.
+            let r = accepted-wire-drawn file T₀ a T same w m in
+            subst (EqualAt T) (sym (r .3)) (transport (sym (places (r .0) (r .1) (r .2))) (s .equal (r .0) (r .1) (r .2)));
+        follow = λ i h k.
+            let p = accepted-primitive file T₀ a T same i h in
+            subst (FollowsAt T t) (p .flat-is)
+            (transport (sym (follows t (p .number) (p .of-primitive)))
+            (s .follow (p .number) (p .in-file) (p .of-primitive) (ap (is Switch) (sym (p .fields-are)) ∙ k)));
+      }
+
+  module _ (ran : Bool) (t : ℕ) (o : ObeyedAt T ran t) where
     obeyed : Obeyed at n T ran t
     obeyed =
         record {
@@ -122,9 +138,9 @@ module _ (file : List ℕ) (T₀ : Tables) (a : loadVerdict file T₀ ≡ Accept
               o .differing (wire (flatPin at n p) (flatPin at n d)) (leads-in p d l) (λ e. u (transport (places p d l) e));
           unfollowed = λ x h e k u.
               o .unfollowed (flat at n x) (accepted-below file T₀ a T same x e)
-              (ap (λ (f : Fields). is Switch f || is Clock f) (fields x e) ∙ k) (λ f. u (follows-drawn t x e f));
+              (ap (λ (f : Fields). is Switch f || is Clock f) (fields x e) ∙ k) (λ f. u (transport (follows t x e) f));
           settled = λ r only.
-              satisfied
+              satisfied t
               (o .settled r
               (λ i h m.
               let p = accepted-primitive file T₀ a T same i h in

@@ -16,6 +16,7 @@ use Rattle.load.specs.Load.{drawingTables, loadVerdict, loadTables}
 use Rattle.laying.proofs.FlatWires.{wire}
 use Rattle.net.specs.Net.{countsWithin, kindsObeyed, idsDistinct, portsFollow, valuesFit, constsHeld, wiresFit, inputsOnce, names, isNet, netNumber}
 use Rattle.rounds.specs.Round.{leave, evaluated, send, visit, round, portSet, editedState, calm, roundOf}
+use Rattle.judging.specs.Judged.{judgedNamed}
 use Rattle.simulator.specs.Calls.{roundTables, editNumber, editTables, run}
 use Rattle.component.proofs.Drawings.{lamp}
 use Rattle.demands.proofs.Lamp.{lampLoaded, lampSet}
@@ -53,6 +54,13 @@ lamp-timing = refl
 pub lamp-calm : map (λ k. calm (lampSet k)) (from 0 6) ≡ false ∷ false ∷ false ∷ false ∷ false ∷ true ∷ []
 unfolding loadTables loadVerdict drawingTables judgement verdict overlay fullSize deepest obeys outputBelow inputsBelow comesFrom goesTo roundTables netNumber isNet countsWithin kindsObeyed idsDistinct portsFollow valuesFit constsHeld wiresFit inputsOnce names roundOf leave round visit evaluated send outputsAfter functionOf appendNew strike editTables editNumber editedState portSet calm
 lamp-calm = refl
+
+-- Satisfied or not: not after the load; so once round 1 has ended, which leaves no calm; and before rounds 3 to 8 not until round 7 has ended.
+pub lamp-judged :
+    judgedNamed lampLoaded ∷ judgedNamed (roundTables lampLoaded 0) ∷ calm (roundTables lampLoaded 0) ∷ map (λ k. judgedNamed (lampSet k)) (from 0 6)
+    ≡ false ∷ true ∷ false ∷ false ∷ false ∷ false ∷ false ∷ false ∷ true ∷ []
+unfolding loadTables loadVerdict drawingTables judgement verdict overlay fullSize deepest obeys outputBelow inputsBelow comesFrom goesTo roundTables netNumber isNet countsWithin kindsObeyed idsDistinct portsFollow valuesFit constsHeld wiresFit inputsOnce names roundOf leave round visit evaluated send outputsAfter functionOf appendNew strike editTables editNumber editedState portSet calm judgedNamed
+lamp-judged = refl
 
 -- Run until calm from there: the five rounds, with 0 + 0 + 1 + 2 + 1 evaluations.
 pub lamp-timing-run : run 16 0 (lampSet 0) .rounds ∷ run 16 0 (lampSet 0) .evaluations ∷ [] ≡ 5 ∷ 4 ∷ []

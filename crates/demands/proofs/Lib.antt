@@ -5,4 +5,5 @@ pub mod MarkedHold
 pub mod Called
 pub mod Demand3
 pub mod Calm
+pub mod Judging
 pub mod LampSatisfied

@@ -13,9 +13,9 @@ use Rattle.tables.proofs.AnswerLaws.{answerGives-is, changes-determined}
 use Rattle.load.specs.Load.{loadVerdict}
 use Rattle.net.specs.Net.{netNumber}
 use Rattle.simulator.specs.Calls.{editNumber, run, ranGives}
-use Rattle.questions.specs.Questions.{calmGives, indexGives, valueGives, listNumber, listGives}
+use Rattle.questions.specs.Questions.{whetherGives, indexGives, valueGives, listNumber, listGives}
 use Rattle.simulator.proofs.AnswersLaws.{ranGives-is}
-use Rattle.questions.proofs.AnswersLaws.{calmGives-is, indexGives-is, valueGives-is, listGives-is}
+use Rattle.questions.proofs.AnswersLaws.{whetherGives-is, indexGives-is, valueGives-is, listGives-is}
 use Rattle.look.proofs.AnswerLaws.{lookGives-is}
 use Rattle.determinacy.specs.Determined.{Determinacy, Determined, DeterminedAnswer}
 
@@ -33,7 +33,7 @@ equation : {A : Type 0} (x : A) → DeterminedAnswer (λ (a : A). a ≡ x)
 equation x a a′ p q = p ∙ sym q
 
 -- For evaluating one component, a load, a round, an edit, a run until calm, and the questions and looks that write lent lists; then for judging, also as
--- the host's two calls, check 16, calm, the index of an id, a port's value, and a value's methods.
+-- the host's two calls, check 16, calm, satisfied, the index of an id, a port's value, and a value's methods.
 pub determinacy : Determinacy
 determinacy = (
   λ f xs vs ys ws t. outcome evaluatedGives evaluatedGives-is (λ zs. giving (evaluateNumber f xs vs ys ws) []) _,
@@ -52,7 +52,8 @@ determinacy = (
   λ file. equation _,
   λ file. equation _,
   λ T. equation _,
-  λ T. answer calmGives calmGives-is _,
+  λ T. answer whetherGives whetherGives-is _,
+  λ T. answer whetherGives whetherGives-is _,
   λ T id. answer indexGives indexGives-is _,
   λ T side i port. answer valueGives valueGives-is _,
   λ v. equation _,

@@ -15,7 +15,7 @@ use Rattle.tables.specs.Tables.{Tables, answerGives}
 use Rattle.simulator.specs.declared.Ran.{Ran}
 use Rattle.questions.specs.declared.Listed.{Listed}
 use Rattle.simulator.specs.Calls.{ranGives, Runs}
-use Rattle.questions.specs.Questions.{calmGives, indexGives, valueGives, listGives}
+use Rattle.questions.specs.Questions.{whetherGives, indexGives, valueGives, listGives}
 use Rattle.look.specs.declared.Looked.{Looked}
 use Rattle.look.specs.Look.{lookGives}
 use Rattle.words.specs.Words.{countsIn, valuesIn}
@@ -105,16 +105,18 @@ module _ (few : Bool) (ws fs : List ℕ) (lent : Counts → Tables) where
         λ i. (b i .0, b i .1, v i),
       )
 
-  -- Of the engine's calls: evaluate 0, load 1, round 2, edit 3, run 4, sources 5, targets 6, look 7, check 10, calm 11, index 12, value 13.
+  -- Of the engine's calls: evaluate 0, load 1, round 2, edit 3, run 4, sources 5, targets 6, look 7, check 11, calm 12,
+  -- satisfied 13, index 14, value 15.
   pub host-determinacy : HostDeterminacy few ws fs lent
   host-determinacy = (
     λ file. changes _ (determinacy .1 file),
     λ t. changes _ (determinacy .2 t),
     λ i v. changes _ (determinacy .3 i v),
     λ t limit. runs (Runs t limit) (determinacy .4 t limit),
-    asks calmGives _ (determinacy .12),
-    λ id. asks indexGives _ (λ T. determinacy .13 T id),
-    λ side i port. asks valueGives _ (λ T. determinacy .14 T side i port),
+    asks whetherGives _ (determinacy .12),
+    asks whetherGives _ (determinacy .13),
+    λ id. asks indexGives _ (λ T. determinacy .14 T id),
+    λ side i port. asks valueGives _ (λ T. determinacy .15 T side i port),
     λ i. lists _ (λ T ls. determinacy .5 T i ls),
     λ i. lists _ (λ T ls. determinacy .6 T i ls),
     asks (λ (k : ℕ). giving k []) _ (determinacy .11),

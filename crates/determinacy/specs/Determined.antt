@@ -16,7 +16,7 @@ use Rattle.questions.specs.declared.Side.{Side}
 use Rattle.simulator.specs.Calls.{Rounds, Edits, Runs}
 use Rattle.look.specs.declared.Looked.{Looked}
 use Rattle.look.specs.Look.{Looks}
-use Rattle.questions.specs.Questions.{AsksCalm, AsksIndex, AsksValue, AsksSources, AsksTargets}
+use Rattle.questions.specs.Questions.{AsksCalm, AsksSatisfied, AsksIndex, AsksValue, AsksSources, AsksTargets}
 
 -- Two outcomes that P allows, answer and what was written, are equal.
 abbrev pub Determined : {A B : Type 0} → (A → B → Type 0) → Type 0
@@ -44,6 +44,7 @@ Determinacy =
     × ((file : List ℕ) → DeterminedAnswer (SpeaksPair file))
     × ((T : Tables) → DeterminedAnswer (Checks T))
     × ((T : Tables) → DeterminedAnswer (AsksCalm T))
+    × ((T : Tables) → DeterminedAnswer (AsksSatisfied T))
     × ((T : Tables) (id : ℕ) → DeterminedAnswer (AsksIndex T id))
     × ((T : Tables) (side : Side) (i port : ℕ) → DeterminedAnswer (AsksValue T side i port))
     × ((v : Value) → DeterminedAnswer (λ (r : Value). r ≡ v))

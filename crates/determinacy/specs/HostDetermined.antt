@@ -16,7 +16,7 @@ use Rattle.net.specs.Net.{Checks}
 use Rattle.questions.specs.declared.Side.{Side}
 use Rattle.questions.specs.declared.Listed.{Listed}
 use Rattle.simulator.specs.Calls.{Rounds, Edits, Runs}
-use Rattle.questions.specs.Questions.{calmGives, AsksCalm, indexGives, AsksIndex, valueGives, AsksValue, AsksSources, AsksTargets}
+use Rattle.questions.specs.Questions.{whetherGives, AsksCalm, AsksSatisfied, indexGives, AsksIndex, valueGives, AsksValue, AsksSources, AsksTargets}
 use Rattle.look.specs.declared.Looked.{Looked}
 use Rattle.look.specs.Look.{Looks}
 use Rattle.words.specs.Words.{countsIn}
@@ -55,7 +55,8 @@ module _ (few : Bool) (ws fs : List ℕ) (lent : Counts → Tables) where
       × ((i v : ℕ) → ChangesDetermined (Edits i v))
       × ((t limit r s : ℕ) (a b c d : List ℕ) (f g : Counts → Tables) → CallRuns (Runs t limit) few ws a fs c lent f r
       → CallRuns (Runs t limit) few ws b fs d lent g s → (r ≡ s) × (a ≡ b) × (c ≡ d) × (f (countsIn a) ≡ g (countsIn b)))
-      × AsksDetermined calmGives AsksCalm
+      × AsksDetermined whetherGives AsksCalm
+      × AsksDetermined whetherGives AsksSatisfied
       × ((id : ℕ) → AsksDetermined indexGives (λ T. AsksIndex T id))
       × ((side : Side) (i port : ℕ) → AsksDetermined valueGives (λ T. AsksValue T side i port))
       × ((i : ℕ) → ListsDetermined (λ T. AsksSources T i))

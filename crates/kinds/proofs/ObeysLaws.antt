@@ -17,7 +17,7 @@ use Rattle.kinds.specs.declared.Seen.the-variants.{Known, Kept, Unknown}
 use Rattle.kinds.specs.declared.table.Fields.{Fields}
 use Rattle.kinds.specs.declared.table.Span.{Span}
 use Rattle.kinds.specs.declared.table.Row.{Row}
-use Rattle.kinds.specs.Kinds.{numberOf, seenAs, forCustom, unknown, kindOf, primitive, row, rowOf, _to_, spans, obeys}
+use Rattle.kinds.specs.Kinds.{numberOf, seenAs, forCustom, unknown, kindOf, primitive, mostPorts, row, rowOf, _to_, spans, obeys}
 use Rattle.kinds.proofs.KindsLaws.{isKind, kindOf-numberOf, seenAs-kind}
 
 -- x lies in a span.
@@ -92,6 +92,24 @@ row-bits f Joiner r = (refl, bits (f .parameter) (r .parameter))
 row-bits f Clock r = (refl, refl)
 row-bits f Const r = (refl, bits (f .width) (r .width))
 row-bits f Majority r = (refl, refl)
+
+-- No component has more ports than the most.
+pub row-few : (k : Kind) (f : Fields) → InRow (row k (f .width) (f .parameter)) f → (f .inputs ≤ mostPorts) × (f .outputs ≤ mostPorts)
+row-few Composite f r = (omega (arith, r .inputs .most), omega (arith, r .outputs .most))
+row-few And f r = (omega (arith, r .inputs .most), omega (arith, r .outputs .most))
+row-few Or f r = (omega (arith, r .inputs .most), omega (arith, r .outputs .most))
+row-few Not f r = (omega (arith, r .inputs .most), omega (arith, r .outputs .most))
+row-few Nand f r = (omega (arith, r .inputs .most), omega (arith, r .outputs .most))
+row-few Nor f r = (omega (arith, r .inputs .most), omega (arith, r .outputs .most))
+row-few Xor f r = (omega (arith, r .inputs .most), omega (arith, r .outputs .most))
+row-few Switch f r = (omega (arith, r .inputs .most), omega (arith, r .outputs .most))
+row-few Input f r = (omega (arith, r .inputs .most), omega (arith, r .outputs .most))
+row-few Output f r = (omega (arith, r .inputs .most), omega (arith, r .outputs .most))
+row-few Splitter f r = (omega (arith, r .inputs .most), omega (arith, r .outputs .most, r .parameter .most))
+row-few Joiner f r = (omega (arith, r .inputs .most, r .parameter .most), omega (arith, r .outputs .most))
+row-few Clock f r = (omega (arith, r .inputs .most), omega (arith, r .outputs .most))
+row-few Const f r = (omega (arith, r .inputs .most), omega (arith, r .outputs .most))
+row-few Majority f r = (omega (arith, r .inputs .most), omega (arith, r .outputs .most))
 
 -- A primitive of kind k that obeys the table lies in the row of k.
 pub obeyed-row : (f : Fields) (k : Kind) → (primitive f && obeys f) ≡ true → f .kind ≡ numberOf k

@@ -7,7 +7,7 @@
 -- Assumes nothing.
 use mathlib.Core.Path.{_≡_, refl, sym, ap, _∙_, subst}
 use mathlib.Core.Logic.{_⊎_, inl, inr, ⊎-elim}
-use mathlib.Core.Bool.{Bool, true, false, cond, not, _||_, false≢true, true≢false}
+use mathlib.Core.Bool.{Bool, true, false, cond, not, _&&_, _||_, false≢true, true≢false}
 use mathlib.Core.List.{List, [], _∷_, _++_, map}
 use mathlib.Core.Option.{none, some}
 use Prim.Native.Nat.{ℕ, zero, suc, _+_, _≤_, _<_}
@@ -151,6 +151,10 @@ module _ {A : Type 0} where
   pub every-complete : (f : A → Bool) (xs : List A) → ((a : A) → In a xs → f a ≡ true) → every f xs ≡ true
   every-complete f [] h = refl
   every-complete f (x ∷ xs) h = rw (h x (inl refl)) (every-complete f xs (λ a u. h a (inr u)))
+
+  pub every-cong : (f g : A → Bool) (xs : List A) → ((a : A) → In a xs → f a ≡ g a) → every f xs ≡ every g xs
+  every-cong f g [] h = refl
+  every-cong f g (x ∷ xs) h = let later = every-cong f g xs (λ a u. h a (inr u)) in λ i. h x (inl refl) i && later i
 
   -- Lists without repeats.
 

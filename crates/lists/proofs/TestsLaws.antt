@@ -47,3 +47,18 @@ or-first false b h e = sym h ∙ e
 pub or-second : (a b : Bool) → b ≡ true → (a || b) ≡ true
 or-second true b e = refl
 or-second false b e = e
+
+pub or-rest : (a b : Bool) → a ≡ false → (a || b) ≡ true → b ≡ true
+or-rest true b h e = absurd (false≢true (sym h))
+or-rest false b h e = e
+
+-- One of the two holds, where the second does without the first.
+pub or-hold : (a b : Bool) → (a ≡ false → b ≡ true) → (a || b) ≡ true
+or-hold true b f = refl
+or-hold false b f = f refl
+
+-- Two tests of which each gives the other are equal.
+pub tests-equal : (a b : Bool) → (a ≡ true → b ≡ true) → (b ≡ true → a ≡ true) → a ≡ b
+tests-equal true b f h = sym (f refl)
+tests-equal false true f h = h refl
+tests-equal false false f h = refl

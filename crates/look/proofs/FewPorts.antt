@@ -6,34 +6,14 @@ use Prim.Native.Nat.{ℕ, _≤_}
 use native.Mathlib.Omega.{arith}
 use mathlib.Core.List.{List}
 use Rattle.kinds.specs.declared.table.Fields.{Fields}
-use Rattle.kinds.specs.declared.Kind.{Kind}
-use Rattle.kinds.specs.declared.Kind.the-variants.{Composite, And, Or, Not, Nand, Nor, Xor, Switch, Input, Output, Splitter, Joiner, Clock, Const, Majority}
-use Rattle.kinds.specs.Kinds.{kindOf, row, mostPorts}
-use Rattle.kinds.proofs.ObeysLaws.{InRow, obeys-row}
+use Rattle.kinds.specs.Kinds.{kindOf, mostPorts}
+use Rattle.kinds.proofs.ObeysLaws.{row-few, obeys-row}
 use Rattle.component.specs.declared.Verdict.the-variants.{Accepted}
 use Rattle.component.specs.Record.{recordAt, recordCount, fieldsOf, inputsOf, outputsOf}
 use Rattle.component.proofs.RecordLaws.{fields-cases}
 use Rattle.flatten.specs.Verdict.{verdict}
 use Rattle.flatten.proofs.Accepted.{accepted-passed}
 use Rattle.flatten.proofs.Primitives.{component-obeys}
-
--- The table of kinds allows no more.
-row-few : (k : Kind) (f : Fields) → InRow (row k (f .width) (f .parameter)) f → (f .inputs ≤ mostPorts) × (f .outputs ≤ mostPorts)
-row-few Composite f r = (omega (arith, r .inputs .most), omega (arith, r .outputs .most))
-row-few And f r = (omega (arith, r .inputs .most), omega (arith, r .outputs .most))
-row-few Or f r = (omega (arith, r .inputs .most), omega (arith, r .outputs .most))
-row-few Not f r = (omega (arith, r .inputs .most), omega (arith, r .outputs .most))
-row-few Nand f r = (omega (arith, r .inputs .most), omega (arith, r .outputs .most))
-row-few Nor f r = (omega (arith, r .inputs .most), omega (arith, r .outputs .most))
-row-few Xor f r = (omega (arith, r .inputs .most), omega (arith, r .outputs .most))
-row-few Switch f r = (omega (arith, r .inputs .most), omega (arith, r .outputs .most))
-row-few Input f r = (omega (arith, r .inputs .most), omega (arith, r .outputs .most))
-row-few Output f r = (omega (arith, r .inputs .most), omega (arith, r .outputs .most))
-row-few Splitter f r = (omega (arith, r .inputs .most), omega (arith, r .outputs .most, r .parameter .most))
-row-few Joiner f r = (omega (arith, r .inputs .most, r .parameter .most), omega (arith, r .outputs .most))
-row-few Clock f r = (omega (arith, r .inputs .most), omega (arith, r .outputs .most))
-row-few Const f r = (omega (arith, r .inputs .most), omega (arith, r .outputs .most))
-row-few Majority f r = (omega (arith, r .inputs .most), omega (arith, r .outputs .most))
 
 pub ports-few : (file : List ℕ) → verdict file ≡ Accepted → (c : ℕ)
     → (inputsOf (recordAt file c) ≤ mostPorts) × (outputsOf (recordAt file c) ≤ mostPorts)

@@ -10,15 +10,15 @@ use Rattle.value.specs.declared.Value.{Value}
 use Rattle.value.specs.Value.{level}
 use Rattle.kinds.proofs.GivenLaws.{done-values, done-declined, declined-refusal}
 use Rattle.tables.specs.declared.FlatIdx.{FlatIdx}
-use Rattle.questions.specs.declared.Calm.{Calm}
-use Rattle.questions.specs.declared.Calm.the-variants.{Is as CalmIs, Refused as NoCalm}
+use Rattle.questions.specs.declared.Whether.{Whether}
+use Rattle.questions.specs.declared.Whether.the-variants.{Is as WhetherIs, Refused as NoWhether}
 use Rattle.questions.specs.declared.Index.{Index}
 use Rattle.questions.specs.declared.Index.the-variants.{Is as IndexIs, Refused as NoIndex}
 use Rattle.questions.specs.declared.Port.{Port}
 use Rattle.questions.specs.declared.Port.the-variants.{Is as PortIs, Refused as NoPort}
 use Rattle.questions.specs.declared.Listed.{Listed}
 use Rattle.questions.specs.declared.Listed.the-variants.{Count, Refused as NotListed}
-use Rattle.questions.specs.Questions.{calmGives, indexGives, valueGives, listGives}
+use Rattle.questions.specs.Questions.{whetherGives, indexGives, valueGives, listGives}
 
 -- The value at place k, of lists of values that are the same.
 pub same-at : (k : ℕ) (xs ys : List ℕ) → xs ≡ ys → getD xs k 0 ≡ getD ys k 0
@@ -30,12 +30,12 @@ level-is true false e = absurd (omega (arith, e))
 level-is false true e = absurd (omega (arith, e))
 level-is false false e = refl
 
-pub calmGives-is : (a b : Calm) → calmGives a ≡ calmGives b → a ≡ b
-calmGives-is (CalmIs a) (CalmIs b) e =
-    ap CalmIs (level-is a b (same-at 0 (level a ∷ []) (level b ∷ []) (done-values (level a ∷ []) (level b ∷ []) e)))
-calmGives-is (CalmIs a) (NoCalm r) e = absurd (done-declined (level a ∷ []) r e)
-calmGives-is (NoCalm r) (CalmIs a) e = absurd (done-declined (level a ∷ []) r (sym e))
-calmGives-is (NoCalm r) (NoCalm s) e = ap NoCalm (declined-refusal r s e)
+pub whetherGives-is : (a b : Whether) → whetherGives a ≡ whetherGives b → a ≡ b
+whetherGives-is (WhetherIs a) (WhetherIs b) e =
+    ap WhetherIs (level-is a b (same-at 0 (level a ∷ []) (level b ∷ []) (done-values (level a ∷ []) (level b ∷ []) e)))
+whetherGives-is (WhetherIs a) (NoWhether r) e = absurd (done-declined (level a ∷ []) r e)
+whetherGives-is (NoWhether r) (WhetherIs a) e = absurd (done-declined (level a ∷ []) r (sym e))
+whetherGives-is (NoWhether r) (NoWhether s) e = ap NoWhether (declined-refusal r s e)
 
 abbrev index : ℕ → FlatIdx
 index i = record { 0 = i }

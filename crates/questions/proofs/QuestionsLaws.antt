@@ -25,15 +25,14 @@ use Rattle.net.proofs.ClausesLaws.{kindsObeyed-fit}
 use Rattle.net.proofs.NetLaws.{netNumber-net}
 use Rattle.questions.specs.declared.Side.{Side}
 use Rattle.questions.specs.declared.Side.the-variants.{Inputs, Outputs}
-use Rattle.questions.specs.declared.Calm.the-variants.{Is as CalmIs, Refused as NoCalm}
+use Rattle.questions.specs.declared.Whether.the-variants.{Is as WhetherIs, Refused as NoWhether}
 use Rattle.questions.specs.declared.Index.{Index}
 use Rattle.questions.specs.declared.Index.the-variants.{Refused as NoIndex}
 use Rattle.questions.specs.declared.Port.{Port}
 use Rattle.questions.specs.declared.Port.the-variants.{Is as PortIs, Refused as NoPort}
 use Rattle.questions.specs.declared.Listed.{Listed}
 use Rattle.questions.specs.declared.Listed.the-variants.{Count, Refused as NotListed}
-use Rattle.rounds.specs.Round.{calm}
-use Rattle.questions.specs.Questions.{ofNet, AsksCalm, indexGives, indexFound, AsksIndex, portCount, valueAt, valueGives, valueOnNet, AsksValue}
+use Rattle.questions.specs.Questions.{ofNet, whetherGives, indexGives, indexFound, AsksIndex, portCount, valueAt, valueGives, valueOnNet, AsksValue}
 use Rattle.questions.specs.Questions.{listNumber, Listing, AsksSources, AsksTargets}
 use Rattle.questions.specs.declared.Tip.{Tip}
 use Rattle.questions.specs.declared.Tip.the-variants.{Source, Target}
@@ -65,12 +64,13 @@ of-refused T g k e ne = rw (← e, ne-eqb k 0 ne)
 of-net : (T : Tables) (g : Given) → netNumber T ≡ 0 → g ≡ ofNet T g
 of-net T g z = rw z
 
--- Calm or not.
-pub calm-refused : (T : Tables) (k : ℕ) → k ≡ netNumber T → (k ≡ 0 → ⊥) → AsksCalm T (NoCalm (refusedBy k))
-calm-refused T = of-refused T (done (level (calm T) ∷ []))
+-- Whether a net has the property b: calm, satisfied.
+module _ (T : Tables) (b : Bool) where
+  pub whether-refused : (k : ℕ) → k ≡ netNumber T → (k ≡ 0 → ⊥) → whetherGives (NoWhether (refusedBy k)) ≡ ofNet T (done (level b ∷ []))
+  whether-refused = of-refused T (done (level b ∷ []))
 
-pub calm-is : (T : Tables) (b : Bool) → netNumber T ≡ 0 → b ≡ calm T → AsksCalm T (CalmIs b)
-calm-is T b z e = ap (λ (x : Bool). done (level x ∷ [])) e ∙ of-net T (done (level (calm T) ∷ [])) z
+  pub whether-is : (x : Bool) → netNumber T ≡ 0 → x ≡ b → whetherGives (WhetherIs x) ≡ ofNet T (done (level b ∷ []))
+  whether-is x z e = ap (λ (y : Bool). done (level y ∷ [])) e ∙ of-net T (done (level b ∷ [])) z
 
 -- The index of an id.
 pub index-refused : (T : Tables) (id k : ℕ) → k ≡ netNumber T → (k ≡ 0 → ⊥) → AsksIndex T id (NoIndex (refusedBy k))

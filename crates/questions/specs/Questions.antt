@@ -1,4 +1,4 @@
--- The questions: calm or not, the index of an id, a port's value, a component's sources and targets.
+-- The questions: calm or not, satisfied or not, the index of an id, a port's value, a component's sources and targets.
 -- docs/SPECIFICATION.md, "Numbers given back". They change no table.
 use mathlib.Core.Path.{_≡_}
 use Prim.Native.Nat.{ℕ}
@@ -15,8 +15,8 @@ use Rattle.kinds.specs.Given.{Given, done, declined, refusedBy, giving}
 use Rattle.tables.specs.Tables.{Tables, fieldsAt, endAt, inputPlace, outputPlace, sources, targets, indexOf}
 use Rattle.questions.specs.declared.Side.{Side}
 use Rattle.questions.specs.declared.Side.the-variants.{Inputs, Outputs}
-use Rattle.questions.specs.declared.Calm.{Calm}
-use Rattle.questions.specs.declared.Calm.the-variants.{Is as CalmIs, Refused as NoCalm}
+use Rattle.questions.specs.declared.Whether.{Whether}
+use Rattle.questions.specs.declared.Whether.the-variants.{Is as WhetherIs, Refused as NoWhether}
 use Rattle.questions.specs.declared.Index.{Index}
 use Rattle.questions.specs.declared.Index.the-variants.{Is as IndexIs, Refused as NoIndex}
 use Rattle.questions.specs.declared.Port.{Port}
@@ -25,19 +25,24 @@ use Rattle.questions.specs.declared.Listed.{Listed}
 use Rattle.questions.specs.declared.Listed.the-variants.{Count, Refused as NotListed}
 use Rattle.net.specs.Net.{netNumber, onNet}
 use Rattle.rounds.specs.Round.{calm}
+use Rattle.judging.specs.Judged.{judgedNamed}
 
 -- What a question gives of any tables, where it gives g of a net: 2, 16.
 abbrev pub ofNet : Tables → Given → Given
 ofNet T g = cond (eqb (netNumber T) 0) g (declined (refusedBy (netNumber T)))
 
--- What each answer gives: calm or not.
-abbrev pub calmGives : Calm → Given
-calmGives (CalmIs b) = done (level b ∷ [])
-calmGives (NoCalm r) = declined r
+-- What each answer gives: whether something is so.
+abbrev pub whetherGives : Whether → Given
+whetherGives (WhetherIs b) = done (level b ∷ [])
+whetherGives (NoWhether r) = declined r
 
 -- The promise of `is_calm`.
-abbrev pub AsksCalm : Tables → Calm → Type 0
-AsksCalm T r = calmGives r ≡ ofNet T (done (level (calm T) ∷ []))
+abbrev pub AsksCalm : Tables → Whether → Type 0
+AsksCalm T r = whetherGives r ≡ ofNet T (done (level (calm T) ∷ []))
+
+-- The promise of `is_satisfied`.
+abbrev pub AsksSatisfied : Tables → Whether → Type 0
+AsksSatisfied T r = whetherGives r ≡ ofNet T (done (level (judgedNamed T) ∷ []))
 
 -- An index.
 abbrev pub indexGives : Index → Given

@@ -1,4 +1,5 @@
-// The questions: calm or not, the index of an id, a port's value, a component's sources and targets. They change no table of a net.
+// The questions: calm or not, satisfied or not, the index of an id, a port's value, a component's sources and targets. They change no table
+// of a net.
 // Rule: docs/SPECIFICATION.md, "Numbers given back". Source: flatten.rs, `id_to_idx`, `deps`, `inv_deps`; the others are added.
 ghost use mathlib.Core.Path.{_≡_};
 ghost use mathlib.Core.Bool.{cond};
@@ -10,9 +11,10 @@ ghost use Rattle.lists.specs.Lists.{from, first, overlay};
 ghost use Rattle.tables.specs.Tables.{tablesOf};
 ghost use Rattle.tables.specs.Words.{RowInside, RowsInside, WiresInside, noCounts, uncounted, idIn};
 ghost use Rattle.net.specs.Parts.{lent};
-ghost use Rattle.questions.specs.Questions.{AsksCalm, indexGives, indexFound, AsksIndex, portCount, valueAt, valueGives, valueOnNet, AsksValue};
-ghost use Rattle.questions.specs.Questions.{listNumber, Listing, AsksSources, AsksTargets};
+ghost use Rattle.questions.specs.Questions.{AsksCalm, AsksSatisfied, indexGives, indexFound, AsksIndex, portCount, valueAt, valueGives};
+ghost use Rattle.questions.specs.Questions.{valueOnNet, AsksValue, listNumber, Listing, AsksSources, AsksTargets};
 ghost use Rattle.questions.specs.Asked.{compAt, endOf, meets, met, markedBelow, RowRight};
+use judging::net_satisfied;
 use kinds::Id;
 use kinds::Refusal;
 use kinds::refused_by;
@@ -28,8 +30,8 @@ pub enum Side {
     Outputs,
 }
 
-// Calm or not.
-pub enum Calm {
+// Whether something is so.
+pub enum Whether {
     Is(bool),
     Refused(Refusal),
 }
@@ -293,7 +295,7 @@ pub fn is_calm(
     following: &[u16],
     standing: &[u16],
     counts: Counts,
-) -> Calm
+) -> Whether
     ensures { λ r.
         let before = tablesOf (now (components .entry)) (now (inputs .entry)) (now (outputs .entry)) (now (wires .entry))
         (now (current .entry)) (now (following .entry)) (now (standing .entry)) counts in
@@ -310,9 +312,50 @@ pub fn is_calm(
         counts,
     );
     if number != 0 {
-        return Calm::Refused(refused_by(number));
+        return Whether::Refused(refused_by(number));
     }
-    Calm::Is(net_calm(components, current, following, standing, counts))
+    Whether::Is(net_calm(components, current, following, standing, counts))
+}
+
+// Satisfied or not: whether the values are right at the components that the lists name and at the wires that leave them.
+pub fn is_satisfied(
+    components: &[u64],
+    inputs: &[u64],
+    outputs: &[u64],
+    wires: &[u16],
+    current: &[u16],
+    following: &[u16],
+    standing: &[u16],
+    counts: Counts,
+) -> Whether
+    ensures { λ r.
+        let before = tablesOf (now (components .entry)) (now (inputs .entry)) (now (outputs .entry)) (now (wires .entry))
+        (now (current .entry)) (now (following .entry)) (now (standing .entry)) counts in
+        ⌜ AsksSatisfied before r ⌝ }
+{
+    let number = net::net_number(
+        components,
+        inputs,
+        outputs,
+        wires,
+        current,
+        following,
+        standing,
+        counts,
+    );
+    if number != 0 {
+        return Whether::Refused(refused_by(number));
+    }
+    Whether::Is(net_satisfied(
+        components,
+        inputs,
+        outputs,
+        wires,
+        current,
+        following,
+        standing,
+        counts,
+    ))
 }
 
 // The index of an id.

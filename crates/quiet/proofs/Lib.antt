@@ -4,5 +4,6 @@ pub mod Invariant
 pub mod EditInvariant
 pub mod Since
 pub mod Obeyed
+pub mod Judged
 pub mod Third
 pub mod Runs

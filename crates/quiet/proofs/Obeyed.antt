@@ -75,7 +75,7 @@ module _ (T : Tables) (ran : Bool) (t : ℕ) (e : netNumber T ≡ 0) (a : Unbrok
   held = net-held T e
 
   -- A component that an evaluation would leave as it is follows its function, a Switch aside.
-  fits-follows : (i : ℕ) → i < T .counts .components → is Switch (fieldsAt T i) ≡ false → Fits T t (stateOf T) i
+  pub fits-follows : (i : ℕ) → i < T .counts .components → is Switch (fieldsAt T i) ≡ false → Fits T t (stateOf T) i
       → Follows T t i
   fits-follows i h s f = by-const (is Const (fieldsAt T i)) refl
     where

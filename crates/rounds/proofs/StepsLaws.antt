@@ -98,14 +98,15 @@ module _ (T : Tables) (ins outs : List ℕ) (i : ℕ) (v : CanEvaluate T ins out
     abbrev ys : List ℕ
     ys = take (b + f .outputs - b) (drop b outs)
 
-    xs-are : xs ≡ inputsAt T ins i
-    xs-are = part-numbers ins a (f .inputs) ∙ rw (ef, ea)
+    -- The part of the inputs that is lent is the component's own.
+    pub lent-inputs-are : xs ≡ inputsAt T ins i
+    lent-inputs-are = part-numbers ins a (f .inputs) ∙ rw (ef, ea)
 
     ys-are : ys ≡ outputsAt T outs i
     ys-are = part-numbers outs b (f .outputs) ∙ rw (ef, eb)
 
     pub lent-own : Own f xs ys
-    lent-own = rw (xs-are, ys-are, ef) all-own
+    lent-own = rw (lent-inputs-are, ys-are, ef) all-own
 
     -- The table of outputs with the part put back.
     pub outputs-put : (t : ℕ) (zs : List ℕ) → zs ≡ outputsAfter f xs ys t
@@ -113,7 +114,7 @@ module _ (T : Tables) (ins outs : List ℕ) (i : ℕ) (v : CanEvaluate T ins out
         ≡ sets outs (firstOutput T i) (outputsAfter (fieldsAt T i) (inputsAt T ins i) (outputsAt T outs i) t)
     outputs-put t zs e =
         let w = outputsAfter (fieldsAt T i) (inputsAt T ins i) (outputsAt T outs i) t in
-        let z : zs ≡ w = e ∙ rw (xs-are, ys-are, ef) in
+        let z : zs ≡ w = e ∙ rw (lent-inputs-are, ys-are, ef) in
         let l : length w ≡ fieldsAt T i .outputs =
         outputsAfter-length (fieldsAt T i) (inputsAt T ins i) (outputsAt T outs i) t all-own in
         let h : b ≤ b + f .outputs = omega arith in

@@ -14,12 +14,12 @@ use Rattle.tables.specs.declared.Counts.{Counts}
 use Rattle.tables.specs.declared.Answer.{Answer}
 use Rattle.tables.specs.Tables.{Tables, currentList, countsAfter}
 use Rattle.net.specs.Net.{netNumber}
-use Rattle.questions.specs.declared.Calm.{Calm}
-use Rattle.questions.specs.declared.Calm.the-variants.{Is as CalmIs}
+use Rattle.questions.specs.declared.Whether.{Whether}
+use Rattle.questions.specs.declared.Whether.the-variants.{Is as WhetherIs}
 use Rattle.rounds.specs.Round.{calm}
 use Rattle.simulator.specs.Calls.{roundTables, Rounds}
 use Rattle.questions.specs.Questions.{AsksCalm}
-use Rattle.questions.proofs.AnswersLaws.{calmGives-is}
+use Rattle.questions.proofs.AnswersLaws.{whetherGives-is}
 use Rattle.simulator.proofs.CallsLaws.{counted}
 use Rattle.simulator.proofs.Kept.{roundTables-net}
 use Rattle.text.proofs.TextLaws.{ToCome, begun, put-piece}
@@ -29,14 +29,14 @@ use Rattle.running.specs.Running.{ending, roundLines}
 use Rattle.running.specs.Made.{RoundMade, calmOf}
 
 -- Asked of a net, whether it is calm is answered.
-calm-net : (W : Tables) → netNumber W ≡ 0 → (q : Calm) → AsksCalm W q → calmOf q ≡ calm W
+calm-net : (W : Tables) → netNumber W ≡ 0 → (q : Whether) → AsksCalm W q → calmOf q ≡ calm W
 calm-net W z q e =
     let g = done (level (calm W) ∷ []) in
-    ap calmOf (calmGives-is q (CalmIs (calm W)) (e ∙ ap (λ (j : ℕ). cond (eqb j 0) g (declined (refusedBy j))) z))
+    ap calmOf (whetherGives-is q (WhetherIs (calm W)) (e ∙ ap (λ (j : ℕ). cond (eqb j 0) g (declined (refusedBy j))) z))
 
 -- One round: the counts are those of the answer, and calm is asked of the tables that are left.
 module _ (T U : Tables) (net : netNumber T ≡ 0) where
-  pub rounded : (a : Answer) (m : Counts) (q : Calm) (b : Bool) → Rounds 0 T a (counted U (countsAfter a (T .counts)))
+  pub rounded : (a : Answer) (m : Counts) (q : Whether) (b : Bool) → Rounds 0 T a (counted U (countsAfter a (T .counts)))
       → m ≡ countsAfter a (T .counts) → AsksCalm (counted U m) q → b ≡ calmOf q → RoundMade T (counted U m) b
   rounded a m q b p d f g =
       let made : counted U m ≡ roundTables T 0 = ap (counted U) d ∙ p .1 in

@@ -3,15 +3,15 @@
 use mathlib.Core.Path.{_≡_}
 use mathlib.Core.Bool.{Bool, true}
 use Rattle.tables.specs.Tables.{Tables}
-use Rattle.questions.specs.declared.Calm.{Calm}
-use Rattle.questions.specs.declared.Calm.the-variants.{Is as CalmIs, Refused as NoCalm}
+use Rattle.questions.specs.declared.Whether.{Whether}
+use Rattle.questions.specs.declared.Whether.the-variants.{Is as WhetherIs, Refused as NoWhether}
 use Rattle.rounds.specs.Round.{calm}
 use Rattle.simulator.specs.Calls.{roundTables}
 
 -- Calm or not; a refusal, which a net never gets, ends the rounds.
-abbrev pub calmOf : Calm → Bool
-calmOf (CalmIs b) = b
-calmOf (NoCalm x) = true
+abbrev pub calmOf : Whether → Bool
+calmOf (WhetherIs b) = b
+calmOf (NoWhether x) = true
 
 -- What the function of one round promises: U are the tables after a round of T at time 0, and c says whether it left calm.
 pub record RoundMade (T U : Tables) (c : Bool) : Type 0 where

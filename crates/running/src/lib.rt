@@ -7,7 +7,7 @@ ghost use Rattle.net.specs.Net.{netNumber};
 ghost use Rattle.text.specs.Text.{Puts};
 ghost use Rattle.running.specs.Running.{ending, roundLines};
 ghost use Rattle.running.specs.Made.{RoundMade, calmOf};
-use questions::Calm;
+use questions::Whether;
 use tables::Answer;
 use tables::Counts;
 
@@ -31,10 +31,10 @@ fn counts_of(answer: Answer, before: Counts) -> Counts
 }
 
 // Calm or not; after a refusal there is nothing more to run.
-fn calm_of(answer: Calm) -> bool
+fn calm_of(answer: Whether) -> bool
     ensures { λ r. ⌜ r ≡ calmOf answer ⌝ }
 {
-    let Calm::Is(calm) = answer else {
+    let Whether::Is(calm) = answer else {
         return true;
     };
     calm

@@ -6,15 +6,15 @@ ghost use Rattle.lists.specs.Lists.{overlay};
 ghost use Rattle.value.specs.Value.{level};
 ghost use Rattle.primitive.specs.Evaluate.{evaluatedGives};
 ghost use Rattle.simulator.specs.Calls.{ranGives};
-ghost use Rattle.questions.specs.Questions.{calmGives, indexGives, valueGives, listGives};
+ghost use Rattle.questions.specs.Questions.{whetherGives, indexGives, valueGives, listGives};
 ghost use Rattle.words.specs.Words.{valuesIn, sideOf};
 use crate::counts::lay;
 use primitive::Evaluated;
-use questions::Calm;
 use questions::Index;
 use questions::Listed;
 use questions::Port;
 use questions::Side;
+use questions::Whether;
 use simulator::Ran;
 
 // A number, as a call says it. Crate asking calls it for a number of the engine's, which are below 65,536.
@@ -43,18 +43,18 @@ fn level_of(high: bool) -> u64
     if high { 1 } else { 0 }
 }
 
-// The word of an answer, calm or not. A refusal lays nothing. Crate asking calls it where the lent words have room, as it does the functions of the
-// other questions.
-pub fn lay_calm(found: &mut [u64], answer: Calm) -> u32
-    requires { ⌜ (1 ≤ length (now found)) × (calmGives answer .number < 65536) ⌝ }
-    ensures { λ r. ⌜ (r ≡ 65536 * calmGives answer .number) × (now (found .exit) ≡ overlay (valuesIn (calmGives answer)) (now (found .entry))) ⌝ }
+// The word of an answer whether something is so: 1 or 0. A refusal lays nothing. Crate asking calls it where the lent words have room, as it
+// does the functions of the other questions.
+pub fn lay_whether(found: &mut [u64], answer: Whether) -> u32
+    requires { ⌜ (1 ≤ length (now found)) × (whetherGives answer .number < 65536) ⌝ }
+    ensures { λ r. ⌜ (r ≡ 65536 * whetherGives answer .number) × (now (found .exit) ≡ overlay (valuesIn (whetherGives answer)) (now (found .entry))) ⌝ }
 {
     match answer {
-        Calm::Is(calm) => {
-            found[0] = level_of(calm);
+        Whether::Is(so) => {
+            found[0] = level_of(so);
             0
         }
-        Calm::Refused(refusal) => 65536 * refusal.number,
+        Whether::Refused(refusal) => 65536 * refusal.number,
     }
 }
 

@@ -60,5 +60,5 @@ fn missing<W: Write>(random: &mut Random, stream: &mut Stream<W>, count: u16) ->
     let index = random.below(count.max(1) as u64) as u16;
     let port = random.pick(&[64, 65, 256, 65_535]);
     stream.put(Command::Value { side: random.below(2) as u8, index, port })?;
-    stream.put(Command::Calm)
+    stream.put_all([Command::Calm, Command::Satisfied])
 }

@@ -1,4 +1,4 @@
-//! Loads, each with rounds, edits, runs until calm and the question of calm.
+//! Loads, each with rounds, edits, runs until calm and the question of calm; after each, satisfied or not.
 
 use super::drawing::{drawing, file_of, running_profile};
 use super::judge::bad_file;
@@ -17,12 +17,12 @@ pub fn one<W: Write>(random: &mut Random, stream: &mut Stream<W>) -> Result<()> 
 
 /// One accepted file, and calls on it.
 pub fn run<W: Write>(random: &mut Random, stream: &mut Stream<W>, file: Vec<u8>) -> Result<()> {
-    stream.put_all([Command::Load(file), Command::State])?;
+    stream.put_all([Command::Load(file), Command::Satisfied, Command::State])?;
     let mut time = first_time(random);
     for _ in 0..random.between(3, 25) {
         time = next_time(random, time);
         let command = step(random, &stream.program.tables, time);
-        stream.put_all([command, Command::State])?;
+        stream.put_all([command, Command::Satisfied, Command::State])?;
         if random.once_in(40) {
             stream.put(Command::All)?;
         }

@@ -64,6 +64,7 @@ fn every_call<W: Write>(random: &mut Random, stream: &mut Stream<W>) -> Result<(
         edit(random, &stream.program.tables),
         Command::Run { time, limit: random.pick(&[0, 1, 5]) },
         Command::Calm,
+        Command::Satisfied,
         Command::Index { id: id as u32 },
         Command::Value { side: random.below(2) as u8, index, port },
         Command::Sources { index },
@@ -121,7 +122,7 @@ fn other_net<W: Write>(random: &mut Random, stream: &mut Stream<W>) -> Result<()
     stream.put_all([Command::Net, Command::State])?;
     every_call(random, stream)?;
     for _ in 0..random.below(6) {
-        stream.put_all([Command::Round { time: random.below(30) }, Command::State])?;
+        stream.put_all([Command::Round { time: random.below(30) }, Command::Satisfied, Command::State])?;
     }
     Ok(())
 }

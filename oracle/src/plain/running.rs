@@ -57,11 +57,17 @@ pub fn round(tables: &mut Tables, time: u64) {
 }
 
 fn evaluate(tables: &mut Tables, index: u64, time: u64) {
+    let first_output = entry(tables, index).first_output as usize;
+    let after = evaluated(tables, index, time);
+    tables.words[OUTPUTS][first_output..][..after.len()].copy_from_slice(&after);
+}
+
+/// The outputs that an evaluation of a component gives.
+fn evaluated(tables: &Tables, index: u64, time: u64) -> Vec<u64> {
     let Entry { fields, first_input, first_output, .. } = entry(tables, index);
     let inputs = &tables.words[INPUTS][first_input as usize..][..fields.inputs as usize];
     let outputs = &tables.words[OUTPUTS][first_output as usize..][..fields.outputs as usize];
-    let after = outputs_after(&fields, inputs, outputs, time);
-    tables.words[OUTPUTS][first_output as usize..][..after.len()].copy_from_slice(&after);
+    outputs_after(&fields, inputs, outputs, time)
 }
 
 fn send(tables: &mut Tables, wire: &[u64; 4], following: &mut Vec<u64>) {
@@ -98,6 +104,44 @@ pub fn calm(tables: &Tables) -> bool {
     let only_clocks =
         |list: usize| tables.used(list).iter().all(|index| entry(tables, *index).fields.kind == CLOCK);
     [CURRENT, FOLLOWING, STANDING].into_iter().all(only_clocks)
+}
+
+/// Which components are judged, and with them the wires that leave them.
+#[derive(Clone, Copy, PartialEq)]
+pub enum Judged {
+    /// "components named in the three lists"
+    Named,
+    All,
+}
+
+/// "every wire agrees and every component other than a Switch or Clock has the outputs of
+/// its function", of those that are judged.
+pub fn satisfied(tables: &Tables, judged: Judged) -> bool {
+    let named =
+        |index: u64| [CURRENT, FOLLOWING, STANDING].iter().any(|list| tables.used(*list).contains(&index));
+    let judged = |index: u64| judged == Judged::All || named(index);
+    let aside = |index: u64| [SWITCH, CLOCK].contains(&entry(tables, index).fields.kind);
+    wires(tables).iter().all(|wire| !judged(wire[0]) || agrees(tables, wire))
+        && (0..tables.counts[COMPONENTS])
+            .all(|index| !judged(index) || aside(index) || follows(tables, index, 0))
+}
+
+/// Whether each Clock has its output at a time.
+pub fn clocks_follow(tables: &Tables, time: u64) -> bool {
+    (0..tables.counts[COMPONENTS])
+        .filter(|index| entry(tables, *index).fields.kind == CLOCK)
+        .all(|index| follows(tables, index, time))
+}
+
+fn agrees(tables: &Tables, wire: &[u64; 4]) -> bool {
+    let output = entry(tables, wire[0]).first_output + wire[1];
+    let input = entry(tables, wire[2]).first_input + wire[3];
+    tables.words[OUTPUTS][output as usize] == tables.words[INPUTS][input as usize]
+}
+
+fn follows(tables: &Tables, index: u64, time: u64) -> bool {
+    let after = evaluated(tables, index, time);
+    tables.words[OUTPUTS][entry(tables, index).first_output as usize..][..after.len()] == after
 }
 
 /// The index of an id that exists.

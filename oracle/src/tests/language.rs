@@ -16,11 +16,11 @@ fn printed(input: &[u8]) -> String {
 #[test]
 fn bad_commands_end_the_program() {
     assert_eq!(printed(b""), "");
-    assert_eq!(printed(b"Q"), "bad command\n");
+    assert_eq!(printed(b"?"), "bad command\n");
     assert_eq!(printed(b"CR\0\0\0"), "calm 0 1\nbad command\n");
     assert_eq!(printed(b"J\x05\0\0\0abc"), "bad command\n");
     assert_eq!(printed(b"H\x05\0\0\0abc"), "bad command\n");
-    assert_eq!(printed(b"CQC"), "calm 0 1\nbad command\n");
+    assert_eq!(printed(b"C?C"), "calm 0 1\nbad command\n");
     let mut evaluate = vec![b'X', 7, 0, 0, 1, 0, 0, 0];
     evaluate.extend([0; 16]);
     evaluate.extend([1, 1]);

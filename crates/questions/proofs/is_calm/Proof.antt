@@ -2,8 +2,9 @@
 -- Assumes nothing.
 use mathlib.Core.Path.{_∙_}
 use Rattle.tables.specs.Tables.{Tables, tablesOf}
+use Rattle.rounds.specs.Round.{calm}
 use Rattle.rounds.proofs.RoundLaws.{net-listed, calm-lists}
-use Rattle.questions.proofs.QuestionsLaws.{calm-refused, calm-is}
+use Rattle.questions.proofs.QuestionsLaws.{whether-refused, whether-is}
 use Rattle.net.proofs.NetLaws.{passed-net}
 use borrow.Author.Needs.{needs}
 use Rattle.questions.proofs.is_calm.Statement.{statement}
@@ -16,13 +17,10 @@ came s =
     (a .following .now)
     (a .standing .now) (a .counts)
 
-abbrev start : tie.Else1 → tie.Start
-start c = c .before .before .before .before .before .before .before .before .before
-
 returns : tie.Need-returns
 returns c =
     let s = c .before .before .before .before .before .before .before .before .before .before in
-    rw (c .refused-by .ensures) (calm-refused (came s) _ (c .before .before .net-number .ensures) (c .before .if1 .taken))
+    rw (c .refused-by .ensures) (whether-refused (came s) (calm (came s)) _ (c .before .before .net-number .ensures) (c .before .if1 .taken))
 
 net-calm-requires : tie.Need-net-calm-requires
 net-calm-requires c κs =
@@ -32,7 +30,7 @@ net-calm-requires c κs =
 returns-2 : tie.Need-returns-2
 returns-2 c =
     let s = c .before .before .before .before .before .before .before .before .before .before in
-    calm-is (came s) _ (passed-net (came s) _ (c .before .before .net-number .ensures) (c .before .if1 .left)) (c .net-calm .ensures ∙ calm-lists (came s))
+    whether-is (came s) (calm (came s)) _ (passed-net (came s) _ (c .before .before .net-number .ensures) (c .before .if1 .left)) (c .net-calm .ensures ∙ calm-lists (came s))
 
 pub is-calm-spec : {M : Type 1} → statement M
 is-calm-spec = tie.close (tie.spec (λ c κs. search needs) (λ c κs. search needs) returns net-calm-requires returns-2)

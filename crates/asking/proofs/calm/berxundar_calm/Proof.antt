@@ -3,10 +3,11 @@
 use mathlib.Core.Path.{_∙_}
 use Rattle.tables.specs.declared.Counts.{Counts}
 use Rattle.tables.specs.Tables.{Tables, tablesOf}
-use Rattle.questions.specs.Questions.{calmGives, AsksCalm}
+use Rattle.rounds.specs.Round.{calm}
+use Rattle.questions.specs.Questions.{whetherGives, AsksCalm}
 use Rattle.words.proofs.PlainLaws.{plain-fits, plain-spoken}
 use Rattle.words.proofs.SaidLaws.{enough-found}
-use Rattle.asking.proofs.AskingLaws.{calm-plain, ask-short, ask-made}
+use Rattle.asking.proofs.AskingLaws.{whether-plain, ask-short, ask-made}
 use borrow.Author.Needs.{needs}
 use Rattle.asking.proofs.calm.berxundar_calm.Statement.{statement}
 use Rattle.asking.proofs.calm.berxundar_calm.Tie as tie
@@ -22,11 +23,11 @@ returns : tie.Need-returns
 returns c =
     ask-short _ _ _ _ _ _ (c .if1 .taken)
 
-lay-calm-requires : tie.Need-lay-calm-requires
-lay-calm-requires c κs =
+lay-whether-requires : tie.Need-lay-whether-requires
+lay-whether-requires c κs =
     let s = c .before .before .before .before .before .before .before .before .before .before .before .before .before in (
       enough-found (s .args .counts .now) (s .args .found .now) 1 (c .before .before .before .if1 .left),
-      plain-fits (calmGives (c .before .is-calm .result)) (calm-plain (came s (c .before .before .counts-in .result)) (c .before .is-calm .result) (c .before .is-calm .ensures)),
+      plain-fits (whetherGives (c .before .is-calm .result)) (whether-plain (came s (c .before .before .counts-in .result)) (calm (came s (c .before .before .counts-in .result))) (c .before .is-calm .result) (c .before .is-calm .ensures)),
     )
 
 returns-2 : tie.Need-returns-2
@@ -34,12 +35,12 @@ returns-2 c =
     let s = c .before .before .before .before .before .before .before .before .before .before .before .before .before .before .before .before in
     let m = c .before .before .before .before .before .counts-in in
     let r = c .before .before .before .before .is-calm in
-    let k = c .before .before .lay-calm in
-    let p = calm-plain (came s (m .result)) (r .result) (r .ensures) in
-    ask-made calmGives (AsksCalm) _ (s .args .counts .now) (s .args .found .now) (came s) (r .result) (m .result) (k .last .0) (k .result)
-    (c .before .before .before .before .before .before .if1 .left) (m .ensures) (r .ensures) (k .ensures .0 ∙ plain-spoken (calmGives (r .result)) p) (k .ensures .1)
+    let k = c .before .before .lay-whether in
+    let p = whether-plain (came s (m .result)) (calm (came s (m .result))) (r .result) (r .ensures) in
+    ask-made whetherGives (AsksCalm) _ (s .args .counts .now) (s .args .found .now) (came s) (r .result) (m .result) (k .last .0) (k .result)
+    (c .before .before .before .before .before .before .if1 .left) (m .ensures) (r .ensures) (k .ensures .0 ∙ plain-spoken (whetherGives (r .result)) p) (k .ensures .1)
 
 pub berxundar-calm-spec : {M : Type 1} → statement M
 berxundar-calm-spec =
     tie.close
-    (tie.spec returns (λ c κs. search needs) (λ c κs. search needs) lay-calm-requires (λ c. search needs) returns-2)
+    (tie.spec returns (λ c κs. search needs) (λ c κs. search needs) lay-whether-requires (λ c. search needs) returns-2)

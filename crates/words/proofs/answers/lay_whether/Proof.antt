@@ -1,17 +1,17 @@
--- `lay_calm`: the answer's values at the front of the words, or nothing.
+-- `lay_whether`: the answer's values at the front of the words, or nothing.
 -- Assumes nothing.
 use Prim.Native.Nat.{_<_}
 use native.Mathlib.Omega.{arith}
-use Rattle.questions.specs.declared.Calm.the-variants.{Refused}
-use Rattle.questions.specs.Questions.{calmGives}
+use Rattle.questions.specs.declared.Whether.the-variants.{Refused}
+use Rattle.questions.specs.Questions.{whetherGives}
 use Rattle.words.proofs.WordsLaws.{one-laid, none-laid}
 use borrow.Author.Needs.{needs}
-use Rattle.words.proofs.answers.lay_calm.Statement.{statement}
-use Rattle.words.proofs.answers.lay_calm.Tie as tie
+use Rattle.words.proofs.answers.lay_whether.Statement.{statement}
+use Rattle.words.proofs.answers.lay_whether.Tie as tie
 
 mul-result : tie.Need-mul-result
 mul-result c =
-    let h : calmGives (Refused (c .before .before .answer2 .given .0 .0)) .number < 65536 = rw (c .before .before .answer2 .given .1) at (c .before .before .before .before .before .pre .1) in
+    let h : whetherGives (Refused (c .before .before .answer2 .given .0 .0)) .number < 65536 = rw (c .before .before .answer2 .given .1) at (c .before .before .before .before .before .pre .1) in
     omega arith
 
 returns : tie.Need-returns
@@ -24,8 +24,8 @@ returns-2 c =
     let e = c .before .before .answer2 .given .1 in
     (rw e, rw e (none-laid (c .before .before .before .before .before .args .found .now)))
 
-pub lay-calm-spec : {M : Type 1} → statement M
-lay-calm-spec =
+pub lay-whether-spec : {M : Type 1} → statement M
+lay-whether-spec =
     tie.close
     (tie.spec
     (λ c. search needs)
