@@ -2,7 +2,7 @@
 -- Assumes nothing.
 use mathlib.Core.Path.{_≡_, refl, sym, ap, _∙_, subst}
 use mathlib.Core.Logic.{⊎-elim}
-use mathlib.Core.Bool.{Bool, true, false, not, _&&_, _||_, false≢true}
+use mathlib.Core.Bool.{Bool, true, false, not, _&&_, _||_, and-true, or-false, false≢true}
 use mathlib.Core.List.{List, [], _∷_, _++_, append-assoc}
 use Prim.Native.Nat.{ℕ, _+_, _-_, _≤_, _<_}
 use native.Mathlib.Nat.{add-zero}
@@ -62,11 +62,7 @@ listed-again marks xs x h l n =
   where
     by-test : (y : ℕ) (b : Bool) → eqb y x ≡ b → (has y xs || (eqb y x || false)) ≡ has y xs
     by-test y true q = rw (eqb-true y x q, listed-there marks xs x h l n)
-    by-test y false q = rw q (either (has y xs))
-      where
-        either : (c : Bool) → (c || false) ≡ c
-        either true = refl
-        either false = refl
+    by-test y false q = rw q (or-false (has y xs))
 
 -- A loop over the entries of a list that marks each.
 pub listed-entry : (marks t xs : List ℕ) (k i : ℕ) → k < length t → i ≡ getD t k 0 → IsListed marks ((xs ++ take k t) ++ (i ∷ []))
@@ -278,10 +274,6 @@ module _ (T : Tables) (z : netNumber T ≡ 0) where
       ∙ sym (and-true (every namedWire (wiresIn T)))
       ∙ ap (λ (d : Bool). every namedWire (wiresIn T) && d) (sym components)
     where
-      and-true : (a : Bool) → (a && true) ≡ a
-      and-true true = refl
-      and-true false = refl
-
       in-list : (l : List ℕ) (i : ℕ) → true ≡ every (componentAgrees T) l → has i l ≡ true → componentAgrees T i ≡ true
       in-list l i q h = every-sound (componentAgrees T) i l (sym q) (has-sound i l h)
 
