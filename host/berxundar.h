@@ -175,7 +175,7 @@ static inline const char *berxundar_words(uint32_t answer_or_number)
     }
 }
 
-/* ---- The fourteen calls, with every pointer and its length in entries of the pointer's type. What is marked `const` is only
+/* ---- The fifteen calls, with every pointer and its length in entries of the pointer's type. What is marked `const` is only
  * read; the numbers behind a colon are those of the refusals that a call can give. ---- */
 
 /* Judges the bytes of a file as a load would, without tables: 1, 3 to 15. Two records that enter one input are 13 here, whatever
@@ -231,9 +231,9 @@ uint32_t berxundar_calm(
     const uint16_t *following, size_t following_length, const uint16_t *standing, size_t standing_length, const uint64_t *counts,
     size_t counts_length, uint64_t *found, size_t found_length);
 
-/* found[0] is 1 where each component that a list names, Switches and Clocks aside, has the outputs of its function of its inputs, and
- * each wire that leaves a component named has one number at both ends; else 0: 2, 16. `found` has 1 entry or more. See WHEN TO
- * LIGHT. Where the lists name nothing it costs what `berxundar_check` does. */
+/* found[0] is 1 where each component that a list names, Switches and Clocks aside, has the outputs of its function of its inputs,
+ * and each wire that leaves a component named has one number at both ends; else 0: 2, 16. `found` has 1 entry or more. See WHEN
+ * TO LIGHT. Where the lists name nothing it costs hardly more than `berxundar_check`. */
 uint32_t berxundar_satisfied(
     const uint64_t *components, size_t components_length, const uint64_t *inputs, size_t inputs_length, const uint64_t *outputs,
     size_t outputs_length, const uint16_t *wires, size_t wires_length, const uint16_t *current, size_t current_length,

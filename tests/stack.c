@@ -91,7 +91,8 @@ static const struct {
 } calls[] = { { "judge", judge, 32000 }, { "judge a pair", judge_pair, 32000 }, { "load", load, 32000 },
     { "look at the root", look, 49152 }, { "look inside", look_inside, 49152 }, { "round", run_round, 10000 },
     { "run until calm", run, 10000 }, { "edit", edit, 10000 }, { "calm", calm, 10000 }, { "satisfied", satisfied, 10000 },
-    { "index", index_of, 10000 }, { "value", value, 10000 }, { "sources", sources, 10000 }, { "targets", targets, 10000 }, { "check", check, 10000 },
+    { "index", index_of, 10000 }, { "value", value, 10000 }, { "sources", sources, 10000 }, { "targets", targets, 10000 },
+    { "check", check, 10000 },
     { "evaluate", evaluate, 10000 } };
 
 int main(void)
