@@ -234,7 +234,7 @@ impl Program {
         if let (0, Some(Reached { last_round })) = (number, self.reached) {
             let all = self.judge_values(Judged::All);
             assert_eq!(satisfied, all, "judging what the lists name, and judging all");
-            let clocks = last_round.is_none_or(|time| running::clocks_follow(&self.tables, time));
+            let clocks = last_round.map_or(true, |time| running::clocks_follow(&self.tables, time));
             assert_eq!(satisfied, all && clocks, "satisfied, Clocks at the last round's time");
         }
         line(lines, "satisfied", [number, satisfied as u64]);

@@ -194,21 +194,23 @@ module _ (T : Tables) (z : netNumber T ≡ 0) where
   pub standing-judge : (j : ℕ) → j < T .counts .standing → CanJudge (lent (T .components) (T .inputs) (T .outputs) [] noCounts) (getD (T .standing) j 0)
   standing-judge = entry-judge (T .counts .standing) (T .standing) (standing-in T z) (netNumber-net T z .standing)
 
--- From the lists and the wires to the answer.
-module _ (T : Tables) (z : netNumber T ≡ 0) where
-  abbrev namedWire : Wire → Bool
+-- What is judged of a wire and of a component where only what the lists name is.
+module _ (T : Tables) where
+  abbrev pub namedWire : Wire → Bool
   namedWire w = not (named T (w .src .comp .0)) || wireAgrees T w
 
-  abbrev namedComponent : ℕ → Bool
+  abbrev pub namedComponent : ℕ → Bool
   namedComponent i = not (named T i) || componentAgrees T i
 
+-- From the lists and the wires to the answer.
+module _ (T : Tables) (z : netNumber T ≡ 0) where
   -- Where the lists name nothing, nothing is judged.
   pub none-judged : T .counts .current + T .counts .following + T .counts .standing ≡ 0 → true ≡ judgedNamed T
   unfolding judgedNamed
   none-judged e =
-      sym (and-both (every namedWire (wiresIn T)) (every namedComponent (indexes T))
-      (every-complete namedWire (wiresIn T) (λ w m. rw (none (w .src .comp .0))))
-      (every-complete namedComponent (indexes T) (λ i m. rw (none i))))
+      sym (and-both (every (namedWire T) (wiresIn T)) (every (namedComponent T) (indexes T))
+      (every-complete (namedWire T) (wiresIn T) (λ w m. rw (none (w .src .comp .0))))
+      (every-complete (namedComponent T) (indexes T) (λ i m. rw (none i))))
     where
       none : (i : ℕ) → named T i ≡ false
       none i =
@@ -227,7 +229,7 @@ module _ (T : Tables) (z : netNumber T ≡ 0) where
       agree q =
           every-complete (componentAgrees T) l
           (λ i m. or-rest (not (named T i)) (componentAgrees T i) (ap not (within i (has-complete i l m)))
-          (every-sound namedComponent i (indexes T) (and-right (every namedWire (wiresIn T)) (every namedComponent (indexes T)) q)
+          (every-sound (namedComponent T) i (indexes T) (and-right (every (namedWire T) (wiresIn T)) (every (namedComponent T) (indexes T)) q)
           (from0-complete (T .counts .components) i (names-existing T l n i m))))
 
       by-test : (b : Bool) → judgedNamed T ≡ b → false ≡ judgedNamed T
@@ -271,8 +273,8 @@ module _ (T : Tables) (z : netNumber T ≡ 0) where
   unfolding judgedNamed
   wires-decide c f s b e =
       e ∙ (λ k. every (λ (w : Wire). not (all-named (w .src .comp .0) k) || wireAgrees T w) (wiresIn T))
-      ∙ sym (and-true (every namedWire (wiresIn T)))
-      ∙ ap (λ (d : Bool). every namedWire (wiresIn T) && d) (sym components)
+      ∙ sym (and-true (every (namedWire T) (wiresIn T)))
+      ∙ ap (λ (d : Bool). every (namedWire T) (wiresIn T) && d) (sym components)
     where
       in-list : (l : List ℕ) (i : ℕ) → true ≡ every (componentAgrees T) l → has i l ≡ true → componentAgrees T i ≡ true
       in-list l i q h = every-sound (componentAgrees T) i l (sym q) (has-sound i l h)
@@ -282,7 +284,7 @@ module _ (T : Tables) (z : netNumber T ≡ 0) where
           ⊎-elim (λ u. ⊎-elim (in-list (currentList T) i c) (in-list (followingList T) i f) (or-cases (inCurrent i) (inFollowing i) u))
           (in-list (standingList T) i s) (or-cases (inCurrent i || inFollowing i) (inStanding i) h)
 
-      components : every namedComponent (indexes T) ≡ true
+      components : every (namedComponent T) (indexes T) ≡ true
       components =
-          every-complete namedComponent (indexes T)
+          every-complete (namedComponent T) (indexes T)
           (λ i m. or-hold (not (named T i)) (componentAgrees T i) (λ q. in-lists i (not-false (named T i) q)))

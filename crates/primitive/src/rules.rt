@@ -159,8 +159,8 @@ fn update_as(kind: Kind, f: Fields, inputs: &[u64], outputs: &mut [u64], time: u
     }
 }
 
-// Evaluates a component that obeys the table of kinds over its own ports and no others. `evaluate` calls it, and crate rounds
-// does for each component of a round: both have tested what it requires.
+// Evaluates a component that obeys the table of kinds over its own ports and no others. `evaluate` calls it, crate rounds does for
+// each component of a round, and crate judging for each that it judges: all have tested what it requires.
 pub fn update(f: Fields, inputs: &[u64], outputs: &mut [u64], time: u64)
     requires { ⌜ Own f (now inputs) (now outputs) ⌝ }
     ensures { λ _. ⌜ now (outputs .exit) ≡ outputsAfter f (now (inputs .entry)) (now (outputs .entry)) time ⌝ }

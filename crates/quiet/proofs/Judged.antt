@@ -27,6 +27,7 @@ use Rattle.rounds.proofs.Ports.{numbers-at, numbers-length}
 use Rattle.rounds.proofs.Evaluation.{is-other, const-outputs, outputsAfter-time, outputsAfter-function, functionOf-const}
 use Rattle.rounds.proofs.Sound.{Sound, inputsEnd, outputsEnd, net-sound}
 use Rattle.judging.specs.Judged.{wireAgrees, hasOutputs, componentAgrees, judgedAll, judgedNamed}
+use Rattle.judging.proofs.JudgingLaws.{namedWire, namedComponent}
 use Rattle.quiet.proofs.Invariant.{clocked, Fits, Awaits}
 use Rattle.quiet.proofs.Since.{Unbroken}
 use Rattle.quiet.proofs.Obeyed.{Follows, SatisfiedAt, ObeyedAt, fits-follows, unbroken-obeyed}
@@ -117,21 +118,15 @@ module _ (T : Tables) (obeyed : (i : ℕ) → i < T .counts .components → (pri
   abbrev allComponents : Bool
   allComponents = every (componentAgrees T) (indexes T)
 
-  abbrev namedWire : Wire → Bool
-  namedWire w = not (named T (w .src .comp .0)) || wireAgrees T w
-
-  abbrev namedComponent : ℕ → Bool
-  namedComponent i = not (named T i) || componentAgrees T i
-
   abbrev namedWires : Bool
-  namedWires = every namedWire (wiresIn T)
+  namedWires = every (namedWire T) (wiresIn T)
 
   abbrev namedComponents : Bool
-  namedComponents = every namedComponent (indexes T)
+  namedComponents = every (namedComponent T) (indexes T)
 
   -- What demand 3 names is all that judging can find.
   module _ (ran : Bool) (t : ℕ) (o : ObeyedAt T ran t) where
-    wire-named : (w : Wire) → In w (wiresIn T) → namedWire w ≡ true → wireAgrees T w ≡ true
+    wire-named : (w : Wire) → In w (wiresIn T) → namedWire T w ≡ true → wireAgrees T w ≡ true
     wire-named w m e = by-test (wireAgrees T w) refl
       where
         by-test : (b : Bool) → wireAgrees T w ≡ b → wireAgrees T w ≡ true
@@ -140,7 +135,7 @@ module _ (T : Tables) (obeyed : (i : ℕ) → i < T .counts .components → (pri
             let k : named T (w .src .comp .0) ≡ true = o .differing w m (λ p. true≢false (sym (eq-eqb _ _ p) ∙ q)) in
             or-rest (not (named T (w .src .comp .0))) (wireAgrees T w) (ap not k) e
 
-    component-named : (i : ℕ) → i < n → namedComponent i ≡ true → componentAgrees T i ≡ true
+    component-named : (i : ℕ) → i < n → namedComponent T i ≡ true → componentAgrees T i ≡ true
     component-named i h e = or-hold (isAside T i) (hasOutputs T i) (λ q. by-test q (hasOutputs T i) refl)
       where
         by-test : isAside T i ≡ false → (b : Bool) → hasOutputs T i ≡ b → hasOutputs T i ≡ true
@@ -158,17 +153,17 @@ module _ (T : Tables) (obeyed : (i : ℕ) → i < T .counts .components → (pri
         up e =
             and-both allWires allComponents
             (every-complete (wireAgrees T) (wiresIn T)
-            (λ w m. wire-named w m (every-sound namedWire w (wiresIn T) (and-left namedWires namedComponents e) m)))
+            (λ w m. wire-named w m (every-sound (namedWire T) w (wiresIn T) (and-left namedWires namedComponents e) m)))
             (every-complete (componentAgrees T) (indexes T)
-            (λ i m. component-named i (from0-sound n i m) (every-sound namedComponent i (indexes T) (and-right namedWires namedComponents e) m)))
+            (λ i m. component-named i (from0-sound n i m) (every-sound (namedComponent T) i (indexes T) (and-right namedWires namedComponents e) m)))
 
         down : judgedAll T ≡ true → judgedNamed T ≡ true
         down e =
             and-both namedWires namedComponents
-            (every-complete namedWire (wiresIn T)
+            (every-complete (namedWire T) (wiresIn T)
             (λ w m. or-second (not (named T (w .src .comp .0))) (wireAgrees T w)
             (every-sound (wireAgrees T) w (wiresIn T) (and-left allWires allComponents e) m)))
-            (every-complete namedComponent (indexes T)
+            (every-complete (namedComponent T) (indexes T)
             (λ i m. or-second (not (named T i)) (componentAgrees T i)
             (every-sound (componentAgrees T) i (indexes T) (and-right allWires allComponents e) m)))
 

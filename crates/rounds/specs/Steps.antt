@@ -1,4 +1,4 @@
--- What the steps of a round are handed, and what a net gives them. Only contracts of functions of this crate cite it.
+-- What the steps of a round are handed, and what a net gives them. Only contracts of functions inside our crates cite it.
 --   wiring             the components and the wires, which no round writes
 --   stateAt            the ports and the two lists that a round changes as it goes; no step reads the current list
 --   CanEvaluate, CanSend   component i can be evaluated; wire w can be sent along, and its target appended

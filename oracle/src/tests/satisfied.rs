@@ -2,7 +2,9 @@
 
 use super::{answer, component, connection, lamp};
 use crate::command::Command;
-use crate::gen::drawing::file_of;
+use crate::gen::drawing::{drawing, file_of, running_profile};
+use crate::gen::random::Random;
+use crate::gen::rounds::edit;
 use crate::plain::drawing::Record;
 use crate::program::Program;
 use crate::tables::{CURRENT, FOLLOWING, INPUTS, OUTPUTS, STANDING};
@@ -118,4 +120,40 @@ fn it_is_refused_with_2_and_16() {
     assert_eq!(satisfied(&mut program), "satisfied 16 0\n");
     answer(&mut program, Command::Lend { table: 3, words: 4095 });
     assert_eq!(satisfied(&mut program), "satisfied 2 0\n");
+}
+
+/// Once a round has left a drawing satisfied, rounds at the same time change no value, and
+/// three of them leave calm.
+#[test]
+fn three_rounds_at_the_same_time_leave_calm() {
+    let mut random = Random::new(6);
+    let mut settled = 0;
+    for _ in 0..300 {
+        let profile = running_profile(&mut random);
+        let mut program = loaded(&drawing(&mut random, profile));
+        let time = random.below(50);
+        for _ in 0..random.below(4) {
+            let command = edit(&mut random, &program.tables);
+            answer(&mut program, command);
+            round(&mut program, time);
+        }
+        for _ in 0..40 {
+            round(&mut program, time);
+            if satisfied(&mut program) == YES {
+                break;
+            }
+        }
+        if satisfied(&mut program) == NO {
+            continue;
+        }
+        let values = (program.tables.used(INPUTS).to_vec(), program.tables.used(OUTPUTS).to_vec());
+        for _ in 0..3 {
+            round(&mut program, time);
+            assert_eq!(satisfied(&mut program), YES);
+        }
+        assert_eq!(values, (program.tables.used(INPUTS).to_vec(), program.tables.used(OUTPUTS).to_vec()));
+        assert_eq!(answer(&mut program, Command::Calm), "calm 0 1\n");
+        settled += 1;
+    }
+    assert!(100 < settled, "{settled} of 300 settle");
 }
