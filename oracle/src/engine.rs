@@ -7,16 +7,32 @@ use crate::plain::look::Shown;
 use crate::plain::net::{entries, Entry};
 use crate::plain::running::Judged;
 use crate::plain::single::PortValue;
-use crate::primitive::{in_logix, kind_words, primitive};
+use crate::primitive::{bits_between, in_logix, kind_words, primitive};
 use crate::tables::{Tables, COMPONENTS, CURRENT, FOLLOWING, INPUTS, OUTPUTS, STANDING, WIRES};
 use logix::component::{Component, ComponentBuilder, Conn};
 use logix::flatten::FlattenComponent;
 use logix::primitives::primitive::{ExtraInfo, Primitive, PrimitiveComponent};
-use logix::simulator::{SimState, Simulator};
+use logix::simulator::{SimState, Simulator, Watch};
 use logix::Data;
 
 pub struct Engine {
     simulator: Simulator,
+}
+
+/// The outputs of each component that a pass updates, before its update and after.
+struct Watched {
+    befores: Vec<Vec<Data>>,
+    afters: Vec<Vec<Data>>,
+}
+
+impl Watch for Watched {
+    fn before(&mut self, outputs: &[Data]) {
+        self.befores.push(outputs.to_vec());
+    }
+
+    fn after(&mut self, outputs: &[Data]) {
+        self.afters.push(outputs.to_vec());
+    }
 }
 
 /// The nested component that a drawing's component draws. Where an input is
@@ -135,9 +151,12 @@ impl Engine {
         });
     }
 
-    /// One pass of logix's loop.
-    pub fn round(&mut self, time: u64) {
-        self.simulator.pass(time as u128);
+    /// One pass of logix's loop: the bits of each component updated.
+    pub fn round(&mut self, time: u64) -> Vec<u64> {
+        let mut watched = Watched { befores: vec![], afters: vec![] };
+        self.simulator.watched_pass(time as u128, &mut watched);
+        let updates = watched.befores.iter().zip(&watched.afters);
+        updates.map(|(before, after)| bits_between(before, after)).collect()
     }
 
     /// How many components the next round evaluates.

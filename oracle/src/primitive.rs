@@ -52,8 +52,9 @@ pub fn kind_words(primitive: &Primitive) -> (u64, u64, u64) {
     }
 }
 
-/// The outputs of a component whose fields and values were found right, of a kind that logix has.
-pub fn evaluated(single: &Single) -> Vec<u64> {
+/// The outputs of a component whose fields and values were found right, of a kind that logix has,
+/// and its bits.
+pub fn evaluated(single: &Single) -> (Vec<u64>, u64) {
     let mut component = PrimitiveComponent {
         id: 0,
         name: String::new(),
@@ -61,8 +62,17 @@ pub fn evaluated(single: &Single) -> Vec<u64> {
         inputs: own_values(&single.inputs, single.fields.inputs),
         outputs: own_values(&single.outputs, single.fields.outputs),
     };
+    let before = component.outputs.clone();
     component.update(single.time as u128);
-    component.outputs.iter().map(|data| data.value as u64).collect()
+    let bits = bits_between(&before, &component.outputs);
+    (component.outputs.iter().map(|data| data.value as u64).collect(), bits)
+}
+
+/// Bit i is set where output i is another value after an update than before.
+pub fn bits_between(before: &[Data], after: &[Data]) -> u64 {
+    assert_eq!(before.len(), after.len(), "an update keeps the outputs' number");
+    let changed = (0..before.len()).filter(|port| before[*port] != after[*port]);
+    changed.fold(0, |bits, port| bits | 1 << port)
 }
 
 /// The values of the component's own ports.

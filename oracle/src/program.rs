@@ -7,18 +7,18 @@
 use crate::command::{Command, Single, FILE_KEPT};
 use crate::engine::Engine;
 use crate::io::{Channel, Stop};
-use crate::plain::calls::{edit_number, index_number, load_verdict};
-use crate::plain::calls::{neighbours_number, round_number, value_number};
+use crate::plain::calls::{edit_number, index_number, load_verdict, neighbours_number};
+use crate::plain::calls::{net_number, round_number, value_number};
 use crate::plain::drawing::{records, Drawing, Id};
 use crate::plain::host::{first_answer, second_answer};
 use crate::plain::judge::{judge, words};
 use crate::plain::look::{look, Shown};
-use crate::plain::rules::outputs_after;
+use crate::plain::rules::{moved, outputs_after};
 use crate::plain::running::{self, Judged};
 use crate::plain::single::{single_number, PortValue};
 use crate::primitive::{evaluated, in_logix};
 use crate::tables::{
-    Tables, ANSWER, COMPONENTS, CURRENT, FOLLOWING, INPUTS, NUMBERS, OUTPUTS, STANDING, WIDTHS, WIRES,
+    Tables, ANSWER, COMPONENTS, CURRENT, FOLLOWING, INPUTS, MOVED, NUMBERS, OUTPUTS, STANDING, WIDTHS, WIRES,
 };
 use std::fmt::{Debug, Write as _};
 use std::io::{Read, Result, Write};
@@ -152,26 +152,34 @@ impl Program {
 
     fn round(&mut self, time: u64, lines: &mut String) {
         let number = round_number(&self.tables);
-        if number == 0 {
-            self.one_round(time);
-        }
-        line(lines, "round", [number, 0]);
+        let bits = match number {
+            0 => self.one_round(time),
+            _ => vec![],
+        };
+        self.tables.lay(MOVED, &bits);
+        line(lines, "round", [number, 0].into_iter().chain(bits));
     }
 
-    fn one_round(&mut self, time: u64) {
-        self.change(|engine| engine.round(time), |tables| running::round(tables, time));
+    /// A round: the bits of each component evaluated.
+    fn one_round(&mut self, time: u64) -> Vec<u64> {
+        let bits = self.change(|engine| engine.round(time), |tables| running::round(tables, time));
         if let Some(reached) = &mut self.reached {
             reached.last_round = Some(time);
         }
+        bits
     }
 
-    /// Does something to a net, the tables included, in both codings.
-    fn change(&mut self, logix: impl FnOnce(&mut Engine), plain: impl FnOnce(&mut Tables)) {
+    /// Does something to a net, the tables included, in both codings, which must give the same.
+    fn change<T: Debug + PartialEq>(
+        &mut self,
+        logix: impl FnOnce(&mut Engine) -> T,
+        plain: impl FnOnce(&mut Tables) -> T,
+    ) -> T {
         let mut second = self.tables.clone();
-        plain(&mut second);
+        let given = plain(&mut second);
         match self.engine() {
             Some(engine) => {
-                logix(engine);
+                assert_eq!(logix(engine), given, "what a change gives in both codings");
                 if let Some(engine) = &mut self.engine {
                     engine.write_state(&mut self.tables);
                 }
@@ -179,6 +187,7 @@ impl Program {
             None => self.tables = second.clone(),
         }
         assert_eq!(self.tables, second, "a change in both codings");
+        given
     }
 
     /// Asks something of a net, in both codings.
@@ -207,21 +216,22 @@ impl Program {
 
     /// Rounds one by one, at least one unless the limit is 0, until one leaves calm.
     fn run_until_calm(&mut self, time: u64, limit: u16, lines: &mut String) {
-        let number = round_number(&self.tables);
-        let (mut rounds, mut evaluations) = (0, 0);
+        let number = net_number(&self.tables);
+        let (mut rounds, mut evaluations, mut moved) = (0, 0, 0);
         while number == 0 && rounds < limit as u64 {
             evaluations += self.ask(Engine::current_length, |tables| tables.counts[CURRENT]);
-            self.one_round(time);
+            let bits = self.one_round(time);
+            moved += bits.iter().map(|bits| bits.count_ones() as u64).sum::<u64>();
             rounds += 1;
             if self.ask(Engine::calm, running::calm) {
                 break;
             }
         }
-        line(lines, "run", [number, rounds, evaluations]);
+        line(lines, "run", [number, rounds, evaluations, moved]);
     }
 
     fn calm(&mut self, lines: &mut String) {
-        let number = round_number(&self.tables);
+        let number = net_number(&self.tables);
         let calm = number == 0 && self.ask(Engine::calm, running::calm);
         line(lines, "calm", [number, calm as u64]);
     }
@@ -229,7 +239,7 @@ impl Program {
     /// The named ones are judged. In tables that calls have reached from a load the answer is
     /// that of judging all, and after a round that of judging the Clocks at its time as well.
     fn satisfied(&mut self, lines: &mut String) {
-        let number = round_number(&self.tables);
+        let number = net_number(&self.tables);
         let satisfied = number == 0 && self.judge_values(Judged::Named);
         if let (0, Some(Reached { last_round })) = (number, self.reached) {
             let all = self.judge_values(Judged::All);
@@ -340,10 +350,11 @@ impl Program {
     }
 }
 
-/// `evaluate N V V ..`: where refused, the numbers that came in.
+/// `evaluate N BITS V V ..`: where refused, 0 and the numbers that came in.
 fn evaluate(single: &Single, lines: &mut String) {
     let number = single_number(&single.fields, &single.inputs, &single.outputs);
     let mut outputs: Vec<u64> = single.outputs.iter().map(|value| value.number).collect();
+    let mut bits = 0;
     if number == 0 {
         let own = |values: &[PortValue], ports: u64| -> Vec<u64> {
             values[..ports as usize].iter().map(|value| value.number).collect()
@@ -352,12 +363,13 @@ fn evaluate(single: &Single, lines: &mut String) {
         let (own_inputs, own_outputs) =
             (own(&single.inputs, fields.inputs), own(&single.outputs, fields.outputs));
         let new = outputs_after(fields, &own_inputs, &own_outputs, single.time);
-        if in_logix(fields) {
-            assert_eq!(evaluated(single), new, "an evaluation in both codings");
-        }
+        bits = moved(&own_outputs, &new);
         outputs[..new.len()].copy_from_slice(&new);
+        if in_logix(fields) {
+            assert_eq!(evaluated(single), (new, bits), "an evaluation in both codings");
+        }
     }
-    line(lines, "evaluate", std::iter::once(number).chain(outputs));
+    line(lines, "evaluate", [number, bits].into_iter().chain(outputs));
 }
 
 /// One line: a word, then numbers, separated by single blanks.

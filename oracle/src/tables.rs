@@ -9,19 +9,20 @@ pub const CURRENT: usize = 4;
 pub const FOLLOWING: usize = 5;
 pub const STANDING: usize = 6;
 /// The lists lent for an answer, which are no tables of the net: of sources and
-/// targets; of a look, its numbers and its widths.
+/// targets; of a look, its numbers and its widths; of a round, which outputs moved.
 pub const ANSWER: usize = 7;
 pub const NUMBERS: usize = 8;
 pub const WIDTHS: usize = 9;
+pub const MOVED: usize = 10;
 /// How many tables there are in all.
-pub const ALL: usize = 10;
+pub const ALL: usize = 11;
 
 /// Words of an entry.
 pub const ENTRY_WORDS: [usize; 7] = [8, 1, 1, 4, 1, 1, 1];
 /// "Full size: 256 components, 1,024 inputs, 1,024 outputs, 1,024 wires, three lists of 256."
 pub const FULL_ENTRIES: [u64; 7] = [256, 1_024, 1_024, 1_024, 256, 256, 256];
-/// Full size in words; the last three are the lists lent for an answer.
-pub const FULL_WORDS: [usize; ALL] = [2_048, 1_024, 1_024, 4_096, 256, 256, 256, 256, 256, 256];
+/// Full size in words; the last four are the lists lent for an answer.
+pub const FULL_WORDS: [usize; ALL] = [2_048, 1_024, 1_024, 4_096, 256, 256, 256, 256, 256, 256, 256];
 /// What each word holds at the program's start.
 const FIRST_WORD: u64 = 7;
 
@@ -44,7 +45,7 @@ impl Tables {
     /// The greatest word that the table's type holds.
     fn word_max(table: usize) -> u64 {
         match table {
-            COMPONENTS | INPUTS | OUTPUTS | NUMBERS | WIDTHS => u64::MAX,
+            COMPONENTS | INPUTS | OUTPUTS | NUMBERS | WIDTHS | MOVED => u64::MAX,
             _ => u16::MAX as u64,
         }
     }

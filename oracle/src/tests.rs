@@ -1,5 +1,5 @@
-//! Tests: the lamp drawing, the limits, records that meet, the language, and where
-//! logix and the plain coding can be laid side by side.
+//! Tests: the lamp drawing, the limits, records that meet, outputs that moved, the language,
+//! and where logix and the plain coding can be laid side by side.
 
 mod agreement;
 mod differences;
@@ -9,6 +9,7 @@ mod limits;
 mod look;
 mod marked;
 mod meet;
+mod moved;
 mod net;
 mod satisfied;
 mod votes;

@@ -4,6 +4,7 @@ use super::random::Random;
 use super::Stream;
 use crate::command::{Command, Single};
 use crate::plain::kinds::{Fields, PERIOD_MAX};
+use crate::plain::rules::outputs_after;
 use crate::plain::single::{single_number, PortValue};
 use std::io::{Result, Write};
 
@@ -26,7 +27,7 @@ fn right(random: &mut Random) -> Single {
         _ => random.any_size(),
     };
     let mut inputs = inputs(random, &fields);
-    let mut outputs = (0..fields.outputs).map(|_| fitting(random, fields.output_width())).collect();
+    let mut outputs = outputs(random, &fields, &inputs, time);
     if random.once_in(4) {
         more(random, &mut inputs);
     }
@@ -126,6 +127,24 @@ fn inputs(random: &mut Random, fields: &Fields) -> Vec<PortValue> {
         }
     }
     values
+}
+
+/// What the outputs hold before: about half of them what the evaluation leaves there, and once
+/// in five all of them.
+fn outputs(random: &mut Random, fields: &Fields, inputs: &[PortValue], time: u64) -> Vec<PortValue> {
+    let numbers = |values: &[PortValue]| values.iter().map(|value| value.number).collect::<Vec<u64>>();
+    let mut outputs: Vec<PortValue> =
+        (0..fields.outputs).map(|_| fitting(random, fields.output_width())).collect();
+    let after = outputs_after(fields, &numbers(inputs), &numbers(&outputs), time);
+    let all_kept = random.once_in(5);
+    for (value, left) in outputs.iter_mut().zip(after) {
+        if all_kept || random.once_in(2) {
+            value.number = left;
+        } else if value.number == left {
+            value.number ^= 1;
+        }
+    }
+    outputs
 }
 
 /// Half of the inputs high, or one more, or one less, anywhere among them.

@@ -11,7 +11,9 @@ use super::Stream;
 use crate::command::{Command, PATH_MAX};
 use crate::plain::drawing::{records, Id, Record, COMPONENT, CONNECTION, INPUT_MAP};
 use crate::plain::net::entries;
-use crate::tables::{Tables, ALL, ANSWER, COMPONENTS, FULL_WORDS, INPUTS, NUMBERS, OUTPUTS, WIDTHS, WIRES};
+use crate::tables::{
+    Tables, ALL, ANSWER, COMPONENTS, FULL_WORDS, INPUTS, MOVED, NUMBERS, OUTPUTS, WIDTHS, WIRES,
+};
 use std::io::{Result, Write};
 
 pub fn one<W: Write>(random: &mut Random, stream: &mut Stream<W>) -> Result<()> {
@@ -33,7 +35,7 @@ pub fn boxes<W: Write>(random: &mut Random, stream: &mut Stream<W>, drawn: &[Rec
         otherwise(random, stream, drawn)?;
         looks(random, stream)?;
     }
-    let table = random.pick(&[NUMBERS, NUMBERS, WIDTHS, WIDTHS, ANSWER, INPUTS, ALL]);
+    let table = random.pick(&[NUMBERS, NUMBERS, WIDTHS, WIDTHS, ANSWER, MOVED, INPUTS, ALL]);
     stream.put(Command::Table { table: table as u8 })
 }
 
@@ -262,7 +264,7 @@ fn swap_with_next(records: &mut Vec<Record>, at: usize) {
 
 /// A table or a list one word short, or lent not at all, or past its full size.
 fn lent_less<W: Write>(random: &mut Random, stream: &mut Stream<W>) -> Result<()> {
-    let table = random.pick(&[0, 1, 2, 3, 4, 5, 6, ANSWER, NUMBERS, NUMBERS, WIDTHS, WIDTHS]);
+    let table = random.pick(&[0, 1, 2, 3, 4, 5, 6, ANSWER, NUMBERS, NUMBERS, WIDTHS, WIDTHS, MOVED]);
     let full = FULL_WORDS[table] as u16;
     let words = random.pick(&[full - 1, full - 1, 0, full, full + 1, 65_535]);
     stream.put(Command::Lend { table: table as u8, words })?;
@@ -280,7 +282,7 @@ fn lent_less<W: Write>(random: &mut Random, stream: &mut Stream<W>) -> Result<()
 
 /// Words written into the lists for answers, past their ends too, and shown.
 fn lists_written<W: Write>(random: &mut Random, stream: &mut Stream<W>) -> Result<()> {
-    let table = random.pick(&[ANSWER, NUMBERS, WIDTHS, ALL]) as u8;
+    let table = random.pick(&[ANSWER, NUMBERS, WIDTHS, MOVED, ALL]) as u8;
     let place = random.pick(&[0, 1, 5, 250, 255, 256, 65_535]);
     let words = (0..random.below(12)).map(|_| random.pick(&[0, 7, 65_535, 65_536, u64::MAX])).collect();
     stream.put(Command::WriteWords { table, place, words })?;

@@ -1,4 +1,5 @@
-//! Loads, each with rounds, edits, runs until calm and the question of calm; after each, satisfied or not.
+//! Loads, each with rounds, edits, runs until calm and the question of calm; after each, satisfied or not;
+//! now and then the table of a round's bits, and too little of it lent.
 
 use super::drawing::{drawing, file_of, running_profile};
 use super::judge::bad_file;
@@ -6,7 +7,7 @@ use super::random::Random;
 use super::Stream;
 use crate::command::Command;
 use crate::plain::net::entries;
-use crate::tables::{Tables, WIRES};
+use crate::tables::{Tables, MOVED, WIRES};
 use std::io::{Result, Write};
 
 pub fn one<W: Write>(random: &mut Random, stream: &mut Stream<W>) -> Result<()> {
@@ -22,12 +23,38 @@ pub fn run<W: Write>(random: &mut Random, stream: &mut Stream<W>, file: Vec<u8>)
     for _ in 0..random.between(3, 25) {
         time = next_time(random, time);
         let command = step(random, &stream.program.tables, time);
+        let rounds = matches!(command, Command::Round { .. } | Command::Run { .. });
         stream.put_all([command, Command::Satisfied, Command::State])?;
+        if rounds && random.once_in(8) {
+            stream.put(BITS)?;
+        }
+        if random.once_in(20) {
+            bits_lent_less(random, stream, time)?;
+        }
         if random.once_in(40) {
             stream.put(Command::All)?;
         }
     }
     Ok(())
+}
+
+/// The table of a round's bits.
+const BITS: Command = Command::Table { table: MOVED as u8 };
+
+/// Rounds that are lent too little of the table of bits; a run until calm and an edit do not
+/// mind. Then it is whole again.
+fn bits_lent_less<W: Write>(random: &mut Random, stream: &mut Stream<W>, time: u64) -> Result<()> {
+    let words = random.pick(&[0, 1, 255, 255, 256]);
+    stream.put(Command::Lend { table: MOVED as u8, words })?;
+    stream.put_all([Command::Round { time }, Command::State])?;
+    let other = match random.below(3) {
+        0 => edit(random, &stream.program.tables),
+        1 => Command::Run { time, limit: random.pick(&[1, 2, 16]) },
+        _ => Command::Calm,
+    };
+    stream.put_all([other, Command::Round { time }, BITS])?;
+    stream.put(Command::Lend { table: MOVED as u8, words: random.pick(&[256, 257, 65_535]) })?;
+    stream.put_all([Command::Round { time }, BITS, Command::State])
 }
 
 fn first_time(random: &mut Random) -> u64 {

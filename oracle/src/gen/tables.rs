@@ -13,7 +13,8 @@ use crate::plain::kinds::PERIOD_MAX;
 use crate::plain::net::{entries, Entry};
 use crate::program::Program;
 use crate::tables::{
-    Tables, ALL, COMPONENTS, CURRENT, ENTRY_WORDS, FULL_ENTRIES, FULL_WORDS, INPUTS, OUTPUTS, STANDING, WIRES,
+    Tables, ALL, ANSWER, COMPONENTS, CURRENT, ENTRY_WORDS, FULL_ENTRIES, FULL_WORDS, INPUTS, MOVED, NUMBERS,
+    OUTPUTS, STANDING, WIDTHS, WIRES,
 };
 use std::io::{Result, Write};
 
@@ -79,7 +80,7 @@ fn every_call<W: Write>(random: &mut Random, stream: &mut Stream<W>) -> Result<(
         stream.put_all([Command::Net, Command::State])?;
     }
     stream.put(Command::All)?;
-    stream.put(Command::Table { table: random.between(7, 9) as u8 })
+    stream.put(Command::Table { table: random.pick(&[ANSWER, NUMBERS, WIDTHS, MOVED, MOVED]) as u8 })
 }
 
 /// Every table one word short, or empty, or lent past its full size.

@@ -1,5 +1,6 @@
 use crate::{flatten::FlattenComponent, primitives::primitive::Primitive};
 use asmhdl::AsmProgramUpdateType;
+use asmhdl::Data; // PATCH
 use log::debug;
 //PATCH- use rand::seq::SliceRandom;
 use std::{
@@ -8,6 +9,16 @@ use std::{
     time::{Duration, Instant},
 };
 
+/// What sees the outputs of each component that a pass updates, before its update and after. // PATCH
+pub trait Watch { // PATCH
+    fn before(&mut self, outputs: &[Data]); // PATCH
+    fn after(&mut self, outputs: &[Data]); // PATCH
+} // PATCH
+/// Nobody watches. // PATCH
+impl Watch for () { // PATCH
+    fn before(&mut self, _outputs: &[Data]) {} // PATCH
+    fn after(&mut self, _outputs: &[Data]) {} // PATCH
+} // PATCH
 pub struct SimState {
     pub comp: FlattenComponent,
     pub to_upd: Vec<usize>,
@@ -111,6 +122,10 @@ impl Simulator {
     } // PATCH
     /// One pass of the loop of `start`, as with `keep_running` true, at the time handed in. // PATCH
     pub fn pass(&mut self, time: u128) { // PATCH
+        self.watched_pass(time, &mut ()); // PATCH
+    } // PATCH
+    /// The same, watched. // PATCH
+    pub fn watched_pass(&mut self, time: u128, watch: &mut impl Watch) { // PATCH
         let state_arc = self.state.clone(); // PATCH
         { // PATCH
             let mut state = state_arc.lock().unwrap(); // PATCH
@@ -154,7 +169,9 @@ impl Simulator {
                     debug!("  Old inputs: {:?}", comp_i.inputs);
                     debug!("  Old outputs: {:?}", comp_i.outputs);
 
+                    watch.before(&comp_i.outputs); // PATCH
                     comp_i.update(time);
+                    watch.after(&comp_i.outputs); // PATCH
 
                     debug!("  New outputs: {:?}", comp_i.outputs);
 

@@ -4,7 +4,7 @@
 use super::judge::{check_1, judge_records, Refusal, Verdict};
 use super::kinds::fits;
 use super::net::{entries, is_net, Entry};
-use crate::tables::{Tables, ANSWER, FULL_WORDS, WIRES};
+use crate::tables::{Tables, ANSWER, FULL_WORDS, MOVED, WIRES};
 
 /// A load: checks 1, 2, 3 to 15.
 pub fn load_verdict(tables: &Tables, file: &[u8]) -> Verdict {
@@ -22,8 +22,16 @@ pub fn load_verdict_with(file: &[u8], short: bool) -> Verdict {
     }
 }
 
-/// A round, run until calm, the question of calm: checks 2 and 16.
+/// A round: checks 2, here with the table of bits, and 16.
 pub fn round_number(tables: &Tables) -> u64 {
+    if lent_short(tables, MOVED) {
+        return 2;
+    }
+    net_number(tables)
+}
+
+/// Run until calm, the questions of calm and of satisfied: checks 2 and 16.
+pub fn net_number(tables: &Tables) -> u64 {
     if table_short(tables) {
         2
     } else if !is_net(tables) {
@@ -44,7 +52,7 @@ pub fn edit_number(tables: &Tables, index: u16, number: u64) -> u64 {
 
 /// The index of an id: checks 2, 16, 17.
 pub fn index_number(tables: &Tables, id: u32) -> u64 {
-    let refused = round_number(tables);
+    let refused = net_number(tables);
     if refused != 0 {
         return refused;
     }
@@ -78,7 +86,7 @@ pub fn neighbours_number(tables: &Tables, index: u16) -> u64 {
 
 /// Checks 2, 16 and 17 (no component of that index), then what the call asks of it.
 fn on_component(tables: &Tables, index: u16, then: impl Fn(&Entry) -> u64) -> u64 {
-    let refused = round_number(tables);
+    let refused = net_number(tables);
     if refused != 0 {
         return refused;
     }

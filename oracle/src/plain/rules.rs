@@ -23,6 +23,12 @@ pub fn outputs_after(fields: &Fields, inputs: &[u64], outputs: &[u64], time: u64
     }
 }
 
+/// "which of its outputs changed, one bit for each port": bit i for output i.
+pub fn moved(before: &[u64], after: &[u64]) -> u64 {
+    let changed = before.iter().zip(after).map(|(before, after)| (before != after) as u64);
+    changed.rev().fold(0, |bits, bit| 2 * bits + bit)
+}
+
 fn is_high(input: &u64) -> bool {
     *input != 0
 }

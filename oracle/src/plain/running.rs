@@ -5,7 +5,7 @@
 use super::drawing::Drawing;
 use super::flat::{component_words, is_primitive, wire_words};
 use super::net::{entries, Entry};
-use super::rules::outputs_after;
+use super::rules::{moved, outputs_after};
 use crate::tables::{Tables, COMPONENTS, CURRENT, FOLLOWING, INPUTS, OUTPUTS, STANDING, WIRES};
 
 const SWITCH: u64 = 7;
@@ -38,12 +38,14 @@ pub fn load(drawing: &Drawing, tables: &mut Tables) {
 /// strike it from the standing list; then for each of its wires, in order, if output and
 /// input differ, write the input and append the target to the following list unless there.
 /// .. At the end current becomes following, and following becomes a copy of standing."
-/// The lists are put into the tables at the end alone.
-pub fn round(tables: &mut Tables, time: u64) {
+/// The lists are put into the tables at the end alone. Gives the bits of each component
+/// evaluated, in list order.
+pub fn round(tables: &mut Tables, time: u64) -> Vec<u64> {
     let mut following = tables.used(FOLLOWING).to_vec();
     let mut standing = tables.used(STANDING).to_vec();
+    let mut bits = vec![];
     for index in tables.used(CURRENT).to_vec() {
-        evaluate(tables, index, time);
+        bits.push(evaluate(tables, index, time));
         if entry(tables, index).fields.kind != CLOCK {
             standing.retain(|other| *other != index);
         }
@@ -54,12 +56,17 @@ pub fn round(tables: &mut Tables, time: u64) {
     tables.put(CURRENT, &following);
     tables.put(FOLLOWING, &standing);
     tables.put(STANDING, &standing);
+    bits
 }
 
-fn evaluate(tables: &mut Tables, index: u64, time: u64) {
+/// Evaluates a component: its bits.
+fn evaluate(tables: &mut Tables, index: u64, time: u64) -> u64 {
     let first_output = entry(tables, index).first_output as usize;
     let after = evaluated(tables, index, time);
-    tables.words[OUTPUTS][first_output..][..after.len()].copy_from_slice(&after);
+    let outputs = &mut tables.words[OUTPUTS][first_output..][..after.len()];
+    let bits = moved(outputs, &after);
+    outputs.copy_from_slice(&after);
+    bits
 }
 
 /// The outputs that an evaluation of a component gives.

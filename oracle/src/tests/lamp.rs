@@ -91,15 +91,15 @@ fn a_switch_set_after_round_2_gets_out_in_round_5() {
 }
 
 #[test]
-fn run_until_calm_gives_rounds_and_evaluations() {
+fn run_until_calm_gives_rounds_evaluations_and_outputs_moved() {
     let mut program = loaded_lamp();
-    assert_eq!(answer(&mut program, Command::Run { time: 0, limit: 0 }), "run 0 0 0\n");
-    assert_eq!(answer(&mut program, Command::Run { time: 0, limit: 16 }), "run 0 2 5\n");
-    assert_eq!(answer(&mut program, Command::Run { time: 0, limit: 16 }), "run 0 1 0\n");
+    assert_eq!(answer(&mut program, Command::Run { time: 0, limit: 0 }), "run 0 0 0 0\n");
+    assert_eq!(answer(&mut program, Command::Run { time: 0, limit: 16 }), "run 0 2 5 2\n");
+    assert_eq!(answer(&mut program, Command::Run { time: 0, limit: 16 }), "run 0 1 0 0\n");
     answer(&mut program, Command::Edit { index: 0, number: 1 });
     assert_eq!(
         answer(&mut program, Command::Run { time: 0, limit: 16 }),
-        "run 0 5 4\n",
+        "run 0 5 4 2\n",
         "the edit is waited for"
     );
 }

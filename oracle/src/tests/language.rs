@@ -5,6 +5,7 @@ use crate::command::Command;
 use crate::gen::drawing::file_of;
 use crate::plain::drawing::Id;
 use crate::program::{run, Program};
+use crate::tables::FULL_WORDS;
 
 /// What the program prints for these bytes.
 fn printed(input: &[u8]) -> String {
@@ -134,16 +135,19 @@ fn words_that_do_not_fit_are_left_out() {
     let word = |table, place, word| Command::WriteWord { table, place, word };
     answer(&mut program, word(4, 0, 65_536));
     answer(&mut program, word(4, 256, 1));
-    answer(&mut program, word(10, 0, 1));
+    answer(&mut program, word(11, 0, 1));
     answer(&mut program, word(1, 1, u64::MAX));
     answer(&mut program, word(7, 0, 65_536));
     answer(&mut program, word(8, 255, u64::MAX));
     answer(&mut program, word(9, 256, 1));
+    answer(&mut program, word(10, 0, u64::MAX));
+    answer(&mut program, word(10, 256, 1));
     assert_eq!(program.tables.words[4], vec![7; 256]);
     assert_eq!(program.tables.words[1][..3], [7, u64::MAX, 7]);
     assert_eq!(program.tables.words[7], vec![7; 256]);
     assert_eq!(program.tables.words[8][254..], [7, u64::MAX]);
     assert_eq!(program.tables.words[9], vec![7; 256]);
+    assert_eq!(program.tables.words[10][..2], [u64::MAX, 7]);
 }
 
 #[test]
@@ -155,7 +159,7 @@ fn words_are_written_one_after_the_other() {
     answer(&mut program, words(8, 254, &[u64::MAX, 1, 2]));
     assert_eq!(program.tables.words[8][253..], [7, u64::MAX, 1]);
     answer(&mut program, words(4, 65_535, &[1; 3]));
-    answer(&mut program, words(10, 0, &[1; 3]));
+    answer(&mut program, words(11, 0, &[1; 3]));
     answer(&mut program, words(4, 0, &[]));
     assert_eq!(program.tables.words[4], vec![7; 256]);
 }
@@ -164,12 +168,12 @@ fn words_are_written_one_after_the_other() {
 fn a_table_is_shown_whole_whatever_is_lent() {
     let mut program = Program::new();
     let shown = |program: &mut Program, table| answer(program, Command::Table { table });
-    for (table, words) in [2_048, 1_024, 1_024, 4_096, 256, 256, 256, 256, 256, 256].into_iter().enumerate() {
+    for (table, words) in FULL_WORDS.into_iter().enumerate() {
         answer(&mut program, Command::Lend { table: table as u8, words: 0 });
         let line = format!("table {table}{}\n", " 7".repeat(words));
         assert_eq!(shown(&mut program, table as u8), line);
     }
-    assert_eq!(shown(&mut program, 10), "no table\n");
+    assert_eq!(shown(&mut program, 11), "no table\n");
     assert_eq!(shown(&mut program, 255), "no table\n");
 }
 
@@ -235,7 +239,7 @@ fn commands_are_read_as_written() {
         command.write(&mut bytes);
     }
     let lines =
-        "judge 1 0 0\nhost 65536 4294967296\nround 0 0\nedit 17 0\nrun 0 1 0\nindex 17 0\nvalue 17 0 0\n\
+        "judge 1 0 0\nhost 65536 4294967296\nround 0 0\nedit 17 0\nrun 0 1 0 0\nindex 17 0\nvalue 17 0 0\n\
                  look 2 0 0 0 0\nno table\nnet 0 0 0 0\n";
     assert_eq!(printed(&bytes), lines);
 }

@@ -6,6 +6,9 @@ use crate::gen::drawing::file_of;
 use crate::program::Program;
 use crate::tables::{COMPONENTS, CURRENT, FOLLOWING, INPUTS, OUTPUTS, STANDING, WIRES};
 
+/// The line of the lamp's first round.
+const ROUND: &str = "round 0 0 0 0 1 1\n";
+
 fn loaded_lamp() -> Program {
     let mut program = Program::new();
     answer(&mut program, Command::Load(file_of(&lamp())));
@@ -33,9 +36,9 @@ fn each_word_of_a_component_is_looked_at_whole() {
             assert_eq!(round_after(COMPONENTS, nor + field, word), "round 16 0\n", "{field} {word}");
         }
     }
-    assert_eq!(round_after(COMPONENTS, 1, 77), "round 0 0\n", "another id");
+    assert_eq!(round_after(COMPONENTS, 1, 77), ROUND, "another id");
     assert_eq!(round_after(COMPONENTS, 27, 2), "round 16 0\n", "an Output of 2 bits on a wire of 1");
-    assert_eq!(round_after(COMPONENTS, 32, 0), "round 0 0\n", "past the count");
+    assert_eq!(round_after(COMPONENTS, 32, 0), ROUND, "past the count");
 }
 
 #[test]
@@ -54,8 +57,8 @@ fn values_wires_and_lists_are_looked_at() {
     for (table, place, word) in faults {
         assert_eq!(round_after(table, place, word), "round 16 0\n", "{table} {place} {word}");
     }
-    assert_eq!(round_after(INPUTS, 0, 1), "round 0 0\n");
-    assert_eq!(round_after(INPUTS, 3, 9), "round 0 0\n", "past the count");
+    assert_eq!(round_after(INPUTS, 0, 1), ROUND, "the Switch writes its own over it");
+    assert_eq!(round_after(INPUTS, 3, 9), ROUND, "past the count");
 }
 
 #[test]
@@ -74,8 +77,8 @@ fn counts_are_looked_at() {
         assert_eq!(round(list, 257), "round 16 0\n");
     }
     assert_eq!(round(WIRES, 1_025), "round 16 0\n");
-    assert_eq!(round(WIRES, 2), "round 0 0\n", "a wire less is a net");
-    assert_eq!(round(CURRENT, 2), "round 0 0\n", "a shorter list is a net");
+    assert_eq!(round(WIRES, 2), "round 0 0 0 0 1 0\n", "a wire less is a net");
+    assert_eq!(round(CURRENT, 2), "round 0 0 0 0\n", "a shorter list is a net");
 }
 
 #[test]
@@ -83,7 +86,7 @@ fn a_const_holds_its_value() {
     let constant = crate::plain::drawing::Record { c: 3, parameter: 5, ..component(13, 0, 0, 1, 9) };
     let mut program = Program::new();
     answer(&mut program, Command::Load(file_of(&[constant])));
-    assert_eq!(answer(&mut program, Command::Round { time: 0 }), "round 0 0\n");
+    assert_eq!(answer(&mut program, Command::Round { time: 0 }), "round 0 0 0\n");
     answer(&mut program, Command::WriteWord { table: 2, place: 0, word: 4 });
     assert_eq!(answer(&mut program, Command::Round { time: 0 }), "round 16 0\n");
 }

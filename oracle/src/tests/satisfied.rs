@@ -23,7 +23,8 @@ fn satisfied(program: &mut Program) -> String {
 }
 
 fn round(program: &mut Program, time: u64) {
-    assert_eq!(answer(program, Command::Round { time }), "round 0 0\n");
+    let line = answer(program, Command::Round { time });
+    assert!(line.starts_with("round 0 0"), "{line}");
 }
 
 fn write(program: &mut Program, table: usize, word: u64) {

@@ -73,7 +73,7 @@ fn a_kind_word_is_looked_at_whole() {
         answer(&mut program, Command::WriteWord { table: COMPONENTS as u8, place: 24, word });
         answer(&mut program, Command::Round { time: 0 })
     };
-    assert_eq!([15, 1, 6].map(round_after), ["round 0 0\n", "round 0 0\n", "round 0 0\n"]);
+    assert_eq!([15, 1, 6].map(round_after), ["round 0 0 0 0 0 0 0\n"; 3]);
     for word in [0, 14, 16, 255, 271, (1 << 32) + 15] {
         assert_eq!(round_after(word), "round 16 0\n", "{word}");
     }
