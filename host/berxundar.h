@@ -8,12 +8,12 @@
  *     if (answer != 0)
  *         printf("refused %u at %u: %s\n", berxundar_number(answer), berxundar_position(answer), berxundar_words(answer));
  *     else
- *         berxundar_net_run_until_calm(&net, time, 100, NULL, NULL);
+ *         berxundar_net_run_until_calm(&net, time, 100, NULL, NULL, NULL);
  *
  * A DRAWING FILE is a row of records of 24 bytes; docs/SPECIFICATION.md, "The drawing file", says what they hold. A load makes a
  * net of it: components (no composites, which are boxes of the drawing alone), each with inputs and outputs, joined by wires. A
- * round evaluates the components of the current list and sends what changed along the wires. An edit sets a Switch, or an Input
- * that no wire enters.
+ * round evaluates the components of the current list, sends what changed along the wires, and says which outputs moved. An edit
+ * sets a Switch, or an Input that no wire enters.
  *
  * AN ID is the number that a component has in the drawing. AN INDEX is its place in the tables, from 0. Only `berxundar_index`
  * takes an id, and `berxundar_look` ids in a row; every other call names a component by its index, and a port by its number among
@@ -77,6 +77,7 @@ extern "C" {
 #define BERXUNDAR_WIRES 1024
 #define BERXUNDAR_NAMES 256 /* of a list of components */
 #define BERXUNDAR_SHOWN 256 /* of a list of numbers, or of widths, that a look shows */
+#define BERXUNDAR_MOVED 256 /* of the bits of a round, a word for each component evaluated */
 #define BERXUNDAR_COUNTS 7
 
 /* Words of one component and of one wire, and full size in words. */
@@ -202,12 +203,14 @@ uint32_t berxundar_load(const uint8_t *bytes, size_t length,
     size_t following_length, uint16_t *standing, size_t standing_length, uint64_t *counts, size_t counts_length);
 
 /* A round at a time: 2, 16. Time is any number and may go back; a Clock is high where time modulo twice its period is past its
- * period. */
+ * period. moved[k] is which outputs changed of the component that current[k] named before the call: bit i for output i. `moved` has
+ * 256 entries or more; those past the components evaluated keep what they held. An evaluation keeps the output of a Switch, so its
+ * bit is 0 whatever an edit has set. */
 uint32_t berxundar_round(
     const uint64_t *components, size_t components_length, uint64_t *inputs, size_t inputs_length, uint64_t *outputs,
     size_t outputs_length, const uint16_t *wires, size_t wires_length, uint16_t *current, size_t current_length,
     uint16_t *following, size_t following_length, uint16_t *standing, size_t standing_length, uint64_t *counts,
-    size_t counts_length, uint64_t time);
+    size_t counts_length, uint64_t time, uint64_t *moved, size_t moved_length);
 
 /* Sets the component at an index, which is evaluated no later than in the third round after: 2, 16, 17, 18, 19. */
 uint32_t berxundar_edit(
@@ -217,7 +220,8 @@ uint32_t berxundar_edit(
     size_t counts_length, size_t index, uint64_t number);
 
 /* Rounds at a time, at least one unless `limit` is 0 and at most `limit`, until one leaves calm: 2, 16. found[0] is the rounds run,
- * found[1] the evaluations made; `found` has 2 entries or more. Whether the last round left calm is `berxundar_calm`'s to say. */
+ * found[1] the evaluations made, found[2] how many times an output changed, over all rounds; `found` has 3 entries or more. Whether
+ * the last round left calm is `berxundar_calm`'s to say. */
 uint32_t berxundar_run_until_calm(
     const uint64_t *components, size_t components_length, uint64_t *inputs, size_t inputs_length, uint64_t *outputs,
     size_t outputs_length, const uint16_t *wires, size_t wires_length, uint16_t *current, size_t current_length,
@@ -292,11 +296,12 @@ uint32_t berxundar_check(
 
 /* Evaluates one component outside any net: 7, 8, 9 (a composite gives it too), 2, 19. It is handed its fields, as a record has
  * them, the number and the width in bits of each input and of each output, and a time; the numbers of its outputs are written.
- * Each of the four lengths is at least the number of the component's ports on that side; values past them are not looked at. */
+ * Each of the four lengths is at least the number of the component's ports on that side; values past them are not looked at.
+ * found[0] is which outputs changed: bit i for output i. `found` has 1 entry or more: fewer are 2 before all other numbers. */
 uint32_t berxundar_evaluate(uint8_t kind, uint16_t inputs, uint16_t outputs, uint16_t width, uint64_t parameter,
     const uint64_t *input_numbers, size_t input_numbers_length, const uint64_t *input_widths, size_t input_widths_length,
     uint64_t *output_numbers, size_t output_numbers_length, const uint64_t *output_widths, size_t output_widths_length,
-    uint64_t time);
+    uint64_t time, uint64_t *found, size_t found_length);
 
 /* ---- A net: all tables at full size, and a short form of each call on it. 42 KiB: let it be static, or a part of a larger
  * struct, and not a variable on the stack. What a call hands back through a pointer is written only where its answer is 0. ----
@@ -326,9 +331,11 @@ static inline uint32_t berxundar_net_load(berxundar_net *net, const uint8_t *byt
     return berxundar_load(bytes, length, BERXUNDAR_LENT(net), net->counts, BERXUNDAR_COUNTS);
 }
 
-static inline uint32_t berxundar_net_round(berxundar_net *net, uint64_t time)
+/* `moved` has room for 256, or is NULL where nobody asks. */
+static inline uint32_t berxundar_net_round(berxundar_net *net, uint64_t time, uint64_t *moved)
 {
-    return berxundar_round(BERXUNDAR_LENT(net), net->counts, BERXUNDAR_COUNTS, time);
+    uint64_t unasked[BERXUNDAR_MOVED];
+    return berxundar_round(BERXUNDAR_LENT(net), net->counts, BERXUNDAR_COUNTS, time, moved ? moved : unasked, BERXUNDAR_MOVED);
 }
 
 static inline uint32_t berxundar_net_edit(berxundar_net *net, size_t index, uint64_t number)
@@ -336,16 +343,18 @@ static inline uint32_t berxundar_net_edit(berxundar_net *net, size_t index, uint
     return berxundar_edit(BERXUNDAR_LENT(net), net->counts, BERXUNDAR_COUNTS, index, number);
 }
 
-/* `rounds` and `evaluations` may be NULL. */
+/* `rounds`, `evaluations` and `moved` may be NULL. *moved is how many times an output changed, over all rounds. */
 static inline uint32_t berxundar_net_run_until_calm(berxundar_net *net, uint64_t time, uint16_t limit, uint64_t *rounds,
-    uint64_t *evaluations)
+    uint64_t *evaluations, uint64_t *moved)
 {
-    uint64_t found[2] = { 0, 0 };
-    uint32_t answer = berxundar_run_until_calm(BERXUNDAR_LENT(net), net->counts, BERXUNDAR_COUNTS, time, limit, found, 2);
+    uint64_t found[3] = { 0, 0, 0 };
+    uint32_t answer = berxundar_run_until_calm(BERXUNDAR_LENT(net), net->counts, BERXUNDAR_COUNTS, time, limit, found, 3);
     if (answer == 0 && rounds)
         *rounds = found[0];
     if (answer == 0 && evaluations)
         *evaluations = found[1];
+    if (answer == 0 && moved)
+        *moved = found[2];
     return answer;
 }
 
@@ -431,12 +440,16 @@ typedef struct berxundar_single {
     uint64_t output_widths[BERXUNDAR_PORTS];
 } berxundar_single;
 
-/* Evaluates it at a time: writes its output numbers. */
-static inline uint32_t berxundar_single_evaluate(berxundar_single *single, uint64_t time)
+/* Evaluates it at a time: writes its output numbers. *moved is which of them changed, bit i for output i; `moved` may be NULL. */
+static inline uint32_t berxundar_single_evaluate(berxundar_single *single, uint64_t time, uint64_t *moved)
 {
-    return berxundar_evaluate(single->kind, single->inputs, single->outputs, single->width, single->parameter,
+    uint64_t found = 0;
+    uint32_t answer = berxundar_evaluate(single->kind, single->inputs, single->outputs, single->width, single->parameter,
         single->input_numbers, BERXUNDAR_PORTS, single->input_widths, BERXUNDAR_PORTS, single->output_numbers, BERXUNDAR_PORTS,
-        single->output_widths, BERXUNDAR_PORTS, time);
+        single->output_widths, BERXUNDAR_PORTS, time, &found, 1);
+    if (answer == 0 && moved)
+        *moved = found;
+    return answer;
 }
 
 #ifdef __cplusplus

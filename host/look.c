@@ -115,7 +115,7 @@ static void show_ports(uint64_t settled)
 static int look(const char *name, const uint32_t *path, size_t path_length)
 {
     uint64_t settled = 0;
-    uint32_t answer = berxundar_net_run_until_calm(&net, 0, ROUNDS, NULL, NULL);
+    uint32_t answer = berxundar_net_run_until_calm(&net, 0, ROUNDS, NULL, NULL, NULL);
     if (answer == 0)
         answer = berxundar_net_calm(&net, &settled);
     if (answer == 0)

@@ -5,6 +5,7 @@
  * settled, and prints a line for each Output: its id, its value, and `lit` or `dark`. It lights only what a settled net says, one
  * that is satisfied after a round: every wire then has one value at both ends and every component's outputs are its function of
  * its inputs. It asks so after each round, and need not wait for calm, which may come some rounds later and changes no value.
+ * It keeps what each Output shows, and redraws after a round only those Outputs that the round says moved.
  * Where no round leaves it satisfied within ROUNDS rounds nothing is lit. The file `-` is standard input. Exit status: 0 settled;
  * 1 the file or a setting is refused, or the net is not settled; 2 the file cannot be read or a word is none.
  */
@@ -135,22 +136,35 @@ static int set(const char *word)
     return answer == 0 ? 0 : refused(word, answer, index);
 }
 
-/* ---- Running and lighting. ---- */
+/* ---- Running and redrawing. ---- */
 
-/* Prints a line for each Output, lit only in a settled net. */
-static void show(uint64_t settled)
+/* What is shown of each Output, by its index. A load leaves 0 at every Output, and only a round moves one: what an edit sets is a
+ * Switch or an Input. */
+static uint64_t shown[BERXUNDAR_COMPONENTS];
+
+/* Redraws a component that moved, where it is an Output; others are not on the screen. */
+static void redraw(size_t index)
 {
-    uint64_t i;
-    printf("%s\n", settled ? "settled" : "not settled");
-    for (i = 0; i < net.counts[BERXUNDAR_COUNT_COMPONENTS]; i++) {
-        const uint64_t *words = net.components + BERXUNDAR_WORDS_OF_COMPONENT * i;
-        uint64_t value;
-        if (words[BERXUNDAR_WORD_KIND] != BERXUNDAR_OUTPUT)
-            continue;
-        if (berxundar_net_value(&net, BERXUNDAR_SIDE_OUTPUTS, (size_t)i, 0, &value, NULL) == 0)
-            printf("%llu %llu %s\n", (unsigned long long)words[BERXUNDAR_WORD_ID], (unsigned long long)value,
-                settled && value ? "lit" : "dark");
-    }
+    const uint64_t *words = net.components + BERXUNDAR_WORDS_OF_COMPONENT * index;
+    if (words[BERXUNDAR_WORD_KIND] == BERXUNDAR_OUTPUT)
+        shown[index] = net.outputs[words[BERXUNDAR_WORD_FIRST_OUTPUT]];
+}
+
+/* Runs a round at the time and redraws what moved: what the round answered. The bits stand in the order of the current list as it
+ * was before the round, which puts the next list in its place: so the list is copied first. */
+static uint32_t round_and_redraw(uint64_t time)
+{
+    static uint16_t evaluated[BERXUNDAR_NAMES];
+    static uint64_t moved[BERXUNDAR_MOVED];
+    uint64_t count = net.counts[BERXUNDAR_COUNT_CURRENT], i;
+    uint32_t answer;
+    for (i = 0; i < count; i++)
+        evaluated[i] = net.current[i];
+    answer = berxundar_net_round(&net, time, moved);
+    for (i = 0; i < count && answer == 0; i++)
+        if (moved[i])
+            redraw(evaluated[i]);
+    return answer;
 }
 
 /* Runs rounds at the time until one leaves the drawing satisfied, ROUNDS at most: what the last call answered. */
@@ -159,11 +173,26 @@ static uint32_t settle(uint64_t time, uint64_t *settled)
     uint32_t answer = 0;
     int round;
     for (round = 0; round < ROUNDS && answer == 0 && !*settled; round++) {
-        answer = berxundar_net_round(&net, time);
+        answer = round_and_redraw(time);
         if (answer == 0)
             answer = berxundar_net_satisfied(&net, settled);
     }
     return answer;
+}
+
+/* ---- Lighting. ---- */
+
+/* Prints a line for each Output, lit only in a settled net. */
+static void show(uint64_t settled)
+{
+    uint64_t i;
+    printf("%s\n", settled ? "settled" : "not settled");
+    for (i = 0; i < net.counts[BERXUNDAR_COUNT_COMPONENTS]; i++) {
+        const uint64_t *words = net.components + BERXUNDAR_WORDS_OF_COMPONENT * i;
+        if (words[BERXUNDAR_WORD_KIND] == BERXUNDAR_OUTPUT)
+            printf("%llu %llu %s\n", (unsigned long long)words[BERXUNDAR_WORD_ID], (unsigned long long)shown[i],
+                settled && shown[i] ? "lit" : "dark");
+    }
 }
 
 /* Loads the drawing, sets what is asked for and runs at the time: the exit status where that fails, else 0. */

@@ -3,8 +3,9 @@
  * call answers as for any short table (2), a load and a look as for an empty file (1), and a component without ports is
  * evaluated; a net of zeros is one of no components, the net of a root alone, which is looked at along no path; a sentence
  * belongs to an answer and to its number; half of the votes are not most of them; of two records that meet the first call says
- * 13, and the others what they are; while an edit waits a net is not calm, and not satisfied where it has something to change.
- * Leaves with 1 at the first other answer.
+ * 13, and the others what they are; while an edit waits a net is not calm, and not satisfied where it has something to change;
+ * a bit is set for each output that an evaluation changes, and too little room for the bits is 2. Leaves with 1 at the first other
+ * answer.
  */
 #include "berxundar.h"
 
@@ -19,13 +20,16 @@ static int nothing_lent(void)
 {
     static const uint8_t record[BERXUNDAR_RECORD] = { 1 };
     static uint64_t numbers[256], widths[256];
-    uint64_t found[2] = { 0, 1 };
+    uint64_t found[3] = { 0, 1, 0 };
     return berxundar_judge(NONE) == NUMBER(1) && berxundar_judge_pair(NONE) == (uint64_t)1 << 32
         && berxundar_earlier(NUMBER(1), NONE) == 0 && berxundar_net_load(&net, NONE) == NUMBER(1)
-        && berxundar_load(NONE, SEVEN, NONE) == NUMBER(1) && berxundar_round(SEVEN, NONE, 3) == NUMBER(2)
-        && berxundar_round(SEVEN, net.counts, 7, 3) == NUMBER(2) && berxundar_edit(SEVEN, NONE, 3, 3) == NUMBER(2)
+        && berxundar_load(NONE, SEVEN, NONE) == NUMBER(1) && berxundar_round(SEVEN, NONE, 3, NONE) == NUMBER(2)
+        && berxundar_round(SEVEN, net.counts, 7, 3, numbers, 256) == NUMBER(2)
+        && berxundar_round(BERXUNDAR_LENT(&net), net.counts, 7, 3, NONE) == NUMBER(2)
+        && berxundar_edit(SEVEN, NONE, 3, 3) == NUMBER(2)
         && berxundar_run_until_calm(SEVEN, NONE, 3, 3, NONE) == NUMBER(2)
         && berxundar_run_until_calm(BERXUNDAR_LENT(&net), net.counts, 7, 3, 3, NONE) == NUMBER(2)
+        && berxundar_run_until_calm(BERXUNDAR_LENT(&net), net.counts, 7, 3, 3, found, 2) == NUMBER(2)
         && berxundar_calm(BERXUNDAR_LENT(&net), net.counts, 7, NONE) == NUMBER(2)
         && berxundar_satisfied(BERXUNDAR_LENT(&net), net.counts, 7, NONE) == NUMBER(2)
         && berxundar_satisfied(SEVEN, NONE, found, 1) == NUMBER(2) && berxundar_satisfied(SEVEN, net.counts, 7, found, 1) == NUMBER(2)
@@ -40,16 +44,21 @@ static int nothing_lent(void)
             == NUMBER(2)
         && berxundar_look(record, sizeof record, BERXUNDAR_LENT(&net), net.counts, 7, NONE, numbers, 255, widths, 256, found, 2)
             == NUMBER(2)
-        && berxundar_evaluate(1, 0, 1, 0, 0, NONE, NONE, NONE, NONE, 0) == NUMBER(2)
-        && berxundar_evaluate(1, 0, 1, 0, 0, NONE, NONE, found, 1, found + 1, 1, 0) == 0 && found[0] == 1;
+        && berxundar_evaluate(1, 0, 1, 0, 0, NONE, NONE, NONE, NONE, 0, NONE) == NUMBER(2)
+        && berxundar_evaluate(1, 0, 1, 0, 0, NONE, NONE, NONE, NONE, 0, found, 1) == NUMBER(2)
+        && berxundar_evaluate(14, 0, 1, 0, 0, NONE, NONE, NONE, NONE, 0, NONE) == NUMBER(2)
+        && berxundar_evaluate(14, 0, 1, 0, 0, NONE, NONE, NONE, NONE, 0, found, 1) == NUMBER(7)
+        && berxundar_evaluate(1, 0, 1, 0, 0, NONE, NONE, found, 1, found + 1, 1, 0, NONE) == NUMBER(2) && found[0] == 0
+        && berxundar_evaluate(1, 0, 1, 0, 0, NONE, NONE, found, 1, found + 1, 1, 0, found + 2, 1) == 0 && found[0] == 1
+        && found[2] == 1;
 }
 
 static int zeros(void)
 {
-    uint64_t calm = 0, satisfied = 0, rounds = 9;
+    uint64_t calm = 0, satisfied = 0, rounds = 9, moved = 9;
     return berxundar_net_check(&net) == 0 && berxundar_net_calm(&net, &calm) == 0 && calm == 1
         && berxundar_net_satisfied(&net, &satisfied) == 0 && satisfied == 1
-        && berxundar_net_run_until_calm(&net, 5, 7, &rounds, NULL) == 0 && rounds == 1
+        && berxundar_net_run_until_calm(&net, 5, 7, &rounds, NULL, &moved) == 0 && rounds == 1 && moved == 0
         && berxundar_net_edit(&net, 0, 0) == NUMBER(17);
 }
 
@@ -74,9 +83,10 @@ static int looked_at(void)
     return berxundar_net_look(&net, root, 2 * BERXUNDAR_RECORD, NULL, 0, &box) == NUMBER(BERXUNDAR_NO_PATH) && box.inputs == 0;
 }
 
-/* A Joiner of 0, 1, 1 is 6; with an input of another width it is refused. */
+/* A Joiner of 0, 1, 1 is 6; with an input of another width it is refused. Its output has moved from 0 to 6 and then no more. */
 static int joined(void)
 {
+    uint64_t moved = 9;
     size_t i;
     single.kind = BERXUNDAR_JOINER;
     single.inputs = 3;
@@ -87,10 +97,33 @@ static int joined(void)
         single.input_widths[i] = 1;
     }
     single.output_widths[0] = 3;
-    if (berxundar_single_evaluate(&single, 0) != 0 || single.output_numbers[0] != 6)
+    if (berxundar_single_evaluate(&single, 0, &moved) != 0 || single.output_numbers[0] != 6 || moved != 1
+        || berxundar_single_evaluate(&single, 0, &moved) != 0 || moved != 0)
         return 0;
     single.input_widths[2] = 2;
-    return berxundar_single_evaluate(&single, 0) == NUMBER(BERXUNDAR_NO_FIT);
+    moved = 9;
+    return berxundar_single_evaluate(&single, 0, &moved) == NUMBER(BERXUNDAR_NO_FIT) && moved == 9;
+}
+
+/* A Splitter of 3 bits that sees 5: of outputs 1, 1, 0 the two upper ones move. */
+static int split(void)
+{
+    static const berxundar_single none;
+    uint64_t moved = 9;
+    size_t i;
+    single = none;
+    single.kind = BERXUNDAR_SPLITTER;
+    single.inputs = 1;
+    single.outputs = 3;
+    single.parameter = 3;
+    single.input_numbers[0] = 5;
+    single.input_widths[0] = 3;
+    for (i = 0; i < 3; i++) {
+        single.output_numbers[i] = i < 2;
+        single.output_widths[i] = 1;
+    }
+    return berxundar_single_evaluate(&single, 0, &moved) == 0 && moved == 6 && single.output_numbers[0] == 1
+        && single.output_numbers[1] == 0 && single.output_numbers[2] == 1;
 }
 
 /* A Majority of two high inputs of four is low, of three of four high; of none it is refused. */
@@ -108,13 +141,13 @@ static int voted(void)
     }
     single.output_numbers[0] = 1;
     single.output_widths[0] = 1;
-    if (berxundar_single_evaluate(&single, 0) != 0 || single.output_numbers[0] != 0)
+    if (berxundar_single_evaluate(&single, 0, NULL) != 0 || single.output_numbers[0] != 0)
         return 0;
     single.input_numbers[2] = 1;
-    if (berxundar_single_evaluate(&single, 0) != 0 || single.output_numbers[0] != 1)
+    if (berxundar_single_evaluate(&single, 0, NULL) != 0 || single.output_numbers[0] != 1)
         return 0;
     single.inputs = 0;
-    return berxundar_single_evaluate(&single, 0) == NUMBER(BERXUNDAR_BAD_FIELDS) && single.output_numbers[0] == 1;
+    return berxundar_single_evaluate(&single, 0, NULL) == NUMBER(BERXUNDAR_BAD_FIELDS) && single.output_numbers[0] == 1;
 }
 
 /* Each number has a sentence of its own, by itself and as an answer with any position. */
@@ -172,29 +205,35 @@ static int met(void)
     return 1;
 }
 
+/* Loads a Switch that leads to a Not. */
+static uint32_t load_not(void)
+{
+    uint8_t file[4 * BERXUNDAR_RECORD] = { 0 };
+    record(file, 1, BERXUNDAR_COMPOSITE, 0, 0, 0, 0, 1);
+    record(file + 24, 1, BERXUNDAR_SWITCH, 0, 0, 1, 0, 2);
+    record(file + 48, 1, BERXUNDAR_NOT, 0, 1, 1, 0, 3);
+    record(file + 72, 2, 0, 0, 0, 0, 1, 0);
+    return berxundar_net_load(&net, file, sizeof file);
+}
+
 /*
  * A Switch leads to a Not. Once it is set the net is not calm until the round has ended that evaluates the Not again: the edit
  * waits in the standing list, the following list, the current list. A run waits for it too, and then the Not is high again.
  */
 static int waited(void)
 {
-    uint8_t file[4 * BERXUNDAR_RECORD] = { 0 };
-    uint64_t calm = 9, rounds = 0, evaluations = 0, value = 9;
+    uint64_t calm = 9, rounds = 0, evaluations = 0, moved = 0, value = 9;
     int i;
-    record(file, 1, BERXUNDAR_COMPOSITE, 0, 0, 0, 0, 1);
-    record(file + 24, 1, BERXUNDAR_SWITCH, 0, 0, 1, 0, 2);
-    record(file + 48, 1, BERXUNDAR_NOT, 0, 1, 1, 0, 3);
-    record(file + 72, 2, 0, 0, 0, 0, 1, 0);
-    if (berxundar_net_load(&net, file, sizeof file) != 0 || berxundar_net_run_until_calm(&net, 0, 9, NULL, NULL) != 0
-        || berxundar_net_calm(&net, &calm) != 0 || calm != 1 || berxundar_net_edit(&net, 0, 1) != 0)
+    if (load_not() != 0 || berxundar_net_run_until_calm(&net, 0, 9, NULL, NULL, NULL) != 0 || berxundar_net_calm(&net, &calm) != 0
+        || calm != 1 || berxundar_net_edit(&net, 0, 1) != 0)
         return 0;
     for (i = 0; i < 4; i++)
-        if (berxundar_net_calm(&net, &calm) != 0 || calm != 0 || berxundar_net_round(&net, 0) != 0)
+        if (berxundar_net_calm(&net, &calm) != 0 || calm != 0 || berxundar_net_round(&net, 0, NULL) != 0)
             return 0;
     if (berxundar_net_calm(&net, &calm) != 0 || calm != 1 || berxundar_net_value(&net, 1, 1, 0, &value, NULL) != 0 || value != 0)
         return 0;
-    return berxundar_net_edit(&net, 0, 0) == 0 && berxundar_net_run_until_calm(&net, 0, 9, &rounds, &evaluations) == 0
-        && rounds == 4 && evaluations == 3 && berxundar_net_value(&net, 1, 1, 0, &value, NULL) == 0 && value == 1;
+    return berxundar_net_edit(&net, 0, 0) == 0 && berxundar_net_run_until_calm(&net, 0, 9, &rounds, &evaluations, &moved) == 0
+        && rounds == 4 && evaluations == 3 && moved == 1 && berxundar_net_value(&net, 1, 1, 0, &value, NULL) == 0 && value == 1;
 }
 
 static int satisfied_is(uint64_t wanted)
@@ -217,7 +256,7 @@ static int judged(void)
         || calm != 0 || berxundar_net_edit(&net, 0, 1) != 0)
         return 0;
     for (i = 0; i < 4; i++)
-        if (!satisfied_is(0) || berxundar_net_round(&net, 0) != 0)
+        if (!satisfied_is(0) || berxundar_net_round(&net, 0, NULL) != 0)
             return 0;
     if (!satisfied_is(1))
         return 0;
@@ -236,7 +275,40 @@ static int judged(void)
     return satisfied_is(1);
 }
 
+/*
+ * In its first round the Not moves and the Switch does not; bits past the two are kept, and a refused round writes none. Once the
+ * Switch is set, its bit stays 0 in the round that evaluates it, and the Not moves in the round after.
+ */
+static int bits_moved(void)
+{
+    uint64_t bits[BERXUNDAR_MOVED + 1];
+    size_t i;
+    for (i = 0; i <= BERXUNDAR_MOVED; i++)
+        bits[i] = 9;
+    if (load_not() != 0 || berxundar_round(BERXUNDAR_LENT(&net), net.counts, 7, 0, bits, 0) != NUMBER(2)
+        || berxundar_round(BERXUNDAR_LENT(&net), net.counts, 7, 0, bits, 255) != NUMBER(2) || bits[0] != 9 || bits[1] != 9
+        || net.outputs[1] != 0)
+        return 0;
+    net.counts[BERXUNDAR_COUNT_CURRENT] = 257;
+    if (berxundar_round(BERXUNDAR_LENT(&net), net.counts, 7, 0, bits, 255) != NUMBER(2)
+        || berxundar_round(BERXUNDAR_LENT(&net), net.counts, 7, 0, bits, 256) != NUMBER(16) || bits[0] != 9)
+        return 0;
+    net.counts[BERXUNDAR_COUNT_CURRENT] = 2;
+    if (berxundar_round(BERXUNDAR_LENT(&net), net.counts, 7, 0, bits, 257) != 0 || bits[0] != 0 || bits[1] != 1)
+        return 0;
+    for (i = 2; i <= BERXUNDAR_MOVED; i++)
+        if (bits[i] != 9)
+            return 0;
+    if (berxundar_net_edit(&net, 0, 1) != 0 || berxundar_net_round(&net, 0, bits) != 0 || berxundar_net_round(&net, 0, bits) != 0)
+        return 0;
+    bits[0] = bits[1] = 9;
+    if (berxundar_net_round(&net, 0, bits) != 0 || bits[0] != 0 || bits[1] != 9)
+        return 0;
+    return berxundar_net_round(&net, 0, bits) == 0 && bits[0] == 0 && bits[1] == 1;
+}
+
 int main(void)
 {
-    return !(zeros() && nothing_lent() && looked_at() && joined() && voted() && sentences() && met() && waited() && judged());
+    return !(zeros() && nothing_lent() && looked_at() && joined() && split() && voted() && sentences() && met() && waited()
+        && judged() && bits_moved());
 }

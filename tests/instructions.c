@@ -24,12 +24,12 @@ static uint64_t at = 5;
 
 /* What a call works on, and the states that it is made on: after a load; settled, with empty lists, with one listed, with all listed. */
 static berxundar_net net, loaded, quiet, one, idle;
-static uint64_t found;
+static uint64_t found, moved[BERXUNDAR_MOVED];
 
 static uint32_t nothing(void) { return 0; }
 static uint32_t judge(void) { return berxundar_judge(bytes, length); }
 static uint32_t load(void) { return berxundar_net_load(&net, bytes, length); }
-static uint32_t run_round(void) { return berxundar_net_round(&net, at); }
+static uint32_t run_round(void) { return berxundar_net_round(&net, at, moved); }
 static uint32_t check(void) { return berxundar_net_check(&net); }
 static uint32_t satisfied(void) { return berxundar_net_satisfied(&net, &found); }
 
@@ -62,7 +62,7 @@ static int settle(void)
     int rounds = 0;
     net = loaded;
     do {
-        if (berxundar_net_round(&net, at) != 0 || ROUNDS_MAX < ++rounds)
+        if (berxundar_net_round(&net, at, moved) != 0 || ROUNDS_MAX < ++rounds)
             return -1;
     } while (net.counts[BERXUNDAR_COUNT_CURRENT] + net.counts[BERXUNDAR_COUNT_FOLLOWING] + net.counts[BERXUNDAR_COUNT_STANDING]);
     quiet = net;

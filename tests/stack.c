@@ -16,7 +16,7 @@ static uint8_t bytes[FILE_ROOM];
 static size_t length;
 static berxundar_net net;
 static uint16_t list[BERXUNDAR_NAMES];
-static uint64_t found;
+static uint64_t found, moved[BERXUNDAR_MOVED];
 static berxundar_single single;
 static berxundar_box box;
 
@@ -59,8 +59,9 @@ static size_t (*volatile counting)(void) = taken;
 static uint32_t judge(void) { return berxundar_judge(bytes, length); }
 static uint32_t judge_pair(void) { return (uint32_t)berxundar_judge_pair(bytes, length); }
 static uint32_t load(void) { return berxundar_net_load(&net, bytes, length); }
-static uint32_t run_round(void) { return berxundar_net_round(&net, 3); }
-static uint32_t run(void) { return berxundar_net_run_until_calm(&net, 4, 5, NULL, NULL); }
+static uint32_t run_round(void) { return berxundar_net_round(&net, 3, moved); }
+static uint32_t run_round_unasked(void) { return berxundar_net_round(&net, 3, NULL); }
+static uint32_t run(void) { return berxundar_net_run_until_calm(&net, 4, 5, NULL, NULL, NULL); }
 static uint32_t edit(void) { return berxundar_net_edit(&net, 0, 1); }
 static uint32_t calm(void) { return berxundar_net_calm(&net, &found); }
 static uint32_t satisfied(void) { return berxundar_net_satisfied(&net, &found); }
@@ -82,7 +83,7 @@ static uint32_t look_inside(void)
 }
 
 static uint32_t check(void) { return berxundar_net_check(&net); }
-static uint32_t evaluate(void) { return berxundar_single_evaluate(&single, 0); }
+static uint32_t evaluate(void) { return berxundar_single_evaluate(&single, 0, NULL); }
 
 static const struct {
     const char *name;
@@ -90,9 +91,9 @@ static const struct {
     size_t said;
 } calls[] = { { "judge", judge, 32000 }, { "judge a pair", judge_pair, 32000 }, { "load", load, 32000 },
     { "look at the root", look, 49152 }, { "look inside", look_inside, 49152 }, { "round", run_round, 10000 },
-    { "run until calm", run, 10000 }, { "edit", edit, 10000 }, { "calm", calm, 10000 }, { "satisfied", satisfied, 10000 },
-    { "index", index_of, 10000 }, { "value", value, 10000 }, { "sources", sources, 10000 }, { "targets", targets, 10000 },
-    { "check", check, 10000 },
+    { "round, bits unasked", run_round_unasked, 10000 }, { "run until calm", run, 10000 }, { "edit", edit, 10000 },
+    { "calm", calm, 10000 }, { "satisfied", satisfied, 10000 }, { "index", index_of, 10000 }, { "value", value, 10000 },
+    { "sources", sources, 10000 }, { "targets", targets, 10000 }, { "check", check, 10000 },
     { "evaluate", evaluate, 10000 } };
 
 int main(void)

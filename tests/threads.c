@@ -1,8 +1,8 @@
 /*
  * Calls on different nets in several threads at once: threads <FILE. Each thread loads the drawing on standard input over and
  * over, sets its first component where that can be set, runs it and looks at that component, which stands right below the root, on
- * a net of its own. Leaves with 1 where a net, or what a look showed, does not end up with the very words that a single thread's
- * has.
+ * a net of its own. Leaves with 1 where a net, what a look showed, or which outputs moved, does not end up with the very words that
+ * a single thread's has.
  */
 #include "berxundar.h"
 #include "file.h"
@@ -21,6 +21,7 @@ static size_t length;
 typedef struct {
     berxundar_net net;
     berxundar_box box;
+    uint64_t moved[BERXUNDAR_MOVED];
 } own;
 
 static own owns[THREADS + 1];
@@ -32,10 +33,10 @@ static void *work(void *argument)
     int turn;
     for (turn = 0; turn < TURNS; turn++) {
         berxundar_net_load(net, bytes, length);
-        berxundar_net_run_until_calm(net, 3, 20, NULL, NULL);
+        berxundar_net_run_until_calm(net, 3, 20, NULL, NULL, NULL);
         berxundar_net_edit(net, 0, (uint64_t)turn % 2);
-        berxundar_net_run_until_calm(net, (uint64_t)turn, 20, NULL, NULL);
-        berxundar_net_round(net, 7);
+        berxundar_net_run_until_calm(net, (uint64_t)turn, 20, NULL, NULL, NULL);
+        berxundar_net_round(net, 7, ((own *)argument)->moved);
         first = (uint32_t)net->components[BERXUNDAR_WORD_ID];
         berxundar_net_look(net, bytes, length, &first, 1, &((own *)argument)->box);
     }

@@ -11,7 +11,7 @@
 long read(int file, void *to, size_t count);
 long write(int file, const void *from, size_t count);
 
-enum { COMPONENTS, INPUTS, OUTPUTS, WIRES, CURRENT, FOLLOWING, STANDING, TABLES, LIST = TABLES, NUMBERS, WIDTHS, LENT };
+enum { COMPONENTS, INPUTS, OUTPUTS, WIRES, CURRENT, FOLLOWING, STANDING, TABLES, LIST = TABLES, NUMBERS, WIDTHS, MOVED, LENT };
 
 /* Of a file of more bytes, which is read to its end, so many stand for it: they are too many as well. */
 #define LONGEST 30000
@@ -24,7 +24,7 @@ enum { COMPONENTS, INPUTS, OUTPUTS, WIRES, CURRENT, FOLLOWING, STANDING, TABLES,
 #define COMMANDS UINT64_C(4294967296)
 
 static const size_t full_words[LENT] = { BERXUNDAR_COMPONENT_WORDS, BERXUNDAR_INPUTS, BERXUNDAR_OUTPUTS, BERXUNDAR_WIRE_WORDS,
-    BERXUNDAR_NAMES, BERXUNDAR_NAMES, BERXUNDAR_NAMES, BERXUNDAR_NAMES, BERXUNDAR_SHOWN, BERXUNDAR_SHOWN };
+    BERXUNDAR_NAMES, BERXUNDAR_NAMES, BERXUNDAR_NAMES, BERXUNDAR_NAMES, BERXUNDAR_SHOWN, BERXUNDAR_SHOWN, BERXUNDAR_MOVED };
 static const size_t full_entries[TABLES] = { BERXUNDAR_COMPONENTS, BERXUNDAR_INPUTS, BERXUNDAR_OUTPUTS, BERXUNDAR_WIRES,
     BERXUNDAR_NAMES, BERXUNDAR_NAMES, BERXUNDAR_NAMES };
 static const char *const table_names[TABLES]
@@ -33,7 +33,8 @@ static const char *const table_names[TABLES]
 static berxundar_net net;
 static uint16_t list[BERXUNDAR_NAMES];
 static berxundar_box box;
-static uint64_t found[2];
+static uint64_t moved[BERXUNDAR_MOVED];
+static uint64_t found[3];
 static uint8_t file[LONGEST], kept[LONGEST];
 static size_t kept_length;
 static size_t lent[LENT];
@@ -171,7 +172,7 @@ int mprotect(void *at, size_t length, int allowed);
 
 #define PAGE 4096
 #define ROOM (8 * PAGE)
-#define PLACES 20
+#define PLACES 21
 
 static uint8_t *places[PLACES];
 
@@ -316,13 +317,21 @@ static int load(void)
 static int run_round(void)
 {
     uint8_t bytes[8];
+    uint64_t *bits, evaluated = net.counts[CURRENT], i;
     uint32_t answer;
     if (!take(bytes, 8))
         return 0;
     lend_all(0, 0);
-    answer = berxundar_round(NOW, number_in(bytes, 8));
+    bits = (uint64_t *)lend(19, moved, 8 * lent[MOVED]);
+    answer = berxundar_round(NOW, number_in(bytes, 8), bits, lent[MOVED]);
     back_all(0);
-    pair("round", berxundar_number(answer), berxundar_position(answer));
+    back(moved, bits, 8 * lent[MOVED]);
+    put_words("round");
+    put_number(berxundar_number(answer));
+    put_number(berxundar_position(answer));
+    for (i = 0; answer == 0 && i < evaluated && i < BERXUNDAR_MOVED; i++)
+        put_number(moved[i]);
+    put('\n');
     return 1;
 }
 
@@ -345,11 +354,16 @@ static int run(void)
     uint32_t answer;
     if (!take(bytes, 10))
         return 0;
-    found[0] = found[1] = 0;
-    lend_all(2, 0);
-    answer = berxundar_run_until_calm(NOW, number_in(bytes, 8), (uint16_t)number_in(bytes + 8, 2), now.found, 2);
-    back_all(2);
-    triple("run", berxundar_number(answer), found[0], found[1]);
+    found[0] = found[1] = found[2] = 0;
+    lend_all(3, 0);
+    answer = berxundar_run_until_calm(NOW, number_in(bytes, 8), (uint16_t)number_in(bytes + 8, 2), now.found, 3);
+    back_all(3);
+    put_words("run");
+    put_number(berxundar_number(answer));
+    put_number(found[0]);
+    put_number(found[1]);
+    put_number(found[2]);
+    put('\n');
     return 1;
 }
 
@@ -502,18 +516,23 @@ static int evaluate(void)
 {
     static uint64_t inputs[VALUES], entering[VALUES], outputs[VALUES], leaving[VALUES];
     uint8_t head[23];
-    uint64_t *leave;
+    uint64_t *leave, *bits;
     size_t n, m, i;
     uint32_t answer;
     if (!take(head, 23) || !take_values(&n, inputs, entering) || !take_values(&m, outputs, leaving))
         return 0;
+    found[0] = 0;
     leave = (uint64_t *)lend(11, outputs, 8 * m);
+    bits = (uint64_t *)lend(20, found, 8);
     answer = berxundar_evaluate(head[0], (uint16_t)number_in(head + 1, 2), (uint16_t)number_in(head + 3, 2),
         (uint16_t)number_in(head + 5, 2), number_in(head + 7, 8), (uint64_t *)lend(12, inputs, 8 * n), n,
-        (uint64_t *)lend(13, entering, 8 * n), n, leave, m, (uint64_t *)lend(14, leaving, 8 * m), m, number_in(head + 15, 8));
+        (uint64_t *)lend(13, entering, 8 * n), n, leave, m, (uint64_t *)lend(14, leaving, 8 * m), m, number_in(head + 15, 8),
+        bits, 1);
     back(outputs, leave, 8 * m);
+    back(found, bits, 8);
     put_words("evaluate");
     put_number(berxundar_number(answer));
+    put_number(found[0]);
     for (i = 0; i < m; i++)
         put_number(outputs[i]);
     put('\n');
@@ -577,6 +596,7 @@ static uint64_t *longs_of(unsigned table)
     case OUTPUTS: return net.outputs;
     case NUMBERS: return box.numbers;
     case WIDTHS: return box.widths;
+    case MOVED: return moved;
     default: return NULL;
     }
 }
