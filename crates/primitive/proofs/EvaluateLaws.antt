@@ -17,7 +17,7 @@ use Rattle.value.specs.Value.{ofWidth, fitsIn}
 use Rattle.kinds.specs.declared.table.Fields.{Fields}
 use Rattle.primitive.specs.declared.Evaluated.{Evaluated}
 use Rattle.primitive.specs.declared.Evaluated.the-variants.{Done, Refused}
-use Rattle.kinds.proofs.GivenLaws.{done-declined, declined-refusal}
+use Rattle.kinds.proofs.GivenLaws.{done-values, done-declined, declined-refusal}
 use Rattle.kinds.specs.Kinds.{forCustom, unknown, primitive, obeys, inputWidth, outputWidth}
 use Rattle.primitive.specs.Evaluate.{fitting, outputsAfter, evaluateNumber, evaluateOutputs, evaluatedGives}
 use Rattle.primitive.specs.Own.{Own}
@@ -139,8 +139,8 @@ module _ (f : Fields) (xs vs ys ws : List ℕ) where
 
   -- The outcome of a refusal: the outputs are as they were.
   module _ (n : ℕ) (e : n ≡ evaluateNumber f xs vs ys ws) (h : n ≡ 0 → ⊥) where
-    pub refused-answer : evaluatedGives (Refused (record { number = n; position = 0; earlier = 0 })) ≡ giving (evaluateNumber f xs vs ys ws) []
-    refused-answer = rw (← e, ne-eqb n 0 h)
+    pub refused-answer : (bits : ℕ) → evaluatedGives (Refused (record { number = n; position = 0; earlier = 0 })) ≡ giving (evaluateNumber f xs vs ys ws) (bits ∷ [])
+    refused-answer bits = rw (← e, ne-eqb n 0 h)
 
     pub refused-outputs : (t : ℕ) → ys ≡ evaluateOutputs f xs vs ys ws t
     unfolding evaluateOutputs
@@ -148,8 +148,8 @@ module _ (f : Fields) (xs vs ys ws : List ℕ) where
 
   -- The outcome of an evaluation: the component's outputs are laid over the lent ones.
   module _ (z : evaluateNumber f xs vs ys ws ≡ 0) where
-    pub done-answer : evaluatedGives Done ≡ giving (evaluateNumber f xs vs ys ws) []
-    done-answer = rw z
+    pub done-answer : (r bits : ℕ) → r ≡ bits → evaluatedGives (Done r) ≡ giving (evaluateNumber f xs vs ys ws) (bits ∷ [])
+    done-answer r bits e = rw (z, e)
 
     pub done-outputs : (zs : List ℕ) (t : ℕ) → zs ≡ outputsAfter f (take (f .inputs) xs) (take (f .outputs) ys) t → length zs ≡ f .outputs
         → zs ++ drop (f .outputs) ys ≡ evaluateOutputs f xs vs ys ws t
@@ -161,7 +161,7 @@ module _ (f : Fields) (xs vs ys ws : List ℕ) where
 
 -- Answers that give the same are the same.
 pub evaluatedGives-is : (a b : Evaluated) → evaluatedGives a ≡ evaluatedGives b → a ≡ b
-evaluatedGives-is Done Done e = refl
-evaluatedGives-is Done (Refused r) e = absurd (done-declined [] r e)
-evaluatedGives-is (Refused r) Done e = absurd (done-declined [] r (sym e))
+evaluatedGives-is (Done a) (Done b) e = ap (λ (xs : List ℕ). Done (getD xs 0 0)) (done-values (a ∷ []) (b ∷ []) e)
+evaluatedGives-is (Done a) (Refused r) e = absurd (done-declined (a ∷ []) r e)
+evaluatedGives-is (Refused r) (Done a) e = absurd (done-declined (a ∷ []) r (sym e))
 evaluatedGives-is (Refused r) (Refused s) e = ap Refused (declined-refusal r s e)

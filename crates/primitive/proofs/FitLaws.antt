@@ -20,7 +20,7 @@ use Rattle.primitive.specs.Evaluate.{one, clockHigh, join, rule, outputs
 use Rattle.primitive.specs.Own.{allHigh, anyHigh, oddHigh, mostHigh}
 use Rattle.primitive.specs.Own.{Own}
 use Rattle.kinds.proofs.KindsLaws.{numberOf-kindOf}
-use Rattle.primitive.proofs.RulesLaws.{join-lt}
+use Rattle.primitive.proofs.RulesLaws.{join-lt, split-length}
 use Rattle.primitive.proofs.UpdateLaws.{leaves, outputsAfter-rule, outputsAfter-left}
 use Rattle.kinds.proofs.ObeysLaws.{Inside, InRow, obeys-row, row-bits, obeyed-row, obeyed-primitive, obeyed-kind}
 
@@ -54,10 +54,6 @@ bits-below : (x q k : ℕ) → allBelow 1 (map (bitOf x) (from q k)) ≡ true
 bits-below x q zero = refl
 bits-below x q (suc k) = rw (lt-ltb (bitOf x q) 2 (bitOf-fits x q)) (bits-below x (suc q) k)
 
-bits-length : (x q k : ℕ) → length (map (bitOf x) (from q k)) ≡ k
-bits-length x q zero = refl
-bits-length x q (suc k) = ap suc (bits-length x (suc q) k)
-
 module _ (f : Fields) (xs : List ℕ) (t : ℕ) (all : length xs ≡ f .inputs) where
   abbrev c : ℕ
   c = f .width
@@ -77,7 +73,7 @@ module _ (f : Fields) (xs : List ℕ) (t : ℕ) (all : length xs ≡ f .inputs) 
   rule-length Switch r l n = absurd (false≢true (sym l))
   rule-length Input r l n = sym (only-is 1 (f .outputs) (r .outputs))
   rule-length Output r l n = sym (only-is 1 (f .outputs) (r .outputs))
-  rule-length Splitter r l n = bits-length (getD xs 0 0) 0 p ∙ sym (only-is p (f .outputs) (r .outputs))
+  rule-length Splitter r l n = split-length (getD xs 0 0) p ∙ sym (only-is p (f .outputs) (r .outputs))
   rule-length Joiner r l n = sym (only-is 1 (f .outputs) (r .outputs))
   rule-length Clock r l n = sym (only-is 1 (f .outputs) (r .outputs))
   rule-length Const r l n = absurd (false≢true (sym l))

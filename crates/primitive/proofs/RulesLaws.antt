@@ -51,30 +51,21 @@ pub join-room : (xs : List ℕ) (i : ℕ) → 0 < i → length xs ≤ 64 → joi
 join-room xs i p h =
     lt-of-lt-of-le (join-lt (drop i xs)) (pow-mono {i = length (drop i xs)} {j = 63} (simp length-drop (omega arith)))
 
-from-snoc : (q k : ℕ) → from q (suc k) ≡ from q k ++ ((q + k) ∷ [])
-from-snoc q zero = rw add-zero
-from-snoc q (suc k) =
-    let e : suc q + k ≡ q + suc k = omega arith in
-    ap (λ (l : List ℕ). q ∷ l) (from-snoc (suc q) k ∙ ap (λ (j : ℕ). from (suc q) k ++ (j ∷ [])) e)
+-- What `split` leaves: as many outputs as there were, bit j of the number at output j.
+bits-length : (x q k : ℕ) → length (map (bitOf x) (from q k)) ≡ k
+bits-length x q zero = refl
+bits-length x q (suc k) = ap suc (bits-length x (suc q) k)
 
-split-snoc : (x i : ℕ) → split x (suc i) ≡ split x i ++ (bitOf x i ∷ [])
-split-snoc x i =
-    ap (map (bitOf x)) (from-snoc 0 i) ∙ map-append (bitOf x) (from 0 i) ((0 + i) ∷ [])
-    ∙ ap (λ (j : ℕ). split x i ++ (bitOf x j ∷ [])) (zero-add i)
+pub split-length : (x n : ℕ) → length (split x n) ≡ n
+split-length x n = bits-length x 0 n
 
--- The loop of `split`: one more output is written.
-pub split-step : (x i v : ℕ) (ys : List ℕ) → i < length ys → v ≡ bitOf x i → take i ys ≡ split x i
-    → take (i + 1) (set ys i v) ≡ split x (i + 1)
-split-step x i v ys h e s =
-    let k : i + 1 ≡ suc i = add-one i in
-    ap (λ (j : ℕ). take j (set ys i v)) k ∙ take-suc-set ys i v h
-    ∙ ap (λ (l : List ℕ). l ++ (v ∷ [])) s ∙ ap (λ (b : ℕ). split x i ++ (b ∷ [])) e
-    ∙ sym (split-snoc x i) ∙ ap (split x) (sym k)
+bits-at : (x q k j : ℕ) → j < k → getD (map (bitOf x) (from q k)) j 0 ≡ bitOf x (q + j)
+bits-at x q zero j h = absurd (omega arith)
+bits-at x q (suc k) zero h = rw add-zero
+bits-at x q (suc k) (suc j) h = let e : suc q + j ≡ q + suc j = omega arith in bits-at x (suc q) k j (omega arith) ∙ ap (bitOf x) e
 
-pub split-end : (x i : ℕ) (ys : List ℕ) → i ≤ length ys → length ys ≤ i → take i ys ≡ split x i → ys ≡ split x (length ys)
-split-end x i ys a b s =
-    let e : i ≡ length ys = omega arith in
-    sym (take-length ys) ∙ ap (λ (j : ℕ). take j ys) (sym e) ∙ s ∙ ap (split x) e
+pub split-at : (x n j : ℕ) → j < n → getD (split x n) j 0 ≡ bitOf x j
+split-at x n j h = bits-at x 0 n j h ∙ ap (bitOf x) (zero-add j)
 
 pub set-only : (ys : List ℕ) (v : ℕ) → length ys ≡ 1 → set ys 0 v ≡ v ∷ []
 set-only [] v e = absurd (omega arith)

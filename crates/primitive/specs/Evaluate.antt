@@ -1,6 +1,7 @@
 -- Evaluating a single component. docs/SPECIFICATION.md, "Rounds" and "Numbers given back".
 --   functionOf f xs t        "its function of its inputs", at a time
 --   outputsAfter f xs ys t   its outputs after an evaluation
+--   movedOutputs f xs ys t   which of them an evaluation changes, a bit for each
 --   Evaluates                the public call, on any fields and values
 -- Ports' numbers are lists; xs and ys are a component's own inputs and outputs.
 -- Assumes nothing.
@@ -69,6 +70,16 @@ functionOf f xs t = rule (kindOf (f .kind)) (f .parameter) xs t
 unfoldable pub outputsAfter : Fields → List ℕ → List ℕ → ℕ → List ℕ
 outputsAfter f xs ys t = cond (is Switch f || is Const f) ys (functionOf f xs t)
 
+-- "which of its outputs changed, one bit for each port": bit i is output i, of the outputs ys before and zs after.
+abbrev pub moved : List ℕ → List ℕ → ℕ
+moved [] zs = 0
+moved (y ∷ ys) [] = 0
+moved (y ∷ ys) (z ∷ zs) = level (not (eqb y z)) + 2 * moved ys zs
+
+-- Those of an evaluation.
+unfoldable pub movedOutputs : Fields → List ℕ → List ℕ → ℕ → ℕ
+movedOutputs f xs ys t = moved ys (outputsAfter f xs ys t)
+
 -- "At load all ports are 0, a Const's output its value."
 abbrev pub starting : Fields → List ℕ
 starting f = cond (is Const f) (f .parameter ∷ []) (replicate (f .outputs) 0)
@@ -94,12 +105,13 @@ unfoldable pub evaluateOutputs : Fields → List ℕ → List ℕ → List ℕ �
 evaluateOutputs f xs vs ys ws t =
     cond (eqb (evaluateNumber f xs vs ys ws) 0) (sets ys 0 (outputsAfter f (take (f .inputs) xs) (take (f .outputs) ys) t)) ys
 
--- What each answer gives.
+-- What each answer gives: which outputs changed.
 abbrev pub evaluatedGives : Evaluated → Given
-evaluatedGives Done = done []
+evaluatedGives (Done bits) = done (bits ∷ [])
 evaluatedGives (Refused r) = declined r
 
 -- The promise of `evaluate`: its answer r, and the output numbers zs afterwards.
 abbrev pub Evaluates : Fields → List ℕ → List ℕ → List ℕ → List ℕ → ℕ → Evaluated → List ℕ → Type 0
 Evaluates f xs vs ys ws t r zs =
-    (evaluatedGives r ≡ giving (evaluateNumber f xs vs ys ws) []) × (zs ≡ evaluateOutputs f xs vs ys ws t)
+    (evaluatedGives r ≡ giving (evaluateNumber f xs vs ys ws) (movedOutputs f (take (f .inputs) xs) (take (f .outputs) ys) t ∷ []))
+    × (zs ≡ evaluateOutputs f xs vs ys ws t)

@@ -7,8 +7,8 @@ use kinds::Refusal;
 pub use rules::update;
 pub use single::evaluate;
 
-// The answer to evaluating a single component.
+// The answer to evaluating a single component: which of its outputs changed, bit i for output i.
 pub enum Evaluated {
-    Done,
+    Done(u64),
     Refused(Refusal),
 }

@@ -6,7 +6,7 @@ ghost use Prim.Native.Nat.{_^_, _≤_, _<_};
 ghost use lib.ListN.{length};
 ghost use Rattle.value.specs.Value.{level, complement};
 ghost use Rattle.kinds.specs.Kinds.{numberOf};
-ghost use Rattle.primitive.specs.Evaluate.{highs, join, split, one, clockHigh, outputsAfter};
+ghost use Rattle.primitive.specs.Evaluate.{highs, join, split, one, clockHigh, outputsAfter, moved, movedOutputs};
 ghost use Rattle.primitive.specs.Own.{allHigh, anyHigh, oddHigh, mostHigh};
 ghost use Rattle.primitive.specs.Own.{Own};
 use crate::remainder::remainder;
@@ -96,19 +96,26 @@ fn join(ports: &[u64]) -> u64
     number
 }
 
-// Splitter: output i is bit i of the input.
-fn split(input: u64, outputs: &mut [u64])
-    ensures { λ _. ⌜ now (outputs .exit) ≡ split input (length (now (outputs .entry))) ⌝ }
+// Splitter: output i is bit i of the input. The answer is which outputs changed: from the last output down, each output before
+// doubles the bits and sets the lowest.
+fn split(input: u64, outputs: &mut [u64]) -> u64
+    requires { ⌜ length (now outputs) ≤ 64 ⌝ }
+    ensures { λ r. ⌜ (r ≡ moved (now (outputs .entry)) (now (outputs .exit)))
+        × (now (outputs .exit) ≡ split input (length (now (outputs .entry)))) ⌝ }
 {
     let value = Value {
         number: input,
         width: outputs.len() as u64,
     };
-    let mut i: usize = 0;
-    while i < outputs.len() {
-        outputs[i] = value.bit(i as u64).number;
-        i += 1;
+    let mut bits: u64 = 0;
+    let mut i: usize = outputs.len();
+    while 0 < i {
+        i -= 1;
+        let number = value.bit(i as u64).number;
+        bits = level_of(outputs[i] != number) + 2 * bits;
+        outputs[i] = number;
     }
+    bits
 }
 
 // Clock.
@@ -119,55 +126,60 @@ fn clock_high(period: u64, time: u64) -> bool
     period < remainder(time, 2 * period)
 }
 
-// Writes the one output.
-fn put(outputs: &mut [u64], number: u64)
+// Writes the one output. The answer is 1 where that changed it, else 0: bit 0 of which outputs changed.
+fn put(outputs: &mut [u64], number: u64) -> u64
     requires { ⌜ length (now outputs) ≡ 1 ⌝ }
-    ensures { λ _. ⌜ now (outputs .exit) ≡ number ∷ [] ⌝ }
+    ensures { λ r. ⌜ (r ≡ moved (now (outputs .entry)) (now (outputs .exit))) × (now (outputs .exit) ≡ number ∷ []) ⌝ }
 {
+    let bits = level_of(outputs[0] != number);
     outputs[0] = number;
+    bits
 }
 
-// Sets the one output from a level.
-fn put_level(outputs: &mut [u64], high: bool)
+// Sets the one output from a level. The answer is that of `put`.
+fn put_level(outputs: &mut [u64], high: bool) -> u64
     requires { ⌜ length (now outputs) ≡ 1 ⌝ }
-    ensures { λ _. ⌜ now (outputs .exit) ≡ one high ⌝ }
+    ensures { λ r. ⌜ (r ≡ moved (now (outputs .entry)) (now (outputs .exit))) × (now (outputs .exit) ≡ one high) ⌝ }
 {
-    put(outputs, level_of(high));
+    put(outputs, level_of(high))
 }
 
-// Evaluates a component of a known kind over its own ports.
-fn update_as(kind: Kind, f: Fields, inputs: &[u64], outputs: &mut [u64], time: u64)
+// Evaluates a component of a known kind over its own ports. The answer is which outputs changed, bit i for output i.
+fn update_as(kind: Kind, f: Fields, inputs: &[u64], outputs: &mut [u64], time: u64) -> u64
     requires { ⌜ (f .kind ≡ numberOf kind) × Own f (now inputs) (now outputs) ⌝ }
-    ensures { λ _. ⌜ now (outputs .exit) ≡ outputsAfter f (now (inputs .entry)) (now (outputs .entry)) time ⌝ }
+    ensures { λ r. ⌜ (r ≡ moved (now (outputs .entry)) (now (outputs .exit)))
+        × (now (outputs .exit) ≡ outputsAfter f (now (inputs .entry)) (now (outputs .entry)) time) ⌝ }
 {
     match kind {
-        Kind::Composite => {}
+        Kind::Composite => 0,
         Kind::And => put_level(outputs, all_high(inputs)),
         Kind::Or => put_level(outputs, any_high(inputs)),
         Kind::Not => put(outputs, not_gate(inputs[0])),
         Kind::Nand => put_level(outputs, !all_high(inputs)),
         Kind::Nor => put_level(outputs, !any_high(inputs)),
         Kind::Xor => put_level(outputs, odd_high(inputs)),
-        Kind::Switch => {}
+        Kind::Switch => 0,
         Kind::Input => put(outputs, inputs[0]),
         Kind::Output => put(outputs, inputs[0]),
         Kind::Splitter => split(inputs[0], outputs),
         Kind::Joiner => put(outputs, join(inputs)),
         Kind::Clock => put_level(outputs, clock_high(f.parameter, time)),
-        Kind::Const => {}
+        Kind::Const => 0,
         Kind::Majority => put_level(outputs, most_high(inputs)),
     }
 }
 
-// Evaluates a component that obeys the table of kinds over its own ports and no others. `evaluate` calls it, crate rounds does for
-// each component of a round, and crate judging for each that it judges: all have tested what it requires.
-pub fn update(f: Fields, inputs: &[u64], outputs: &mut [u64], time: u64)
+// Evaluates a component that obeys the table of kinds over its own ports and no others. The answer is which of its outputs changed, bit
+// i for output i. `evaluate` calls it, crate rounds does for each component of a round, and crate judging for each that it judges: all
+// have tested what it requires.
+pub fn update(f: Fields, inputs: &[u64], outputs: &mut [u64], time: u64) -> u64
     requires { ⌜ Own f (now inputs) (now outputs) ⌝ }
-    ensures { λ _. ⌜ now (outputs .exit) ≡ outputsAfter f (now (inputs .entry)) (now (outputs .entry)) time ⌝ }
+    ensures { λ r. ⌜ (r ≡ movedOutputs f (now (inputs .entry)) (now (outputs .entry)) time)
+        × (now (outputs .exit) ≡ outputsAfter f (now (inputs .entry)) (now (outputs .entry)) time) ⌝ }
 {
     match kind_of(f.kind) {
         Seen::Known(kind) => update_as(kind, f, inputs, outputs, time),
-        Seen::Kept => {}
-        Seen::Unknown => {}
+        Seen::Kept => 0,
+        Seen::Unknown => 0,
     }
 }

@@ -66,7 +66,8 @@ fn evaluate_number(
 }
 
 // Evaluates a component of these fields: its inputs' numbers and their widths, its outputs' numbers, which are written, and their
-// widths, and the time. A refusal leaves the outputs as they were; numbers past the component's ports are kept.
+// widths, and the time. The answer is which of its outputs changed. A refusal leaves the outputs as they were; numbers past the
+// component's ports are kept.
 pub fn evaluate(
     f: Fields,
     inputs: &[u64],
@@ -83,6 +84,6 @@ pub fn evaluate(
     }
     let n = f.inputs as usize;
     let m = f.outputs as usize;
-    update(f, &inputs[..n], &mut outputs[..m], time);
-    Evaluated::Done
+    let moved = update(f, &inputs[..n], &mut outputs[..m], time);
+    Evaluated::Done(moved)
 }

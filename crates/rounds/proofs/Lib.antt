@@ -6,4 +6,5 @@ pub mod Left
 pub mod LinksLaws
 pub mod ListedLaws
 pub mod StepsLaws
+pub mod MovedLaws
 pub mod RoundLaws

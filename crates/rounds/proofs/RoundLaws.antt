@@ -16,7 +16,7 @@ use Rattle.tables.proofs.NamedLaws.{overlay-list}
 use Rattle.net.specs.Net.{names, netNumber}
 use Rattle.net.proofs.NetLaws.{names-entry, netNumber-net, netNumber-sizes}
 use Rattle.rounds.specs.declared.Sizes.{Sizes}
-use Rattle.rounds.specs.Round.{State, stateOf, leave, turn, evaluated, send, visit, round, calm, roundOf}
+use Rattle.rounds.specs.Round.{State, stateOf, leave, turn, evaluated, send, visit, movedBy, round, calm, roundBits, roundOf}
 use Rattle.rounds.specs.Links.{SourcesFew}
 use Rattle.rounds.specs.Steps.{wiring, stateAt, CanRun, ListFits, ListInside}
 use Rattle.rounds.proofs.Sound.{net-sound, net-within, current-in, following-in, standing-in, wire-in, output-room, input-room}
@@ -161,6 +161,11 @@ module _ (T : Tables) (t : ℕ) (vs : List Wire) where
       l ∙ sym (round-visits s (v ∙ rw (ef, es)))
 
 -- In stored order, which leaves the count of wires.
+pub round-bits : (T : Tables) (t : ℕ) (ms ms′ : List ℕ) → ms′ ≡ overlay (movedBy T (wiresIn T) t (stateOf T) (currentList T)) ms
+    → ms′ ≡ overlay (roundBits t T) ms
+unfolding roundBits
+round-bits T t ms ms′ e = e
+
 module _ (T U : Tables) (t : ℕ) where
   pub round-stored : U ≡ leave T (round T (wiresIn T) t (stateOf T)) → U ≡ roundOf t T
   unfolding roundOf

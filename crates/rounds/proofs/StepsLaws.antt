@@ -11,14 +11,14 @@ use native.Mathlib.Omega.{arith}
 use borrow.Rule.Slice.PartMut.{putMid, post-is}
 use borrow.Author.Tests.{eq-eqb, ne-eqb}
 use lib.ListN.{length, getD, take, drop, set, length-take}
-use lib.Seq.{sets, sets-eq, take-nil, slice, slice-cons, slice-empty}
+use lib.Seq.{sets, sets-eq, take-nil, length-take-le, slice, slice-cons, slice-empty}
 use lib.Dec.{eqb}
 use Rattle.lists.specs.Lists.{has, appendNew, strike, overlay}
 use Rattle.lists.proofs.NamesLaws.{names-sound, names-complete, names-append, names-length}
 use Rattle.kinds.specs.declared.Kind.the-variants.{Clock}
 use Rattle.kinds.specs.declared.table.Fields.{Fields}
 use Rattle.kinds.specs.Kinds.{is}
-use Rattle.primitive.specs.Evaluate.{outputsAfter}
+use Rattle.primitive.specs.Evaluate.{outputsAfter, movedOutputs}
 use Rattle.primitive.specs.Own.{Own}
 use Rattle.primitive.proofs.FitLaws.{outputsAfter-length}
 use Rattle.tables.specs.declared.Wire.{Wire}
@@ -28,7 +28,7 @@ use Rattle.tables.proofs.NamedLaws.{overlay-list, overlay-count}
 use Rattle.tables.specs.Words.{uncounted, wireIn}
 use Rattle.net.specs.Net.{names}
 use Rattle.net.proofs.NetLaws.{names-entry}
-use Rattle.rounds.specs.Round.{State, withCurrent, withStanding, wiresFrom, evaluated, send, visit}
+use Rattle.rounds.specs.Round.{State, withCurrent, withStanding, wiresFrom, evaluated, send, visit, movedAt}
 use Rattle.rounds.specs.Steps.{wiring, stateAt, CanEvaluate, CanSend, CanRun, ListFits, Step}
 use Rattle.rounds.proofs.Ports.{numbers-length}
 use Rattle.rounds.proofs.ListedLaws.{strike-none}
@@ -127,6 +127,10 @@ module _ (T : Tables) (ins outs : List ℕ) (i : ℕ) (v : CanEvaluate T ins out
         ∙ append-assoc (take (firstOutput T i) outs) w (drop (firstOutput T i + length w) outs)
         ∙ ap (λ (k : ℕ). take (firstOutput T i) outs ++ (w ++ drop (firstOutput T i + k) outs)) l in
         r ∙ rw (eb, z, ef) (sym q)
+
+    -- The bits of the part that is lent are the component's.
+    pub evaluated-moved : (t m : ℕ) (std : List ℕ) → m ≡ movedOutputs f xs ys t → m ≡ movedAt T t (stateAt ins outs [] std) i
+    evaluated-moved t m std e = e ∙ rw (lent-inputs-are, ys-are, ef)
 
     -- A component that is not in the standing list is not there to be struck,
     pub evaluated-unstood : (t n : ℕ) (zs std : List ℕ) → zs ≡ outputsAfter f xs ys t → has i (take n std) ≡ false → n ≤ length std
@@ -262,7 +266,7 @@ module _ (T : Tables) where
       by-test true = refl
       by-test false = refl
 
-  visit-current : (ws : List Wire) (t : ℕ) (d : List ℕ) (s : State) (i : ℕ)
+  pub visit-current : (ws : List Wire) (t : ℕ) (d : List ℕ) (s : State) (i : ℕ)
       → visit T ws t (withCurrent d s) i ≡ withCurrent d (visit T ws t s i)
   unfolding visit evaluated
   visit-current ws t d s i =
@@ -307,6 +311,12 @@ module _ (cs ws : List ℕ) (m : Counts) where
   pub listed-at : (n : ℕ) (t : List ℕ) (k i : ℕ) → ListFits (wiring cs ws m) n t → k < n → i ≡ getD t k 0
       → i < m .components
   listed-at n t k i l h e = rw e (names-entry (wiring cs ws m) n t (l .count) (l .named) k h)
+
+  -- A list names no more components than there are.
+  pub listed-few : (n : ℕ) (t : List ℕ) → ListFits (wiring cs ws m) n t → m .components ≤ 256 → n ≤ 256
+  unfolding names
+  listed-few n t l h =
+      omega (arith, names-length (m .components) (take n t) (names-sound (m .components) (take n t) (l .named)), length-take-le n t (l .count))
 
 -- A loop over a list of components: what is still to come.
 module _ (T : Tables) (ws : List Wire) (t : ℕ) (list : List ℕ) (q n : ℕ) (s x : State) where

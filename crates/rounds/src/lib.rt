@@ -9,11 +9,12 @@ ghost use mathlib.Core.Path.{_≡_};
 ghost use mathlib.Core.List.{List, [], foldl};
 ghost use Prim.Native.Nat.{ℕ, _≤_, _<_};
 ghost use lib.ListN.{length, take};
+ghost use Rattle.lists.specs.Lists.{overlay};
 ghost use Rattle.tables.specs.declared.Wire.{Wire};
-ghost use Rattle.tables.specs.Tables.{tablesOf};
+ghost use Rattle.tables.specs.Tables.{tablesOf, currentList};
 ghost use Rattle.tables.specs.Words.{uncounted};
 ghost use Rattle.net.specs.Net.{netNumber};
-ghost use Rattle.rounds.specs.Round.{stateOf, wiresFrom, turn, leave, send, evaluated, visit, round};
+ghost use Rattle.rounds.specs.Round.{stateOf, wiresFrom, turn, leave, send, evaluated, visit, movedAt, movedBy, round};
 ghost use Rattle.rounds.specs.Steps.{wiring, stateAt, CanEvaluate, CanSend, CanRun, ListFits, Step};
 ghost use Rattle.rounds.specs.Links.{Follows, HasLinks, IsListed, ListMarked, ListCovered};
 use crate::marks::append_marked;
@@ -29,6 +30,18 @@ use tables::Wire;
 struct Sizes {
     following: usize,
     standing: usize,
+}
+
+// What an evaluation comes to: the standing list's new count, and which outputs changed, bit i for output i.
+struct Outcome {
+    standing: usize,
+    moved: u64,
+}
+
+// What a visit comes to: the new counts of the two lists, and which outputs changed.
+struct Visited {
+    sizes: Sizes,
+    moved: u64,
 }
 
 // One wire: if output and input differ, writes the input and appends the target to the following list unless there. The answer is
@@ -100,8 +113,8 @@ fn send_wires(
     filled
 }
 
-// Evaluates component i in the tables of ports and, unless it is a Clock, strikes it from the standing list. The answer is that
-// list's new count. What the list named at the round's start is marked in `stood`: any other component is not there to be struck.
+// Evaluates component i in the tables of ports and, unless it is a Clock, strikes it from the standing list. What the list named at
+// the round's start is marked in `stood`: any other component is not there to be struck.
 fn evaluate_at(
     components: &[u64],
     inputs: &[u64],
@@ -111,34 +124,45 @@ fn evaluate_at(
     count: usize,
     i: usize,
     time: u64,
-) -> usize
+) -> Outcome
     requires { ⌜ ListCovered count (now standing) (now stood) × CanEvaluate (uncounted (now components) []) (now inputs) (now outputs) i ⌝ }
-    ensures { λ r. ⌜ Step r (now (standing .exit)) (stateAt (now (inputs .entry)) (now (outputs .exit)) [] (take r (now (standing .exit))))
-        (evaluated (uncounted (now (components .entry)) []) time i (stateAt (now (inputs .entry)) (now (outputs .entry)) []
-        (take count (now (standing .entry)))))
-        × ListCovered r (now (standing .exit)) (now (stood .entry)) ⌝ }
+    ensures { λ r.
+        let before = stateAt (now (inputs .entry)) (now (outputs .entry)) [] (take count (now (standing .entry))) in
+        ⌜ Step (r .standing) (now (standing .exit)) (stateAt (now (inputs .entry)) (now (outputs .exit)) [] (take (r .standing) (now (standing .exit))))
+        (evaluated (uncounted (now (components .entry)) []) time i before)
+        × ListCovered (r .standing) (now (standing .exit)) (now (stood .entry))
+        × (r .moved ≡ movedAt (uncounted (now (components .entry)) []) time before i) ⌝ }
 {
     let f = tables::fields_at(components, i);
     let input = tables::first_input(components, i);
     let output = tables::first_output(components, i);
     let input_end = input + f.inputs as usize;
     let output_end = output + f.outputs as usize;
-    primitive::update(
+    let moved = primitive::update(
         f,
         &inputs[input..input_end],
         &mut outputs[output..output_end],
         time,
     );
     if stood[i] == 0 {
-        return count;
+        return Outcome {
+            standing: count,
+            moved,
+        };
     }
     if tables::is_kind(components, i, Kind::Clock) {
-        return count;
+        return Outcome {
+            standing: count,
+            moved,
+        };
     }
-    tables::strike(standing, count, i as u16)
+    Outcome {
+        standing: tables::strike(standing, count, i as u16),
+        moved,
+    }
 }
 
-// One component of the current list: evaluated, then each of its wires. The answer is the new counts of the two lists.
+// One component of the current list: evaluated, then each of its wires.
 fn visit(
     components: &[u64],
     wires: &[u16],
@@ -154,20 +178,23 @@ fn visit(
     sizes: Sizes,
     i: usize,
     time: u64,
-) -> Sizes
+) -> Visited
     requires { ⌜ CanRun (wiring (now components) (now wires) counts) (now inputs) (now outputs)
         × ListMarked (wiring (now components) (now wires) counts) (sizes .following) (now following) (now listed)
         × ListCovered (sizes .standing) (now standing) (now stood)
         × HasLinks (now wires) (counts .wires) (now head) (now after) × (i < counts .components) ⌝ }
-    ensures { λ r. ⌜ ((vs : List Wire) → Follows (now (wires .entry)) (counts .wires) (now (head .entry)) (now (after .entry)) vs
-        → stateAt (now (inputs .exit)) (now (outputs .exit)) (take (r .following) (now (following .exit))) (take (r .standing) (now (standing .exit)))
-        ≡ visit (wiring (now (components .entry)) (now (wires .entry)) counts) vs
-        time (stateAt (now (inputs .entry)) (now (outputs .entry)) (take (sizes .following) (now (following .entry)))
-        (take (sizes .standing) (now (standing .entry)))) i)
-        × ListMarked (wiring (now (components .entry)) (now (wires .entry)) counts) (r .following) (now (following .exit)) (now (listed .exit))
-        × ListCovered (r .standing) (now (standing .exit)) (now (stood .entry)) ⌝ }
+    ensures { λ r.
+        let before = stateAt (now (inputs .entry)) (now (outputs .entry)) (take (sizes .following) (now (following .entry)))
+        (take (sizes .standing) (now (standing .entry))) in
+        ⌜ ((vs : List Wire) → Follows (now (wires .entry)) (counts .wires) (now (head .entry)) (now (after .entry)) vs
+        → stateAt (now (inputs .exit)) (now (outputs .exit)) (take (r .sizes .following) (now (following .exit)))
+        (take (r .sizes .standing) (now (standing .exit)))
+        ≡ visit (wiring (now (components .entry)) (now (wires .entry)) counts) vs time before i)
+        × ListMarked (wiring (now (components .entry)) (now (wires .entry)) counts) (r .sizes .following) (now (following .exit)) (now (listed .exit))
+        × ListCovered (r .sizes .standing) (now (standing .exit)) (now (stood .entry))
+        × (r .moved ≡ movedAt (wiring (now (components .entry)) (now (wires .entry)) counts) time before i) ⌝ }
 {
-    let left = evaluate_at(
+    let evaluation = evaluate_at(
         components,
         inputs,
         outputs,
@@ -190,13 +217,17 @@ fn visit(
         counts,
         i,
     );
-    Sizes {
-        following: filled,
-        standing: left,
+    Visited {
+        sizes: Sizes {
+            following: filled,
+            standing: evaluation.standing,
+        },
+        moved: evaluation.moved,
     }
 }
 
-// Every component of a list of `count` entries, in its order.
+// Every component of a list of `count` entries, in its order. Entry k of `moved` is written with which outputs of component k of the list
+// changed; entries past the list are kept.
 fn visit_all(
     components: &[u64],
     wires: &[u16],
@@ -210,6 +241,7 @@ fn visit_all(
     listed: &mut [u8; 256],
     standing: &mut [u16],
     stood: &[u8; 256],
+    moved: &mut [u64],
     counts: Counts,
     sizes: Sizes,
     time: u64,
@@ -217,20 +249,23 @@ fn visit_all(
     requires { ⌜ CanRun (wiring (now components) (now wires) counts) (now inputs) (now outputs)
         × ListFits (wiring (now components) (now wires) counts) count (now list)
         × ListMarked (wiring (now components) (now wires) counts) (sizes .following) (now following) (now listed)
-        × ListCovered (sizes .standing) (now standing) (now stood)
+        × ListCovered (sizes .standing) (now standing) (now stood) × (256 ≤ length (now moved))
         × (0 < count → HasLinks (now wires) (counts .wires) (now head) (now after)) ⌝ }
-    ensures { λ r. ⌜ ((vs : List Wire) → (0 < count → Follows (now (wires .entry)) (counts .wires) (now (head .entry)) (now (after .entry)) vs)
-        → stateAt (now (inputs .exit)) (now (outputs .exit)) (take (r .following) (now (following .exit))) (take (r .standing) (now (standing .exit)))
-        ≡ foldl (visit (wiring (now (components .entry)) (now (wires .entry)) counts) vs time)
-        (stateAt (now (inputs .entry)) (now (outputs .entry)) (take (sizes .following) (now (following .entry)))
-        (take (sizes .standing) (now (standing .entry)))) (take count (now (list .entry))))
+    ensures { λ r.
+        let before = stateAt (now (inputs .entry)) (now (outputs .entry)) (take (sizes .following) (now (following .entry)))
+        (take (sizes .standing) (now (standing .entry))) in
+        ⌜ ((vs : List Wire) → (0 < count → Follows (now (wires .entry)) (counts .wires) (now (head .entry)) (now (after .entry)) vs)
+        → (stateAt (now (inputs .exit)) (now (outputs .exit)) (take (r .following) (now (following .exit))) (take (r .standing) (now (standing .exit)))
+        ≡ foldl (visit (wiring (now (components .entry)) (now (wires .entry)) counts) vs time) before (take count (now (list .entry))))
+        × (now (moved .exit)
+        ≡ overlay (movedBy (wiring (now (components .entry)) (now (wires .entry)) counts) vs time before (take count (now (list .entry)))) (now (moved .entry))))
         × (r .following ≤ length (now (following .exit))) × (r .standing ≤ length (now (standing .exit))) ⌝ }
 {
     let mut reached = sizes;
     let mut k: usize = 0;
     while k < count {
         let i = tables::entry(list, k);
-        reached = visit(
+        let visited = visit(
             components,
             wires,
             head,
@@ -246,6 +281,8 @@ fn visit_all(
             i,
             time,
         );
+        reached = visited.sizes;
+        moved[k] = visited.moved;
         k += 1;
     }
     reached
@@ -282,8 +319,9 @@ fn end_round(
     }
 }
 
-// A round of a net, which takes the wires in the order in which they are linked. The answer is the new counts. Crate simulator calls it
-// where no check refuses the tables; where the current list is empty no link is looked at.
+// A round of a net, which takes the wires in the order in which they are linked. The answer is the new counts; which outputs changed of
+// component k of the current list is written to entry k of `moved`. Crate simulator calls it where no check refuses the tables; where the
+// current list is empty no link is looked at.
 pub fn net_round(
     components: &[u64],
     inputs: &mut [u64],
@@ -294,17 +332,19 @@ pub fn net_round(
     current: &mut [u16],
     following: &mut [u16],
     standing: &mut [u16],
+    moved: &mut [u64],
     counts: Counts,
     time: u64,
 ) -> Counts
     requires { ⌜ (netNumber (tablesOf (now components) (now inputs) (now outputs) (now wires) (now current) (now following) (now standing) counts) ≡ 0)
-        × (0 < counts .current → HasLinks (now wires) (counts .wires) (now head) (now after)) ⌝ }
+        × (256 ≤ length (now moved)) × (0 < counts .current → HasLinks (now wires) (counts .wires) (now head) (now after)) ⌝ }
     ensures { λ r.
         let before = tablesOf (now (components .entry)) (now (inputs .entry)) (now (outputs .entry)) (now (wires .entry)) (now (current .entry))
         (now (following .entry)) (now (standing .entry)) counts in
         ⌜ ((vs : List Wire) → (0 < counts .current → Follows (now (wires .entry)) (counts .wires) (now (head .entry)) (now (after .entry)) vs)
-        → tablesOf (now (components .entry)) (now (inputs .exit)) (now (outputs .exit)) (now (wires .entry)) (now (current .exit))
-        (now (following .exit)) (now (standing .exit)) r ≡ leave before (round before vs time (stateOf before))) ⌝ }
+        → (tablesOf (now (components .entry)) (now (inputs .exit)) (now (outputs .exit)) (now (wires .entry)) (now (current .exit))
+        (now (following .exit)) (now (standing .exit)) r ≡ leave before (round before vs time (stateOf before)))
+        × (now (moved .exit) ≡ overlay (movedBy before vs time (stateOf before) (currentList before)) (now (moved .entry)))) ⌝ }
 {
     let mut next = [0u16; 256];
     let mut left = [0u16; 256];
@@ -331,6 +371,7 @@ pub fn net_round(
         &mut listed,
         &mut left,
         &stood,
+        moved,
         counts,
         sizes,
         time,

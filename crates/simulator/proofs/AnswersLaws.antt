@@ -16,12 +16,15 @@ same-at : (k : ℕ) (xs ys : List ℕ) → xs ≡ ys → getD xs k 0 ≡ getD ys
 same-at k xs ys e = ap (λ (zs : List ℕ). getD zs k 0) e
 
 pub ranGives-is : (a b : Ran) → ranGives a ≡ ranGives b → a ≡ b
-ranGives-is (RanOut m j x) (RanOut n k y) e =
-    let v = done-values (j ∷ x ∷ countWords m) (k ∷ y ∷ countWords n) e in
-    let c = countWords-is m n (ap (drop 2) v) in
-    let r : j ≡ k = same-at 0 (j ∷ x ∷ countWords m) (k ∷ y ∷ countWords n) v in
-    let s : x ≡ y = same-at 1 (j ∷ x ∷ countWords m) (k ∷ y ∷ countWords n) v in
-    λ i. RanOut (c i) (r i) (s i)
-ranGives-is (RanOut m j x) (NotRun r) e = absurd (done-declined (j ∷ x ∷ countWords m) r e)
-ranGives-is (NotRun r) (RanOut m j x) e = absurd (done-declined (j ∷ x ∷ countWords m) r (sym e))
+ranGives-is (RanOut m j x y) (RanOut n k z w) e =
+    let xs = j ∷ x ∷ y ∷ countWords m in
+    let ys = k ∷ z ∷ w ∷ countWords n in
+    let v = done-values xs ys e in
+    let c = countWords-is m n (ap (drop 3) v) in
+    let r : j ≡ k = same-at 0 xs ys v in
+    let s : x ≡ z = same-at 1 xs ys v in
+    let t : y ≡ w = same-at 2 xs ys v in
+    λ i. RanOut (c i) (r i) (s i) (t i)
+ranGives-is (RanOut m j x y) (NotRun r) e = absurd (done-declined (j ∷ x ∷ y ∷ countWords m) r e)
+ranGives-is (NotRun r) (RanOut m j x y) e = absurd (done-declined (j ∷ x ∷ y ∷ countWords m) r (sym e))
 ranGives-is (NotRun r) (NotRun s) e = ap NotRun (declined-refusal r s e)

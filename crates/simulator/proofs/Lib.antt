@@ -1,5 +1,6 @@
 pub mod EditsLaws
 pub mod Kept
+pub mod MovedLaws
 pub mod CallsLaws
 pub mod RunLaws
 pub mod AnswersLaws

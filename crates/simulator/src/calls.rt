@@ -5,6 +5,7 @@ ghost use Rattle.tables.specs.Tables.{tablesOf, countsAfter};
 ghost use Rattle.net.specs.Net.{netNumber};
 ghost use Rattle.simulator.specs.Calls.{Rounds, run, countsAfterRun, Runs};
 use crate::Ran;
+use crate::moved::count_moved;
 use kinds::refused_by;
 use rounds::NO_WIRE;
 use rounds::link_once;
@@ -13,7 +14,11 @@ use rounds::net_round;
 use tables::Answer;
 use tables::Counts;
 
-// A round at a time, on any tables and counts: 2, 16. "A refusal of any call changes no lent table."
+// Full size of a table of bits: a word for each component that a round can evaluate.
+const WORDS: usize = 256;
+
+// A round at a time, on any tables and counts: 2, 16. Which outputs changed of component k of the current list is written to entry k of
+// `moved`, bit i for output i; entries past the list are kept. "A refusal of any call changes no lent table."
 pub fn round(
     components: &[u64],
     inputs: &mut [u64],
@@ -22,6 +27,7 @@ pub fn round(
     current: &mut [u16],
     following: &mut [u16],
     standing: &mut [u16],
+    moved: &mut [u64],
     counts: Counts,
     time: u64,
 ) -> Answer
@@ -30,8 +36,11 @@ pub fn round(
         (now (current .entry)) (now (following .entry)) (now (standing .entry)) counts in
         let after = tablesOf (now (components .entry)) (now (inputs .exit)) (now (outputs .exit)) (now (wires .entry))
         (now (current .exit)) (now (following .exit)) (now (standing .exit)) (countsAfter r counts) in
-        ⌜ Rounds time before r after ⌝ }
+        ⌜ Rounds time (now (moved .entry)) before r after (now (moved .exit)) ⌝ }
 {
+    if moved.len() < WORDS {
+        return Answer::Refused(refused_by(2));
+    }
     let number = net::net_number(
         components,
         inputs,
@@ -65,6 +74,7 @@ pub fn round(
         current,
         following,
         standing,
+        moved,
         counts,
         time,
     ))
@@ -75,6 +85,7 @@ struct Run {
     counts: Counts,
     rounds: u16,
     evaluations: u32,
+    moved: u32,
 }
 
 // Rounds of a net, one after the other, at most `limit` of them, until the first that leaves calm. The wires are linked once, before the
@@ -97,6 +108,7 @@ fn net_run(
           (now (current .exit)) (now (following .exit)) (now (standing .exit)) (r .counts);
       rounds = r .rounds;
       evaluations = r .evaluations;
+      moved = r .moved;
     }
         ≡ run limit time (tablesOf (now (components .entry)) (now (inputs .entry)) (now (outputs .entry)) (now (wires .entry)) (now (current .entry))
         (now (following .entry)) (now (standing .entry)) counts) ⌝ }
@@ -107,13 +119,16 @@ fn net_run(
     let mut reached = counts;
     let mut rounds: u16 = 0;
     let mut evaluations: u32 = 0;
+    let mut moved: u32 = 0;
+    let mut bits = [0u64; WORDS];
     let mut calm = false;
     while !calm & (rounds < limit) {
-        evaluations += reached.current as u32;
+        let evaluated = reached.current;
+        evaluations += evaluated as u32;
         linked = link_once(
             wires,
             reached.wires,
-            reached.current,
+            evaluated,
             linked,
             &mut head,
             &mut after,
@@ -128,9 +143,11 @@ fn net_run(
             current,
             following,
             standing,
+            &mut bits,
             reached,
             time,
         );
+        moved += count_moved(&bits, evaluated);
         rounds += 1;
         calm = net_calm(components, current, following, standing, reached);
     }
@@ -138,6 +155,7 @@ fn net_run(
         counts: reached,
         rounds,
         evaluations,
+        moved,
     }
 }
 
@@ -191,5 +209,6 @@ pub fn run_until_calm(
         counts: reached,
         rounds: made.rounds,
         evaluations: made.evaluations,
+        moved: made.moved,
     }
 }

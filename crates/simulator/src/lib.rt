@@ -1,6 +1,7 @@
 // Rounds, edits and runs until calm as calls over lent tables. Rules: docs/SPECIFICATION.md, "Rounds" and "Numbers given back". Source: simulator.rs.
 mod calls;
 mod edits;
+mod moved;
 
 pub use calls::round;
 pub use calls::run_until_calm;
@@ -8,12 +9,13 @@ pub use edits::edit;
 use kinds::Refusal;
 use tables::Counts;
 
-// Run until calm: the new counts, the rounds run and the evaluations made.
+// Run until calm: the new counts, the rounds run, the evaluations made and how many times an output changed.
 pub enum Ran {
     Done {
         counts: Counts,
         rounds: u16,
         evaluations: u32,
+        moved: u32,
     },
     Refused(Refusal),
 }

@@ -5,7 +5,7 @@ use mathlib.Core.Path.{sym, _∙_}
 use mathlib.Core.List.{[]}
 use Rattle.tables.specs.Words.{uncounted}
 use Rattle.tables.proofs.RowsLaws.{obeyed-fit}
-use Rattle.rounds.proofs.StepsLaws.{lent-inputs, lent-outputs, lent-own, evaluated-unstood, evaluated-clock, evaluated-struck}
+use Rattle.rounds.proofs.StepsLaws.{lent-inputs, lent-outputs, lent-own, evaluated-moved, evaluated-unstood, evaluated-clock, evaluated-struck}
 use Rattle.rounds.proofs.ListedLaws.{covered-struck}
 use borrow.Author.Needs.{needs}
 use Rattle.rounds.proofs.evaluate_at.Statement.{statement}
@@ -54,9 +54,12 @@ returns c =
     let a = s .args in (
       evaluated-unstood (uncounted (a .components .now) []) (a .inputs .now) (a .outputs .now) (a .i) (s .pre .1) _ _ _
           (at-fields-at .fields-at .ensures) (at-first-input .first-input .ensures) (at-first-output .first-output .ensures)
-          (a .time) (a .count) _ (a .standing .now) (at-update .update .ensures)
+          (a .time) (a .count) _ (a .standing .now) (at-update .update .ensures .1)
           (s .pre .0 .covered (a .i) (s .pre .1 .few) (c .if1 .taken)) (s .pre .0 .count),
       s .pre .0,
+      evaluated-moved (uncounted (a .components .now) []) (a .inputs .now) (a .outputs .now) (a .i) (s .pre .1) _ _ _
+          (at-fields-at .fields-at .ensures) (at-first-input .first-input .ensures) (at-first-output .first-output .ensures)
+          (a .time) _ [] (at-update .update .ensures .0),
     )
 
 returns-2 : tie.Need-returns-2
@@ -70,8 +73,11 @@ returns-2 c =
     let a = s .args in (
       evaluated-clock (uncounted (a .components .now) []) (a .inputs .now) (a .outputs .now) (a .i) (s .pre .1) _ _ _
           (at-fields-at .fields-at .ensures) (at-first-input .first-input .ensures) (at-first-output .first-output .ensures)
-          (a .time) (a .count) _ (a .standing .now) (at-update .update .ensures) (sym (at-is-kind .is-kind .ensures) ∙ c .if2 .taken) (s .pre .0 .count),
+          (a .time) (a .count) _ (a .standing .now) (at-update .update .ensures .1) (sym (at-is-kind .is-kind .ensures) ∙ c .if2 .taken) (s .pre .0 .count),
       s .pre .0,
+      evaluated-moved (uncounted (a .components .now) []) (a .inputs .now) (a .outputs .now) (a .i) (s .pre .1) _ _ _
+          (at-fields-at .fields-at .ensures) (at-first-input .first-input .ensures) (at-first-output .first-output .ensures)
+          (a .time) _ [] (at-update .update .ensures .0),
     )
 
 returns-3 : tie.Need-returns-3
@@ -89,9 +95,14 @@ returns-3 c =
     let e =
     evaluated-struck (uncounted (a .components .now) []) (a .inputs .now) (a .outputs .now) (a .i) (s .pre .1) _ _ _
     (at-fields-at .fields-at .ensures) (at-first-input .first-input .ensures) (at-first-output .first-output .ensures) (a .time)
-    (a .count) _ _ (a .standing .now) _ (at-update .update .ensures) (sym (at-is-kind .is-kind .ensures) ∙ at-if2 .if2 .left)
-    (r .0) (r .1) in
-    (e, covered-struck (a .stood .now) (a .standing .now) _ (a .count) _ (a .i) (e .count) (r .1) (s .pre .0))
+    (a .count) _ _ (a .standing .now) _ (at-update .update .ensures .1) (sym (at-is-kind .is-kind .ensures) ∙ at-if2 .if2 .left)
+    (r .0) (r .1) in (
+      e,
+      covered-struck (a .stood .now) (a .standing .now) _ (a .count) _ (a .i) (e .count) (r .1) (s .pre .0),
+      evaluated-moved (uncounted (a .components .now) []) (a .inputs .now) (a .outputs .now) (a .i) (s .pre .1) _ _ _
+          (at-fields-at .fields-at .ensures) (at-first-input .first-input .ensures) (at-first-output .first-output .ensures)
+          (a .time) _ [] (at-update .update .ensures .0),
+    )
 
 pub evaluate-at-spec : {M : Type 1} → statement M
 evaluate-at-spec =

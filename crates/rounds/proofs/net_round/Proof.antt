@@ -7,6 +7,7 @@ use Rattle.tables.specs.Tables.{Tables, tablesOf}
 use Rattle.net.proofs.NetLaws.{netNumber-sizes}
 use Rattle.rounds.proofs.Sound.{net-within, following-in, standing-in}
 use Rattle.rounds.proofs.RoundLaws.{net-runs, net-current, net-copied, net-named, copy-list, round-made}
+use Rattle.rounds.proofs.MovedLaws.{round-moved}
 use Rattle.rounds.proofs.ListedLaws.{listed-none, listed-covers}
 use borrow.Author.Needs.{needs}
 use Rattle.rounds.proofs.net_round.Statement.{statement}
@@ -21,33 +22,33 @@ came s =
 
 copy-requires : tie.Need-copy-requires
 copy-requires c κs =
-    let s = c .before .before .before .before .before .before .before .before .before in
+    let s = c .before .before .before .before .before .before .before .before .before .before in
     (following-in (came s) (s .pre .0), omega (arith, net-within (came s) (s .pre .0) .following))
 
 copy-requires-2 : tie.Need-copy-requires-2
 copy-requires-2 c κs =
-    let s = c .before .before .before .before .before .before .before .before .before .before .before .before .before in
+    let s = c .before .before .before .before .before .before .before .before .before .before .before .before .before .before in
     (standing-in (came s) (s .pre .0), omega (arith, net-within (came s) (s .pre .0) .standing))
 
 mark-requires : tie.Need-mark-requires
 mark-requires c κs =
     let at-slice-known3 = c .before .before .before .before .before .before .before .before .before .before .before .before in
-    let s = at-slice-known3 .before .before .before .before .before in
+    let s = at-slice-known3 .before .before .before .before .before .before in
     (following-in (came s) (s .pre .0), net-named (came s) (s .pre .0) .0, listed-none)
 
 mark-requires-2 : tie.Need-mark-requires-2
 mark-requires-2 c κs =
     let at-copy-arg = c .before .before .before .before .before .before .before .before .before .before .before .before in
-    let s = at-copy-arg .before .before .before .before .before .before .before .before in
+    let s = at-copy-arg .before .before .before .before .before .before .before .before .before in
     (standing-in (came s) (s .pre .0), net-named (came s) (s .pre .0) .1, listed-none)
 
 visit-all-requires : tie.Need-visit-all-requires
 visit-all-requires c κs =
-    let at-mark2 = c .before .before .before .before .before .before .before in
+    let at-mark2 = c .before .before .before .before .before .before .before .before in
     let at-mark = at-mark2 .before .before .before in
     let at-copy2 = at-mark .before .before .before .before in
     let at-copy = at-copy2 .before .before .before .before in
-    let s = at-copy .before .before .before .before .before .before .before .before .before .before in
+    let s = at-copy .before .before .before .before .before .before .before .before .before .before .before in
     let f = at-copy .copy in
     let d = at-copy2 .copy2 in (
       net-runs (came s) (s .pre .0),
@@ -62,14 +63,15 @@ visit-all-requires c κs =
           (copy-list (s .args .counts .standing) (s .args .standing .now) _ _ (standing-in (came s) (s .pre .0)) (d .ensures))
           (at-mark2 .mark2 .ensures),
       s .pre .1,
+      s .pre .2,
     )
 
 end-round-requires : tie.Need-end-round-requires
 end-round-requires c κs =
-    let at-visit-all = c .before .before .before .before .before .before .before .before .before .before .before in
-    let at-copy2 = at-visit-all .before .before .before .before .before .before .before .before .before .before .before .before .before .before .before in
+    let at-visit-all = c .before .before .before .before .before .before .before .before .before .before .before .before .before in
+    let at-copy2 = at-visit-all .before .before .before .before .before .before .before .before .before .before .before .before .before .before .before .before in
     let at-copy = at-copy2 .before .before .before .before in
-    let s = at-copy .before .before .before .before .before .before .before .before .before .before in
+    let s = at-copy .before .before .before .before .before .before .before .before .before .before .before in
     let f = netNumber-sizes (came s) (s .pre .0) in
     let v = at-visit-all .visit-all in
     let n = v .kept .1 .1 .1 .1 .1 .1 .1 .1 .0 ∙ at-copy .copy .kept .1 .1 .0 in
@@ -84,14 +86,16 @@ end-round-requires c κs =
 returns : tie.Need-returns
 returns c vs f =
     let at-end-round = c .before .before .before .before .before .before in
-    let at-visit-all = at-end-round .before .before .before .before .before .before .before .before .before .before .before .before in
-    let at-copy2 = at-visit-all .before .before .before .before .before .before .before .before .before .before .before .before .before .before .before in
+    let at-visit-all = at-end-round .before .before .before .before .before .before .before .before .before .before .before .before .before .before in
+    let at-copy2 = at-visit-all .before .before .before .before .before .before .before .before .before .before .before .before .before .before .before .before in
     let at-copy = at-copy2 .before .before .before .before in
-    let s = at-copy .before .before .before .before .before .before .before .before .before .before in
-    round-made (came s) (s .args .time) vs _ _ _ _ _ _ _ _ _ (at-visit-all .visit-all .result) _
-    (copy-list (s .args .counts .following) (s .args .following .now) _ _ (following-in (came s) (s .pre .0)) (at-copy .copy .ensures))
-    (copy-list (s .args .counts .standing) (s .args .standing .now) _ _ (standing-in (came s) (s .pre .0)) (at-copy2 .copy2 .ensures))
-    (at-visit-all .visit-all .ensures .0 vs f) (at-end-round .end-round .ensures)
+    let s = at-copy .before .before .before .before .before .before .before .before .before .before .before in
+    let fol = copy-list (s .args .counts .following) (s .args .following .now) _ _ (following-in (came s) (s .pre .0)) (at-copy .copy .ensures) in
+    let std = copy-list (s .args .counts .standing) (s .args .standing .now) _ _ (standing-in (came s) (s .pre .0)) (at-copy2 .copy2 .ensures) in
+    let v = at-visit-all .visit-all .ensures .0 vs f in (
+      round-made (came s) (s .args .time) vs _ _ _ _ _ _ _ _ _ (at-visit-all .visit-all .result) _ fol std (v .0) (at-end-round .end-round .ensures),
+      round-moved (came s) vs (s .args .time) _ _ (s .args .moved .now) _ fol std (v .1),
+    )
 
 pub net-round-spec : {M : Type 1} → statement M
 net-round-spec =
@@ -109,6 +113,7 @@ net-round-spec =
     (λ c. search needs)
     (λ c. search needs)
     end-round-requires
+    (λ c. search needs)
     (λ c. search needs)
     (λ c. search needs)
     (λ c. search needs)

@@ -42,6 +42,7 @@ returns c =
           (w .ensures .0 vs f),
       w .ensures .1,
       e .ensures .1,
+      e .ensures .2,
     )
 
 pub visit-spec : {M : Type 1} → statement M

@@ -6,6 +6,7 @@ use Rattle.kinds.specs.declared.Seen.the-variants.{Known}
 use Rattle.kinds.specs.Kinds.{seenAs}
 use Rattle.kinds.proofs.KindsLaws.{seenAs-known}
 use Rattle.kinds.proofs.ObeysLaws.{obeyed-unkept, obeyed-known}
+use Rattle.primitive.proofs.MovedLaws.{moved-outputs}
 use Rattle.primitive.proofs.rules.update.Statement.{statement}
 use Rattle.primitive.proofs.rules.update.Tie as tie
 
@@ -18,7 +19,10 @@ update-as-requires c κs =
     (seenAs-known (s .args .f .kind) k e, s .pre)
 
 returns : tie.Need-returns
-returns c = c .before .before .update-as .ensures
+returns c =
+    let a = c .before .before .before .before .before .before .before .before .before .before .args in
+    let u = c .before .before .update-as .ensures in
+    (u .0 ∙ moved-outputs (a .f) (a .inputs .now) (a .outputs .now) _ (a .time) (u .1), u .1)
 
 -- kept for Custom: no primitive
 returns-2 : tie.Need-returns-2

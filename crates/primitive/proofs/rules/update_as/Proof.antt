@@ -1,7 +1,7 @@
--- `update_as`: each arm leaves the rule of its kind. What a kind's ports are comes from its row of the table of kinds.
+-- `update_as`: each arm leaves the rule of its kind, and answers what it has changed. What a kind's ports are comes from its row of the table of kinds.
 -- Assumes nothing.
 use borrow.Author.Needs.{needs}
-use mathlib.Core.Path.{_≡_, refl, ap, _∙_}
+use mathlib.Core.Path.{_≡_, refl, sym, ap, _∙_}
 use mathlib.Core.Bool.{Bool, true, false, not}
 use mathlib.Core.List.{List, [], _∷_}
 use Prim.Native.Nat.{ℕ, _<_}
@@ -11,6 +11,7 @@ use Rattle.kinds.specs.declared.Kind.{Kind}
 use Rattle.kinds.specs.declared.Kind.the-variants.{Composite, And, Or, Not, Nand, Nor, Xor, Switch, Input, Output, Splitter, Joiner, Clock, Const, Majority}
 use Rattle.kinds.specs.Kinds.{numberOf, row, only}
 use Rattle.primitive.specs.Evaluate.{one, split, rule, outputsAfter}
+use Rattle.primitive.proofs.MovedLaws.{moved-none}
 use Rattle.primitive.proofs.UpdateLaws.{leaves, outputsAfter-rule, outputsAfter-left}
 use Rattle.kinds.proofs.ObeysLaws.{Inside, InRow, obeyed-row, obeyed-primitive}
 use Rattle.primitive.proofs.rules.update_as.Statement.{statement}
@@ -82,6 +83,12 @@ put-requires-3 c κs = one-output (c .before .before .before .before .before .be
 shared-slice-read-split : tie.Need-shared-slice-read-split
 shared-slice-read-split c = first-input (c .before .before .before .before .before) Splitter refl (c .before .enum-told11 .given .1)
 
+split-requires : tie.Need-split-requires
+split-requires c κs =
+    let s = c .before .before .before .before .before .before in
+    let r = in-row s Splitter (c .before .before .enum-told11 .given .1) in
+    omega (arith, r .outputs .most, r .parameter .most, s .pre .1 .all-outputs)
+
 join-requires : tie.Need-join-requires
 join-requires c κs =
     let s = c .before .before .before .before .before in
@@ -116,55 +123,71 @@ returns c =
 
 -- And
 returns-2 : tie.Need-returns-2
-returns-2 c =
-    after (c .before .before .before .before .before .before .before .before .before) And _ (c .before .before .before .before .before .enum-told2 .given .1) refl
-    (c .before .before .put-level .ensures ∙ ap (one) (c .before .before .before .all-high .ensures))
+returns-2 c = (
+  c .before .before .put-level .ensures .0,
+  after (c .before .before .before .before .before .before .before .before .before) And _ (c .before .before .before .before .before .enum-told2 .given .1) refl
+      (c .before .before .put-level .ensures .1 ∙ ap (one) (c .before .before .before .all-high .ensures)),
+)
 
 -- Or
 returns-3 : tie.Need-returns-3
-returns-3 c =
-    after (c .before .before .before .before .before .before .before .before .before) Or _ (c .before .before .before .before .before .enum-told3 .given .1) refl
-    (c .before .before .put-level2 .ensures ∙ ap (one) (c .before .before .before .any-high .ensures))
+returns-3 c = (
+  c .before .before .put-level2 .ensures .0,
+  after (c .before .before .before .before .before .before .before .before .before) Or _ (c .before .before .before .before .before .enum-told3 .given .1) refl
+      (c .before .before .put-level2 .ensures .1 ∙ ap (one) (c .before .before .before .any-high .ensures)),
+)
 
 -- Not
 returns-4 : tie.Need-returns-4
-returns-4 c =
-    after (c .before .before .before .before .before .before .before .before .before .before) Not _ (c .before .before .before .before .before .before .enum-told4 .given .1) refl
-    (c .before .before .put .ensures ∙ ap (λ (x : ℕ). x ∷ []) (c .before .before .before .not-gate .ensures))
+returns-4 c = (
+  c .before .before .put .ensures .0,
+  after (c .before .before .before .before .before .before .before .before .before .before) Not _ (c .before .before .before .before .before .before .enum-told4 .given .1) refl
+      (c .before .before .put .ensures .1 ∙ ap (λ (x : ℕ). x ∷ []) (c .before .before .before .not-gate .ensures)),
+)
 
 -- Nand
 returns-5 : tie.Need-returns-5
-returns-5 c =
-    after (c .before .before .before .before .before .before .before .before .before) Nand _ (c .before .before .before .before .before .enum-told5 .given .1) refl
-    (c .before .before .put-level3 .ensures ∙ ap (λ (b : Bool). one (not b)) (c .before .before .before .all-high2 .ensures))
+returns-5 c = (
+  c .before .before .put-level3 .ensures .0,
+  after (c .before .before .before .before .before .before .before .before .before) Nand _ (c .before .before .before .before .before .enum-told5 .given .1) refl
+      (c .before .before .put-level3 .ensures .1 ∙ ap (λ (b : Bool). one (not b)) (c .before .before .before .all-high2 .ensures)),
+)
 
 -- Nor
 returns-6 : tie.Need-returns-6
-returns-6 c =
-    after (c .before .before .before .before .before .before .before .before .before) Nor _ (c .before .before .before .before .before .enum-told6 .given .1) refl
-    (c .before .before .put-level4 .ensures ∙ ap (λ (b : Bool). one (not b)) (c .before .before .before .any-high2 .ensures))
+returns-6 c = (
+  c .before .before .put-level4 .ensures .0,
+  after (c .before .before .before .before .before .before .before .before .before) Nor _ (c .before .before .before .before .before .enum-told6 .given .1) refl
+      (c .before .before .put-level4 .ensures .1 ∙ ap (λ (b : Bool). one (not b)) (c .before .before .before .any-high2 .ensures)),
+)
 
 -- Xor
 returns-7 : tie.Need-returns-7
-returns-7 c =
-    after (c .before .before .before .before .before .before .before .before .before) Xor _ (c .before .before .before .before .before .enum-told7 .given .1) refl
-    (c .before .before .put-level5 .ensures ∙ ap (one) (c .before .before .before .odd-high .ensures))
+returns-7 c = (
+  c .before .before .put-level5 .ensures .0,
+  after (c .before .before .before .before .before .before .before .before .before) Xor _ (c .before .before .before .before .before .enum-told7 .given .1) refl
+      (c .before .before .put-level5 .ensures .1 ∙ ap (one) (c .before .before .before .odd-high .ensures)),
+)
 
 -- Switch
 returns-8 : tie.Need-returns-8
-returns-8 c = left (c .before .before .before .before) Switch (c .enum-told8 .given .1) refl
+returns-8 c = (sym (moved-none (c .before .before .before .before .args .outputs .now)), left (c .before .before .before .before) Switch (c .enum-told8 .given .1) refl)
 
 -- Input
 returns-9 : tie.Need-returns-9
-returns-9 c =
-    after (c .before .before .before .before .before .before .before .before .before) Input _ (c .before .before .before .before .before .enum-told9 .given .1) refl
-    (c .before .before .put2 .ensures)
+returns-9 c = (
+  c .before .before .put2 .ensures .0,
+  after (c .before .before .before .before .before .before .before .before .before) Input _ (c .before .before .before .before .before .enum-told9 .given .1) refl
+      (c .before .before .put2 .ensures .1),
+)
 
 -- Output
 returns-10 : tie.Need-returns-10
-returns-10 c =
-    after (c .before .before .before .before .before .before .before .before .before) Output _ (c .before .before .before .before .before .enum-told10 .given .1) refl
-    (c .before .before .put3 .ensures)
+returns-10 c = (
+  c .before .before .put3 .ensures .0,
+  after (c .before .before .before .before .before .before .before .before .before) Output _ (c .before .before .before .before .before .enum-told10 .given .1) refl
+      (c .before .before .put3 .ensures .1),
+)
 
 -- Splitter
 returns-11 : tie.Need-returns-11
@@ -174,29 +197,35 @@ returns-11 c =
     let r = in-row s Splitter q in
     let m : length (s .args .outputs .now) ≡ s .args .f .parameter =
     omega (arith, r .outputs .least, r .outputs .most, s .pre .1 .all-outputs) in
-    after s Splitter _ q refl (c .before .before .split .ensures ∙ ap (split (getD (s .args .inputs .now) 0 0)) m)
+    (c .before .before .split .ensures .0, after s Splitter _ q refl (c .before .before .split .ensures .1 ∙ ap (split (getD (s .args .inputs .now) 0 0)) m))
 
 -- Joiner
 returns-12 : tie.Need-returns-12
-returns-12 c =
-    after (c .before .before .before .before .before .before .before .before .before) Joiner _ (c .before .before .before .before .before .enum-told12 .given .1) refl
-    (c .before .before .put4 .ensures ∙ ap (λ (x : ℕ). x ∷ []) (c .before .before .before .join .ensures))
+returns-12 c = (
+  c .before .before .put4 .ensures .0,
+  after (c .before .before .before .before .before .before .before .before .before) Joiner _ (c .before .before .before .before .before .enum-told12 .given .1) refl
+      (c .before .before .put4 .ensures .1 ∙ ap (λ (x : ℕ). x ∷ []) (c .before .before .before .join .ensures)),
+)
 
 -- Clock
 returns-13 : tie.Need-returns-13
-returns-13 c =
-    after (c .before .before .before .before .before .before .before .before .before) Clock _ (c .before .before .before .before .before .enum-told13 .given .1) refl
-    (c .before .before .put-level6 .ensures ∙ ap (one) (c .before .before .before .clock-high .ensures))
+returns-13 c = (
+  c .before .before .put-level6 .ensures .0,
+  after (c .before .before .before .before .before .before .before .before .before) Clock _ (c .before .before .before .before .before .enum-told13 .given .1) refl
+      (c .before .before .put-level6 .ensures .1 ∙ ap (one) (c .before .before .before .clock-high .ensures)),
+)
 
 -- Const
 returns-14 : tie.Need-returns-14
-returns-14 c = left (c .before .before .before .before) Const (c .enum-told14 .given .1) refl
+returns-14 c = (sym (moved-none (c .before .before .before .before .args .outputs .now)), left (c .before .before .before .before) Const (c .enum-told14 .given .1) refl)
 
 -- Majority
 returns-15 : tie.Need-returns-15
-returns-15 c =
-    after (c .before .before .before .before .before .before .before .before .before) Majority _ (c .before .before .before .before .before .enum-told15 .given .1) refl
-    (c .before .before .put-level7 .ensures ∙ ap (one) (c .before .before .before .most-high .ensures))
+returns-15 c = (
+  c .before .before .put-level7 .ensures .0,
+  after (c .before .before .before .before .before .before .before .before .before) Majority _ (c .before .before .before .before .before .enum-told15 .given .1) refl
+      (c .before .before .put-level7 .ensures .1 ∙ ap (one) (c .before .before .before .most-high .ensures)),
+)
 
 pub update-as-spec : {M : Type 1} → statement M
 update-as-spec =
@@ -231,7 +260,7 @@ update-as-spec =
     put-requires-3
     (λ c. search needs)
     shared-slice-read-split
-    (λ c κs. search needs)
+    split-requires
     (λ c. search needs)
     join-requires
     put-requires-4

@@ -16,7 +16,7 @@ returns : tie.Need-returns
 returns c =
     let a = c .before .before .before .before .before .before .before .before .args in
     let e = c .before .before .evaluate-number .ensures in
-    rw (c .refused-by .ensures) (refused-answer (a .f) (a .inputs .now) (a .entering .now) (a .outputs .now) (a .leaving .now) _ e (c .before .if1 .taken), refused-outputs (a .f) (a .inputs .now) (a .entering .now) (a .outputs .now) (a .leaving .now) _ e (c .before .if1 .taken) (a .time))
+    rw (c .refused-by .ensures) (refused-answer (a .f) (a .inputs .now) (a .entering .now) (a .outputs .now) (a .leaving .now) _ e (c .before .if1 .taken) _, refused-outputs (a .f) (a .inputs .now) (a .entering .now) (a .outputs .now) (a .leaving .now) _ e (c .before .if1 .taken) (a .time))
 
 slice-aggregate-update : tie.Need-slice-aggregate-update
 slice-aggregate-update c =
@@ -43,8 +43,8 @@ returns-2 : tie.Need-returns-2
 returns-2 c =
     let a = c .before .before .before .before .before .before .before .before .before .before .before .before .before .before .args in
     let z = zero (c .before .before .before .before .before .before .before) in (
-      done-answer (a .f) (a .inputs .now) (a .entering .now) (a .outputs .now) (a .leaving .now) z,
-      done-outputs (a .f) (a .inputs .now) (a .entering .now) (a .outputs .now) (a .leaving .now) z (c .before .before .update .last .1 .1 .0) (a .time) (c .before .before .update .ensures)
+      done-answer (a .f) (a .inputs .now) (a .entering .now) (a .outputs .now) (a .leaving .now) z _ _ (c .before .before .update .ensures .0),
+      done-outputs (a .f) (a .inputs .now) (a .entering .now) (a .outputs .now) (a .leaving .now) z (c .before .before .update .last .1 .1 .0) (a .time) (c .before .before .update .ensures .1)
           (c .before .before .update .kept .1 .1 .0 ∙ passed-own (a .f) (a .inputs .now) (a .entering .now) (a .outputs .now) (a .leaving .now) z .all-outputs),
     )
 

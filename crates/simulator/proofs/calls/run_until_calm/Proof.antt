@@ -39,7 +39,7 @@ returns-2 c =
     let U =
     tablesOf (s .args .components .now) (r .last .1 .0) (r .last .1 .1 .0) (s .args .wires .now)
     (r .last .1 .1 .1 .1 .0) (r .last .1 .1 .1 .1 .1 .0) (r .last .1 .1 .1 .1 .1 .1 .0) (r .result .counts) in
-    run-made (came s) (s .args .time) (s .args .limit) _ e z U (r .result .counts) (r .result .rounds) (r .result .evaluations)
+    run-made (came s) (s .args .time) (s .args .limit) _ e z U (r .result .counts) (r .result .rounds) (r .result .evaluations) (r .result .moved)
     (r .ensures)
 
 pub run-until-calm-spec : {M : Type 1} → statement M
