@@ -1,11 +1,11 @@
 // A round, called from C.
 ghost use Rattle.tables.specs.Tables.{tablesOf};
-ghost use Rattle.simulator.specs.Calls.{Rounds};
-ghost use Rattle.words.specs.Said.{short, CallChanges};
+ghost use Rattle.words.specs.Said.{short};
+ghost use Rattle.changing.specs.Changing.{CallRounds};
 use words::counts_in;
 use words::keep;
 
-// A round at a time.
+// A round at a time. A table of 256 words is lent for which outputs changed of each component evaluated.
 #[no_mangle]
 pub extern "C" fn berxundar_round(
     components: &[u64],
@@ -17,13 +17,14 @@ pub extern "C" fn berxundar_round(
     standing: &mut [u16],
     counts: &mut [u64],
     time: u64,
+    moved: &mut [u64],
 ) -> u32
     ensures { λ r.
         let lent = tablesOf (now (components .entry)) (now (inputs .entry)) (now (outputs .entry)) (now (wires .entry))
         (now (current .entry)) (now (following .entry)) (now (standing .entry)) in
         let left = tablesOf (now (components .entry)) (now (inputs .exit)) (now (outputs .exit)) (now (wires .entry))
         (now (current .exit)) (now (following .exit)) (now (standing .exit)) in
-        ⌜ CallChanges (Rounds time) (short (now (counts .entry)) 7) (now (counts .entry)) (now (counts .exit)) lent left r ⌝ }
+        ⌜ CallRounds time (short (now (counts .entry)) 7) (now (counts .entry)) (now (counts .exit)) (now (moved .entry)) (now (moved .exit)) lent left r ⌝ }
 {
     if counts.len() < 7 {
         return 131072;
@@ -36,6 +37,7 @@ pub extern "C" fn berxundar_round(
         current,
         following,
         standing,
+        moved,
         counts_in(counts),
         time,
     );

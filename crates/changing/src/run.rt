@@ -7,7 +7,8 @@ ghost use Rattle.changing.specs.Changing.{CallRuns};
 use words::counts_in;
 use words::lay_run;
 
-// Rounds at a time until calm, at most so many. Two words are lent for the rounds run and the evaluations made.
+// Rounds at a time until calm, at most so many. Three words are lent for the rounds run, the evaluations made and how many times an output
+// changed.
 #[no_mangle]
 pub extern "C" fn berxundar_run_until_calm(
     components: &[u64],
@@ -27,10 +28,10 @@ pub extern "C" fn berxundar_run_until_calm(
         (now (current .entry)) (now (following .entry)) (now (standing .entry)) in
         let left = tablesOf (now (components .entry)) (now (inputs .exit)) (now (outputs .exit)) (now (wires .entry))
         (now (current .exit)) (now (following .exit)) (now (standing .exit)) in
-        ⌜ CallRuns (Runs time limit) (short (now (counts .entry)) 7 || short (now (found .entry)) 2) (now (counts .entry)) (now (counts .exit))
+        ⌜ CallRuns (Runs time limit) (short (now (counts .entry)) 7 || short (now (found .entry)) 3) (now (counts .entry)) (now (counts .exit))
         (now (found .entry)) (now (found .exit)) lent left r ⌝ }
 {
-    if (counts.len() < 7) | (found.len() < 2) {
+    if (counts.len() < 7) | (found.len() < 3) {
         return 131072;
     }
     let answer = simulator::run_until_calm(

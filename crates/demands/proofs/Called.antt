@@ -7,6 +7,7 @@ use mathlib.Core.Path.{_≡_, sym, subst}
 use mathlib.Core.Bool.{Bool, true, false, cond, _&&_, _||_, or-false}
 use mathlib.Core.List.{List}
 use Prim.Native.Nat.{ℕ}
+use lib.ListN.{length}
 use borrow.Author.Tests.{eq-eqb}
 use lib.Dec.{eqb, ltb}
 use Rattle.component.specs.declared.Verdict.the-variants.{Accepted}
@@ -15,6 +16,7 @@ use Rattle.tables.specs.Tables.{Tables}
 use Rattle.tables.proofs.SameLaws.{SameWiring, sameWiring-none, sameWiring-more}
 use Rattle.net.specs.Net.{netNumber}
 use Rattle.load.specs.Load.{loadVerdict, loadTables}
+use Rattle.simulator.specs.Calls.{roundTables}
 use Rattle.simulator.proofs.Kept.{roundTables-wiring, roundTables-net}
 use Rattle.quiet.proofs.EditKept.{editTables-wiring, editTables-net}
 use Rattle.quiet.proofs.Since.{Fresh, Unbroken, fresh-unbroken, roundTables-unbroken, editTables-unbroken}
@@ -38,8 +40,17 @@ and-true false b e = λ i. false
 -- What each call keeps of a net.
 pub call-kept : (c : Call) (T : Tables) (ran : Bool) (t : ℕ) → netNumber T ≡ 0 → Unbroken T ran t
     → Kept (ran || runs c T) (cond (runs c T) (callTime c) t) T (callTables c T)
-call-kept (calls.rounded u) T ran t z a =
-    record { net = roundTables-net T u z; wiring = roundTables-wiring T u; unbroken = roundTables-unbroken T ran t u a }
+call-kept (calls.rounded u bits) T ran t z a = by-room (ltb (length bits) 256)
+  where
+    -- A table of bits that is too short leaves everything; else it is a round.
+    by-room : (b : Bool) → Kept (ran || eqb (cond b 2 (netNumber T)) 0) (cond (eqb (cond b 2 (netNumber T)) 0) u t) T (cond b T (roundTables T u))
+    by-room true =
+        record {
+          net = z;
+          wiring = sameWiring-none T;
+          unbroken = subst (λ (b : Bool). Unbroken T b t) (sym (or-false ran)) a;
+        }
+    by-room false = record { net = roundTables-net T u z; wiring = roundTables-wiring T u; unbroken = roundTables-unbroken T ran t u a }
 call-kept (calls.edited i v) T ran t z a =
     record {
       net = editTables-net T i v z;

@@ -2,9 +2,9 @@
 -- answer gives what is written and the number say; and answers that give the same are the same. Assumes nothing.
 use mathlib.Core.Path.{_≡_, sym, ap, _∙_}
 use mathlib.Core.List.{[], _∷_}
-use lib.ListN.{length}
+use lib.ListN.{length, take}
 use Rattle.kinds.specs.Given.{Given, giving}
-use Rattle.primitive.specs.Evaluate.{evaluateNumber, evaluatedGives}
+use Rattle.primitive.specs.Evaluate.{movedOutputs, evaluateNumber, evaluatedGives}
 use Rattle.primitive.proofs.EvaluateLaws.{evaluatedGives-is}
 use Rattle.flatten.specs.Verdict.{verdictGives}
 use Rattle.meeting.proofs.MeetingLaws.{judges-judgement}
@@ -12,7 +12,7 @@ use Rattle.tables.specs.Tables.{answerGives, sources, targets}
 use Rattle.tables.proofs.AnswerLaws.{answerGives-is, changes-determined}
 use Rattle.load.specs.Load.{loadVerdict}
 use Rattle.net.specs.Net.{netNumber}
-use Rattle.simulator.specs.Calls.{editNumber, run, ranGives}
+use Rattle.simulator.specs.Calls.{roundNumber, editNumber, run, ranGives}
 use Rattle.questions.specs.Questions.{whetherGives, indexGives, valueGives, listNumber, listGives}
 use Rattle.simulator.proofs.AnswersLaws.{ranGives-is}
 use Rattle.questions.proofs.AnswersLaws.{whetherGives-is, indexGives-is, valueGives-is, listGives-is}
@@ -36,12 +36,17 @@ equation x a a′ p q = p ∙ sym q
 -- the host's two calls, check 16, calm, satisfied, the index of an id, a port's value, and a value's methods.
 pub determinacy : Determinacy
 determinacy = (
-  λ f xs vs ys ws t. outcome evaluatedGives evaluatedGives-is (λ zs. giving (evaluateNumber f xs vs ys ws) []) _,
+  λ f xs vs ys ws t. outcome evaluatedGives evaluatedGives-is
+      (λ zs. giving (evaluateNumber f xs vs ys ws) (movedOutputs f (take (f .inputs) xs) (take (f .outputs) ys) t ∷ [])) _,
   λ file T. changes-determined answerGives answerGives-is (verdictGives (loadVerdict file T)) _,
-  λ t T. changes-determined answerGives answerGives-is (giving (netNumber T)) _,
+  λ t bits T a a′ b b′ p q.
+      let d = changes-determined answerGives answerGives-is (giving (roundNumber T bits)) _ a a′ (b .0) (b′ .0) (p .0) (q .0) in
+      let left = d .1 in
+      let moved = p .1 ∙ sym (q .1) in
+      (d .0, λ i. (left i, moved i)),
   λ i v T. changes-determined answerGives answerGives-is (giving (editNumber T i v)) _,
   λ t limit T. changes-determined ranGives ranGives-is
-      (λ counts. giving (netNumber T) (run limit t T .rounds ∷ run limit t T .evaluations ∷ counts)) _,
+      (λ counts. giving (netNumber T) (run limit t T .rounds ∷ run limit t T .evaluations ∷ run limit t T .moved ∷ counts)) _,
   λ T i lent. outcome listGives listGives-is (λ zs. giving (listNumber T i lent) (length (sources T i) ∷ [])) _,
   λ T i lent. outcome listGives listGives-is (λ zs. giving (listNumber T i lent) (length (targets T i) ∷ [])) _,
   λ file T path ns ws a a′ b b′ p q.

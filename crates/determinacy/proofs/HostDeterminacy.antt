@@ -6,6 +6,7 @@ use mathlib.Core.List.{List, []}
 use Prim.Native.Nat.{ℕ}
 use lib.ListN.{take, drop}
 use Rattle.lists.specs.Lists.{overlay}
+use Rattle.kinds.specs.declared.table.Fields.{Fields}
 use Rattle.primitive.specs.declared.Evaluated.{Evaluated}
 use Rattle.kinds.specs.Given.{Given, giving, spoken}
 use Rattle.primitive.specs.Evaluate.{evaluatedGives}
@@ -14,17 +15,17 @@ use Rattle.tables.specs.declared.Answer.{Answer}
 use Rattle.tables.specs.Tables.{Tables, answerGives}
 use Rattle.simulator.specs.declared.Ran.{Ran}
 use Rattle.questions.specs.declared.Listed.{Listed}
-use Rattle.simulator.specs.Calls.{ranGives, Runs}
+use Rattle.simulator.specs.Calls.{Rounds, ranGives, Runs}
 use Rattle.questions.specs.Questions.{whetherGives, indexGives, valueGives, listGives}
 use Rattle.look.specs.declared.Looked.{Looked}
 use Rattle.look.specs.Look.{lookGives}
 use Rattle.words.specs.Words.{countsIn, valuesIn}
-use Rattle.words.specs.Said.{fewCounts, changed}
+use Rattle.words.specs.Said.{short, CallChanges, fewCounts, changed}
 use Rattle.changing.specs.Changing.{CallRuns, fewToRun, ran}
 use Rattle.asking.specs.Asking.{fewToAsk, asked, fewToList, listed}
-use Rattle.host.specs.Host.{fewToLook, looked}
+use Rattle.host.specs.Host.{CallEvaluates, fewToEvaluate, evaluated, fewToLook, looked}
 use Rattle.determinacy.specs.Determined.{Determined, DeterminedAnswer}
-use Rattle.determinacy.specs.HostDetermined.{ChangesDetermined, AsksDetermined, ListsDetermined, LooksDetermined, HostDeterminacy}
+use Rattle.determinacy.specs.HostDetermined.{ChangesDetermined, RoundsDetermined, AsksDetermined, ListsDetermined, LooksDetermined, HostDeterminacy}
 use Rattle.determinacy.proofs.Determinacy.{determinacy}
 
 -- No call is lent both too few words and enough.
@@ -50,6 +51,24 @@ module _ (few : Bool) (ws fs : List ℕ) (lent : Counts → Tables) where
         d .1,
       )
 
+  rounds : (t : ℕ) (bs : List ℕ) → RoundsDetermined few ws fs lent t bs
+  rounds t bs r s a b c d f g p q = by-call (p .0) (q .0)
+    where
+      by-call : CallChanges (λ T x U. Rounds t bs T x U c) few ws a lent f r → CallChanges (λ T x U. Rounds t bs T x U d) few ws b lent g s
+          → (r ≡ s) × (a ≡ b) × (c ≡ d) × (f (countsIn a) ≡ g (countsIn b))
+      by-call (fewCounts e n w l) (fewCounts e′ n′ w′ l′) =
+          (n ∙ sym n′, w ∙ sym w′, p .1 e ∙ sym (q .1 e′), same-left a b f g w w′ l l′)
+      by-call (fewCounts e n w l) (changed x e′ p′ n′ w′) = neither few e e′
+      by-call (changed x e p′ n w) (fewCounts e′ n′ w′ l′) = neither few e′ e
+      by-call (changed x e o n w) (changed y e′ o′ n′ w′) =
+          let z = determinacy .2 t bs (lent (countsIn ws)) x y (f (countsIn a), c) (g (countsIn b), d) o o′ in
+          let left = z .1 in (
+            n ∙ ap (λ (v : Answer). spoken (answerGives v)) (z .0) ∙ sym n′,
+            w ∙ ap (λ (v : Answer). overlay (valuesIn (answerGives v)) ws) (z .0) ∙ sym w′,
+            λ i. left i .1,
+            λ i. left i .0,
+          )
+
   runs : (P : Tables → Ran → Tables → Type 0) → ((T : Tables) → Determined (P T)) → (r s : ℕ) (a b c d : List ℕ) (f g : Counts → Tables)
       → CallRuns P few ws a fs c lent f r → CallRuns P few ws b fs d lent g s
       → (r ≡ s) × (a ≡ b) × (c ≡ d) × (f (countsIn a) ≡ g (countsIn b))
@@ -60,8 +79,8 @@ module _ (few : Bool) (ws fs : List ℕ) (lent : Counts → Tables) where
   runs P det r s a b c d f g (ran x e p n w u) (ran y e′ p′ n′ w′ u′) =
       let q = det (lent (countsIn ws)) x y (f (countsIn a)) (g (countsIn b)) p p′ in (
         n ∙ ap (λ (z : Ran). spoken (ranGives z)) (q .0) ∙ sym n′,
-        w ∙ ap (λ (z : Ran). overlay (drop 2 (valuesIn (ranGives z))) ws) (q .0) ∙ sym w′,
-        u ∙ ap (λ (z : Ran). overlay (take 2 (valuesIn (ranGives z))) fs) (q .0) ∙ sym u′,
+        w ∙ ap (λ (z : Ran). overlay (drop 3 (valuesIn (ranGives z))) ws) (q .0) ∙ sym w′,
+        u ∙ ap (λ (z : Ran). overlay (take 3 (valuesIn (ranGives z))) fs) (q .0) ∙ sym u′,
         q .1,
       )
 
@@ -105,12 +124,27 @@ module _ (few : Bool) (ws fs : List ℕ) (lent : Counts → Tables) where
         λ i. (b i .0, b i .1, v i),
       )
 
+  evaluates : (f : Fields) (xs vs ys us : List ℕ) (t : ℕ)
+      → Determined (λ (r : ℕ) (c : List ℕ × List ℕ). CallEvaluates f xs vs ys us t fs r (c .0) (c .1))
+  evaluates f xs vs ys us t r s c d (fewToEvaluate e n w u) (fewToEvaluate e′ n′ w′ u′) =
+      let l = w ∙ sym w′ in
+      let v = u ∙ sym u′ in (n ∙ sym n′, λ i. (l i, v i))
+  evaluates f xs vs ys us t r s c d (fewToEvaluate e n w u) (evaluated x e′ p′ n′ u′) = neither (short fs 1) e e′
+  evaluates f xs vs ys us t r s c d (evaluated x e p n u) (fewToEvaluate e′ n′ w′ u′) = neither (short fs 1) e′ e
+  evaluates f xs vs ys us t r s c d (evaluated x e p n u) (evaluated y e′ p′ n′ u′) =
+      let q = determinacy .0 f xs vs ys us t x y (c .0) (d .0) p p′ in
+      let b = q .1 in
+      let v = u ∙ ap (λ (z : Evaluated). overlay (valuesIn (evaluatedGives z)) fs) (q .0) ∙ sym u′ in (
+        n ∙ ap (λ (z : Evaluated). spoken (evaluatedGives z)) (q .0) ∙ sym n′,
+        λ i. (b i, v i),
+      )
+
   -- Of the engine's calls: evaluate 0, load 1, round 2, edit 3, run 4, sources 5, targets 6, look 7, check 11, calm 12,
   -- satisfied 13, index 14, value 15.
   pub host-determinacy : HostDeterminacy few ws fs lent
   host-determinacy = (
     λ file. changes _ (determinacy .1 file),
-    λ t. changes _ (determinacy .2 t),
+    rounds,
     λ i v. changes _ (determinacy .3 i v),
     λ t limit. runs (Runs t limit) (determinacy .4 t limit),
     asks whetherGives _ (determinacy .12),
@@ -120,8 +154,6 @@ module _ (few : Bool) (ws fs : List ℕ) (lent : Counts → Tables) where
     λ i. lists _ (λ T ls. determinacy .5 T i ls),
     λ i. lists _ (λ T ls. determinacy .6 T i ls),
     asks (λ (k : ℕ). giving k []) _ (determinacy .11),
-    λ f xs vs ys us t r s zs zs′ p q.
-        let d = determinacy .0 f xs vs ys us t (p .answer) (q .answer) zs zs′ (p .promised) (q .promised) in
-        (p .said ∙ ap (λ (z : Evaluated). spoken (evaluatedGives z)) (d .0) ∙ sym (q .said), d .1),
+    evaluates,
     λ file path. looks _ (λ T. determinacy .7 file T path),
   )

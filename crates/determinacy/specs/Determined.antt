@@ -9,6 +9,7 @@ use Rattle.kinds.specs.declared.table.Fields.{Fields}
 use Rattle.primitive.specs.Evaluate.{Evaluates}
 use Rattle.flatten.specs.Verdict.{Speaks}
 use Rattle.meeting.specs.Meeting.{Judges, SpeaksPair}
+use Rattle.tables.specs.declared.Answer.{Answer}
 use Rattle.tables.specs.Tables.{Tables}
 use Rattle.load.specs.Load.{Loads}
 use Rattle.net.specs.Net.{Checks}
@@ -32,7 +33,7 @@ abbrev pub Determinacy : Type 0
 Determinacy =
     ((f : Fields) (xs vs ys ws : List ℕ) (t : ℕ) → Determined (Evaluates f xs vs ys ws t))
     × ((file : List ℕ) (T : Tables) → Determined (Loads file T))
-    × ((t : ℕ) (T : Tables) → Determined (Rounds t T))
+    × ((t : ℕ) (bits : List ℕ) (T : Tables) → Determined (λ (r : Answer) (b : Tables × List ℕ). Rounds t bits T r (b .0) (b .1)))
     × ((i v : ℕ) (T : Tables) → Determined (Edits i v T))
     × ((t limit : ℕ) (T : Tables) → Determined (Runs t limit T))
     × ((T : Tables) (i : ℕ) (lent : List ℕ) → Determined (AsksSources T i lent))

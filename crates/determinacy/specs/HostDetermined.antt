@@ -15,13 +15,13 @@ use Rattle.load.specs.Load.{Loads}
 use Rattle.net.specs.Net.{Checks}
 use Rattle.questions.specs.declared.Side.{Side}
 use Rattle.questions.specs.declared.Listed.{Listed}
-use Rattle.simulator.specs.Calls.{Rounds, Edits, Runs}
+use Rattle.simulator.specs.Calls.{Edits, Runs}
 use Rattle.questions.specs.Questions.{whetherGives, AsksCalm, AsksSatisfied, indexGives, AsksIndex, valueGives, AsksValue, AsksSources, AsksTargets}
 use Rattle.look.specs.declared.Looked.{Looked}
 use Rattle.look.specs.Look.{Looks}
 use Rattle.words.specs.Words.{countsIn}
 use Rattle.words.specs.Said.{CallChanges}
-use Rattle.changing.specs.Changing.{CallRuns}
+use Rattle.changing.specs.Changing.{CallRounds, CallRuns}
 use Rattle.asking.specs.Asking.{CallAsks, CallLists}
 use Rattle.host.specs.Host.{CallEvaluates, CallLooks}
 use Rattle.determinacy.specs.Determined.{Determined}
@@ -32,6 +32,12 @@ module _ (few : Bool) (ws fs : List ℕ) (lent : Counts → Tables) where
   ChangesDetermined P =
       (r s : ℕ) (a b : List ℕ) (f g : Counts → Tables) → CallChanges P few ws a lent f r → CallChanges P few ws b lent g s
       → (r ≡ s) × (a ≡ b) × (f (countsIn a) ≡ g (countsIn b))
+
+  -- A round at time t, which is lent the bits bs.
+  abbrev pub RoundsDetermined : ℕ → List ℕ → Type 0
+  RoundsDetermined t bs =
+      (r s : ℕ) (a b c d : List ℕ) (f g : Counts → Tables) → CallRounds t few ws a bs c lent f r → CallRounds t few ws b bs d lent g s
+      → (r ≡ s) × (a ≡ b) × (c ≡ d) × (f (countsIn a) ≡ g (countsIn b))
 
   -- A question by the promise P, with its words.
   abbrev pub AsksDetermined : {A : Type 0} → (A → Given) → (Tables → A → Type 0) → Type 0
@@ -51,7 +57,7 @@ module _ (few : Bool) (ws fs : List ℕ) (lent : Counts → Tables) where
   abbrev pub HostDeterminacy : Type 0
   HostDeterminacy =
       ((file : List ℕ) → ChangesDetermined (Loads file))
-      × ((t : ℕ) → ChangesDetermined (Rounds t))
+      × ((t : ℕ) (bs : List ℕ) → RoundsDetermined t bs)
       × ((i v : ℕ) → ChangesDetermined (Edits i v))
       × ((t limit r s : ℕ) (a b c d : List ℕ) (f g : Counts → Tables) → CallRuns (Runs t limit) few ws a fs c lent f r
       → CallRuns (Runs t limit) few ws b fs d lent g s → (r ≡ s) × (a ≡ b) × (c ≡ d) × (f (countsIn a) ≡ g (countsIn b)))
@@ -62,5 +68,6 @@ module _ (few : Bool) (ws fs : List ℕ) (lent : Counts → Tables) where
       × ((i : ℕ) → ListsDetermined (λ T. AsksSources T i))
       × ((i : ℕ) → ListsDetermined (λ T. AsksTargets T i))
       × AsksDetermined (λ k. giving k []) Checks
-      × ((f : Fields) (xs vs ys us : List ℕ) (t : ℕ) → Determined (CallEvaluates f xs vs ys us t))
+      × ((f : Fields) (xs vs ys us : List ℕ) (t : ℕ)
+      → Determined (λ (r : ℕ) (c : List ℕ × List ℕ). CallEvaluates f xs vs ys us t fs r (c .0) (c .1)))
       × ((file path : List ℕ) → LooksDetermined (λ T. Looks file T path))

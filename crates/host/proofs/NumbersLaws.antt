@@ -31,10 +31,10 @@ evaluate-number-small f xs vs ys ws =
     ∷ (19 if not (fitting (inputWidth f) (f .inputs) xs vs && fitting (outputWidth f) (f .outputs) ys ws)) ∷ [])
     (omega arith, (omega arith, (omega arith, (omega arith, (omega arith, omega arith)))))
 
-pub evaluate-plain : (f : Fields) (xs vs ys ws : List ℕ) (g : Given) → g ≡ giving (evaluateNumber f xs vs ys ws) [] → Plain g
-evaluate-plain f xs vs ys ws g e =
-    plain-as g (giving (evaluateNumber f xs vs ys ws) []) e
-    (giving-plain (evaluateNumber f xs vs ys ws) [] (evaluate-number-small f xs vs ys ws))
+pub evaluate-plain : (f : Fields) (xs vs ys ws : List ℕ) (g : Given) (bs : List ℕ) → g ≡ giving (evaluateNumber f xs vs ys ws) bs → Plain g
+evaluate-plain f xs vs ys ws g bs e =
+    plain-as g (giving (evaluateNumber f xs vs ys ws) bs) e
+    (giving-plain (evaluateNumber f xs vs ys ws) bs (evaluate-number-small f xs vs ys ws))
 
 -- The host's number of a verdict.
 abbrev pub spokenOf : Verdict → ℕ

@@ -15,17 +15,17 @@ use Rattle.tables.specs.Tables.{Tables}
 use Rattle.look.specs.declared.Looked.{Looked}
 use Rattle.look.specs.Look.{lookGives}
 use Rattle.words.specs.Words.{countsIn, valuesIn}
-use Rattle.words.specs.Said.{saysShort}
+use Rattle.words.specs.Said.{short, saysShort}
 
 -- The fields that a call hands in one by one.
 abbrev pub fieldsFrom : ℕ → ℕ → ℕ → ℕ → ℕ → Fields
 fieldsFrom k i o w p = record { kind = k; inputs = i; outputs = o; width = w; parameter = p }
 
--- Evaluating one component: zs are the output numbers afterwards.
-pub record CallEvaluates (f : Fields) (xs vs ys ws : List ℕ) (t r : ℕ) (zs : List ℕ) : Type 0 where
-  pub answer : Evaluated
-  pub promised : Evaluates f xs vs ys ws t answer zs
-  pub said : r ≡ spoken (evaluatedGives answer)
+-- Evaluating one component: zs are the output numbers afterwards; which of them changed is laid over fs, in which a word is needed.
+pub data CallEvaluates (f : Fields) (xs vs ys ws : List ℕ) (t : ℕ) (fs : List ℕ) (r : ℕ) (zs fs′ : List ℕ) : Type 0 where
+  fewToEvaluate : short fs 1 ≡ true → r ≡ saysShort → zs ≡ ys → fs′ ≡ fs → CallEvaluates f xs vs ys ws t fs r zs fs′
+  evaluated : (a : Evaluated) → short fs 1 ≡ false → Evaluates f xs vs ys ws t a zs → r ≡ spoken (evaluatedGives a)
+      → fs′ ≡ overlay (valuesIn (evaluatedGives a)) fs → CallEvaluates f xs vs ys ws t fs r zs fs′
 
 -- A look, where P is the engine's promise, ns and ns′, wd and wd′ are the lists of numbers and of widths before and after: how many inputs and outputs are
 -- shown is laid over fs. `lent` are the seven tables by their counts, ws the count words; `few` says that fewer words are lent than the call needs: it then

@@ -1,10 +1,10 @@
 // Evaluating one component, called from C.
 ghost use Rattle.host.specs.Host.{fieldsFrom, CallEvaluates};
 use kinds::Fields;
-use words::say_evaluated;
+use words::lay_evaluated;
 
 // Evaluates a component of these fields: its inputs' numbers and their widths, its outputs' numbers, which are written, and their
-// widths, and the time.
+// widths, and the time. A word is lent for which of its outputs changed.
 #[no_mangle]
 pub extern "C" fn berxundar_evaluate(
     kind: u8,
@@ -17,10 +17,14 @@ pub extern "C" fn berxundar_evaluate(
     outputs: &mut [u64],
     leaving: &[u64],
     time: u64,
+    found: &mut [u64],
 ) -> u32
     ensures { λ r. ⌜ CallEvaluates (fieldsFrom kind ins outs width parameter) (now (inputs .entry)) (now (entering .entry)) (now (outputs .entry))
-        (now (leaving .entry)) time r (now (outputs .exit)) ⌝ }
+        (now (leaving .entry)) time (now (found .entry)) r (now (outputs .exit)) (now (found .exit)) ⌝ }
 {
+    if found.len() < 1 {
+        return 131072;
+    }
     let f = Fields {
         kind,
         inputs: ins,
@@ -29,5 +33,5 @@ pub extern "C" fn berxundar_evaluate(
         parameter,
     };
     let answer = primitive::evaluate(f, inputs, entering, outputs, leaving, time);
-    say_evaluated(answer)
+    lay_evaluated(found, answer)
 }

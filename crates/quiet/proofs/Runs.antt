@@ -9,7 +9,7 @@ use lib.Dec.{ltb}
 use Rattle.tables.specs.Tables.{Tables}
 use Rattle.net.specs.Net.{netNumber}
 use Rattle.rounds.specs.Round.{calm}
-use Rattle.simulator.specs.Calls.{roundTables, run, runTables}
+use Rattle.simulator.specs.Calls.{roundTables, noRound, run, runTables}
 use Rattle.tables.proofs.SameLaws.{SameWiring, sameWiring-none, sameWiring-more}
 use Rattle.simulator.proofs.Kept.{by-number, roundTables-wiring, roundTables-net}
 use Rattle.quiet.proofs.Since.{Unbroken, roundTables-unbroken}
@@ -20,8 +20,7 @@ run-or : (P : Tables → Type 0) (k t : ℕ) (T : Tables) → P (roundTables T t
 unfolding run
 run-or P k t T a r = by-calm (calm (roundTables T t))
   where
-    by-calm : (b : Bool) → P (cond b (record { tables = roundTables T t; rounds = 0; evaluations = 0 })
-        (run k t (roundTables T t)) .tables)
+    by-calm : (b : Bool) → P (cond b (noRound (roundTables T t)) (run k t (roundTables T t)) .tables)
     by-calm true = a
     by-calm false = r
 

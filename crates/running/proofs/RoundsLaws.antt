@@ -20,7 +20,7 @@ use Rattle.rounds.specs.Round.{calm}
 use Rattle.simulator.specs.Calls.{roundTables, Rounds}
 use Rattle.questions.specs.Questions.{AsksCalm}
 use Rattle.questions.proofs.AnswersLaws.{whetherGives-is}
-use Rattle.simulator.proofs.CallsLaws.{counted}
+use Rattle.simulator.proofs.CallsLaws.{counted, roundCall-room}
 use Rattle.simulator.proofs.Kept.{roundTables-net}
 use Rattle.text.proofs.TextLaws.{ToCome, begun, put-piece}
 use Rattle.text.specs.Text.{Puts}
@@ -36,10 +36,10 @@ calm-net W z q e =
 
 -- One round: the counts are those of the answer, and calm is asked of the tables that are left.
 module _ (T U : Tables) (net : netNumber T ≡ 0) where
-  pub rounded : (a : Answer) (m : Counts) (q : Whether) (b : Bool) → Rounds 0 T a (counted U (countsAfter a (T .counts)))
-      → m ≡ countsAfter a (T .counts) → AsksCalm (counted U m) q → b ≡ calmOf q → RoundMade T (counted U m) b
-  rounded a m q b p d f g =
-      let made : counted U m ≡ roundTables T 0 = ap (counted U) d ∙ p .1 in
+  pub rounded : (bits moved : List ℕ) (a : Answer) (m : Counts) (q : Whether) (b : Bool) → 256 ≤ length bits
+      → Rounds 0 bits T a (counted U (countsAfter a (T .counts))) moved → m ≡ countsAfter a (T .counts) → AsksCalm (counted U m) q → b ≡ calmOf q → RoundMade T (counted U m) b
+  rounded bits moved a m q b h p d f g =
+      let made : counted U m ≡ roundTables T 0 = ap (counted U) d ∙ p .0 .1 ∙ roundCall-room T 0 bits h in
       let z : netNumber (counted U m) ≡ 0 = ap netNumber made ∙ roundTables-net T 0 net in
       record { tables = made; calmly = g ∙ calm-net (counted U m) z q f }
 

@@ -40,7 +40,7 @@ fn calm_of(answer: Whether) -> bool
     calm
 }
 
-// Runs a round of a net at time 0, and asks whether it left calm. On a net neither call is refused.
+// Runs a round of a net at time 0, and asks whether it left calm. On a net neither call is refused. The listing has no use for the bits.
 fn round_left(
     components: &[u64],
     inputs: &mut [u64],
@@ -59,6 +59,7 @@ fn round_left(
         (now (current .exit)) (now (following .exit)) (now (standing .exit)) (r .counts) in
         ⌜ RoundMade before after (r .calm) ⌝ }
 {
+    let mut moved = [0u64; 256];
     let made = simulator::round(
         components,
         inputs,
@@ -67,6 +68,7 @@ fn round_left(
         current,
         following,
         standing,
+        &mut moved,
         counts,
         0,
     );

@@ -14,7 +14,7 @@ use Rattle.tables.specs.declared.Counts.{Counts}
 use Rattle.tables.specs.Tables.{Tables, tablesOf}
 use Rattle.net.specs.Net.{netNumber}
 use Rattle.rounds.specs.Round.{roundBits, roundOf}
-use Rattle.simulator.specs.Calls.{roundTables, roundMoved, Rounds}
+use Rattle.simulator.specs.Calls.{roundTables, roundNumber, roundCall, roundMoved, Rounds}
 
 -- The tables with other counts.
 abbrev pub counted : Tables → Counts → Tables
@@ -29,6 +29,13 @@ module _ (T : Tables) (k : ℕ) (number : k ≡ netNumber T) where
   call-made zero = eq-eqb (netNumber T) 0 (sym number ∙ zero)
 
 module _ (T : Tables) (t : ℕ) (bits : List ℕ) where
+  -- A round that is lent bits enough has the number and the tables of a round.
+  pub roundNumber-room : 256 ≤ length bits → roundNumber T bits ≡ netNumber T
+  roundNumber-room h = rw (le-ltb (length bits) 256 h)
+
+  pub roundCall-room : 256 ≤ length bits → roundCall T bits t ≡ roundTables T t
+  roundCall-room h = rw (le-ltb (length bits) 256 h)
+
   -- A round that is lent too few bits changes no table.
   pub round-short : length bits < 256 → Rounds t bits T (Refused (refusedBy 2)) T bits
   unfolding roundMoved

@@ -2,9 +2,9 @@
 -- Assumes nothing.
 use mathlib.Core.Path.{_≡_, refl}
 use mathlib.Core.List.{List, [], _∷_}
-use Prim.Native.Nat.{ℕ, _≤_}
+use Prim.Native.Nat.{ℕ, _≤_, _<_}
 use native.Mathlib.Omega.{arith}
-use lib.ListN.{length, set}
+use lib.ListN.{length, set, length-set}
 use Rattle.lists.specs.Lists.{overlay}
 use Rattle.tables.specs.declared.Counts.{Counts}
 use Rattle.tables.specs.Tables.{countWords}
@@ -19,6 +19,16 @@ unfolding overlay
 two-laid [] a b h = absurd (omega arith)
 two-laid (x ∷ []) a b h = absurd (omega arith)
 two-laid (x ∷ y ∷ ws) a b h = refl
+
+pub set-room : (ws : List ℕ) (a : ℕ) → 3 ≤ length ws → 1 < length (set ws 0 a)
+set-room ws a h = simp length-set (omega arith)
+
+pub three-laid : (ws : List ℕ) (a b c : ℕ) → 3 ≤ length ws → set (set (set ws 0 a) 1 b) 2 c ≡ overlay (a ∷ b ∷ c ∷ []) ws
+unfolding overlay
+three-laid [] a b c h = absurd (omega arith)
+three-laid (x ∷ []) a b c h = absurd (omega arith)
+three-laid (x ∷ y ∷ []) a b c h = absurd (omega arith)
+three-laid (x ∷ y ∷ z ∷ ws) a b c h = refl
 
 pub none-laid : (ws : List ℕ) → ws ≡ overlay [] ws
 unfolding overlay

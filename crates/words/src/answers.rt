@@ -101,35 +101,40 @@ pub fn lay_listed(found: &mut [u64], answer: Listed) -> u32
     }
 }
 
-// The counts of a run, and its two words. Crate changing calls it likewise.
+// The counts of a run, and its three words. Crate changing calls it likewise.
 pub fn lay_run(words: &mut [u64], found: &mut [u64], answer: Ran) -> u32
-    requires { ⌜ (7 ≤ length (now words)) × (2 ≤ length (now found)) × (ranGives answer .number < 65536) ⌝ }
+    requires { ⌜ (7 ≤ length (now words)) × (3 ≤ length (now found)) × (ranGives answer .number < 65536) ⌝ }
     ensures { λ r. ⌜ (r ≡ 65536 * ranGives answer .number)
-        × (now (words .exit) ≡ overlay (drop 2 (valuesIn (ranGives answer))) (now (words .entry)))
-        × (now (found .exit) ≡ overlay (take 2 (valuesIn (ranGives answer))) (now (found .entry))) ⌝ }
+        × (now (words .exit) ≡ overlay (drop 3 (valuesIn (ranGives answer))) (now (words .entry)))
+        × (now (found .exit) ≡ overlay (take 3 (valuesIn (ranGives answer))) (now (found .entry))) ⌝ }
 {
     match answer {
         Ran::Done {
             counts,
             rounds,
             evaluations,
+            moved,
         } => {
             lay(words, counts);
             found[0] = rounds as u64;
             found[1] = evaluations as u64;
+            found[2] = moved as u64;
             0
         }
         Ran::Refused(refusal) => 65536 * refusal.number,
     }
 }
 
-// The number of an evaluation. Crate host calls it likewise.
-pub fn say_evaluated(answer: Evaluated) -> u32
-    requires { ⌜ evaluatedGives answer .number < 65536 ⌝ }
-    ensures { λ r. ⌜ r ≡ 65536 * evaluatedGives answer .number ⌝ }
+// The word of an evaluation: which outputs changed. Crate host calls it likewise.
+pub fn lay_evaluated(found: &mut [u64], answer: Evaluated) -> u32
+    requires { ⌜ (1 ≤ length (now found)) × (evaluatedGives answer .number < 65536) ⌝ }
+    ensures { λ r. ⌜ (r ≡ 65536 * evaluatedGives answer .number) × (now (found .exit) ≡ overlay (valuesIn (evaluatedGives answer)) (now (found .entry))) ⌝ }
 {
     match answer {
-        Evaluated::Done => 0,
+        Evaluated::Done(moved) => {
+            found[0] = moved;
+            0
+        }
         Evaluated::Refused(refusal) => 65536 * refusal.number,
     }
 }

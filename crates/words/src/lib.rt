@@ -3,12 +3,12 @@
 mod answers;
 mod counts;
 
+pub use answers::lay_evaluated;
 pub use answers::lay_index;
 pub use answers::lay_listed;
 pub use answers::lay_run;
 pub use answers::lay_value;
 pub use answers::lay_whether;
-pub use answers::say_evaluated;
 pub use answers::side_of;
 pub use answers::speak;
 pub use counts::counts_in;

@@ -26,8 +26,8 @@ lay-run-requires : tie.Need-lay-run-requires
 lay-run-requires c κs =
     let s = c .before .before .before .before .before .before .before .before .before .before .before .before .before .before .before .before .before .before .before .before .before .before .before .before .before .before .before .before .before .before in
     let h = c .before .before .before .before .before .before .before .before .before .before .before .before .before .before .before .before .before .before .before .before .if1 .left in (
-      enough-counts (s .args .counts .now) (s .args .found .now) 2 h,
-      enough-found (s .args .counts .now) (s .args .found .now) 2 h,
+      enough-counts (s .args .counts .now) (s .args .found .now) 3 h,
+      enough-found (s .args .counts .now) (s .args .found .now) 3 h,
       plain-fits (ranGives (c .before .before .before .before .before .before .before .before .before .before .before .before .run-until-calm .result)) (changed-plain (came s (c .before .before .before .before .before .before .before .before .before .before .before .before .before .counts-in .result)) (ranGives (c .before .before .before .before .before .before .before .before .before .before .before .before .run-until-calm .result)) _ (c .before .before .before .before .before .before .before .before .before .before .before .before .run-until-calm .ensures .0)),
     )
 

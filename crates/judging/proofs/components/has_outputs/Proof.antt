@@ -55,7 +55,7 @@ outputs-are-requires c κs =
       lent-outputs (T s) (a .inputs .now) (a .outputs .now) (a .i) (s .pre .1 .evaluable) _ _ _ (at-fields-at .fields-at .ensures)
           (at-first-input .first-input .ensures) (at-first-output .first-output .ensures),
       should-kept (T s) (a .i) (s .pre .1) _ _ (at-fields-at .fields-at .ensures) (at-first-input .first-input .ensures) (a .should .now) (s .pre .0) _
-          (at-update .update .ensures),
+          (at-update .update .ensures .1),
     )
 
 returns : tie.Need-returns
@@ -67,7 +67,7 @@ returns c =
     let s = at-fields-at .before .before .before .before .before in
     c .outputs-are .ensures
     ∙ should-compared (T s) (s .args .i) (s .pre .1) _ _ (at-fields-at .fields-at .ensures) (at-first-input .first-input .ensures) (s .args .should .now)
-    (s .pre .0) _ (at-first-output .first-output .ensures) (s .pre .2) (s .pre .3) _ (at-update .update .ensures)
+    (s .pre .0) _ (at-first-output .first-output .ensures) (s .pre .2) (s .pre .3) _ (at-update .update .ensures .1)
 
 pub has-outputs-spec : {M : Type 1} → statement M
 has-outputs-spec =
