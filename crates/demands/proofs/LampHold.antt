@@ -1,11 +1,11 @@
--- What the definitions make of the lamp drawing: its verdict, its wires, its lists round by round, and the timing case.
+-- What the definitions make of the lamp drawing: its verdict, its wires, its lists round by round, the timing case, and which outputs moved.
 -- Each is a computation. Assumes nothing.
 use mathlib.Core.Path.{_≡_, refl}
 use mathlib.Core.Bool.{true, false}
 use mathlib.Core.List.{[], _∷_, map}
 use Rattle.lists.specs.Lists.{from, appendNew, strike, overlay}
 use Rattle.kinds.specs.Kinds.{obeys}
-use Rattle.primitive.specs.Evaluate.{functionOf, outputsAfter}
+use Rattle.primitive.specs.Evaluate.{functionOf, outputsAfter, movedOutputs}
 use Rattle.component.specs.declared.Verdict.the-variants.{Accepted}
 use Rattle.component.specs.Drawing.{deepest}
 use Rattle.flatten.specs.Descent.{outputBelow, inputsBelow, comesFrom, goesTo}
@@ -15,9 +15,9 @@ use Rattle.tables.specs.Tables.{fullSize, endAt, wiresIn, currentList, followin
 use Rattle.load.specs.Load.{drawingTables, loadVerdict, loadTables}
 use Rattle.laying.proofs.FlatWires.{wire}
 use Rattle.net.specs.Net.{countsWithin, kindsObeyed, idsDistinct, portsFollow, valuesFit, constsHeld, wiresFit, inputsOnce, names, isNet, netNumber}
-use Rattle.rounds.specs.Round.{leave, evaluated, send, visit, round, portSet, editedState, calm, roundOf}
+use Rattle.rounds.specs.Round.{leave, evaluated, send, visit, round, portSet, editedState, calm, roundBits, roundOf}
 use Rattle.judging.specs.Judged.{judgedNamed}
-use Rattle.simulator.specs.Calls.{roundTables, editNumber, editTables, run}
+use Rattle.simulator.specs.Calls.{roundTables, editNumber, editTables, bitsSet, run}
 use Rattle.component.proofs.Drawings.{lamp}
 use Rattle.demands.proofs.Lamp.{lampLoaded, lampSet}
 
@@ -66,3 +66,12 @@ lamp-judged = refl
 pub lamp-timing-run : run 16 0 (lampSet 0) .rounds ∷ run 16 0 (lampSet 0) .evaluations ∷ [] ≡ 5 ∷ 4 ∷ []
 unfolding loadTables loadVerdict drawingTables judgement verdict overlay fullSize deepest obeys outputBelow inputsBelow comesFrom goesTo roundTables netNumber isNet countsWithin kindsObeyed idsDistinct portsFollow valuesFit constsHeld wiresFit inputsOnce names roundOf leave round visit evaluated send outputsAfter functionOf appendNew strike editTables editNumber editedState portSet run calm
 lamp-timing-run = refl
+
+-- Which outputs moved: in round 1 the Nor's and the Output's, in round 2 none; after the Switch is set, in rounds 3 to 7, its own bit stays 0 and those two
+-- move again. A run counts two, both times.
+pub lamp-moved :
+    (roundBits 0 lampLoaded ∷ roundBits 0 (roundTables lampLoaded 0) ∷ map (λ k. roundBits 0 (lampSet k)) (from 0 5)
+    ≡ (0 ∷ 0 ∷ 1 ∷ 1 ∷ []) ∷ (0 ∷ []) ∷ [] ∷ [] ∷ (0 ∷ []) ∷ (0 ∷ 1 ∷ []) ∷ (1 ∷ []) ∷ [])
+    × (run 16 0 lampLoaded .moved ∷ run 16 0 (lampSet 0) .moved ∷ [] ≡ 2 ∷ 2 ∷ [])
+unfolding loadTables loadVerdict drawingTables judgement verdict overlay fullSize deepest obeys outputBelow inputsBelow comesFrom goesTo roundTables netNumber isNet countsWithin kindsObeyed idsDistinct portsFollow valuesFit constsHeld wiresFit inputsOnce names roundOf leave round visit evaluated send outputsAfter functionOf appendNew strike editTables editNumber editedState portSet run calm roundBits movedOutputs bitsSet
+lamp-moved = (refl, refl)

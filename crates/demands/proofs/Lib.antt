@@ -6,4 +6,5 @@ pub mod Called
 pub mod Demand3
 pub mod Calm
 pub mod Judging
+pub mod Moved
 pub mod LampSatisfied

@@ -5,5 +5,6 @@ pub mod EditInvariant
 pub mod Since
 pub mod Obeyed
 pub mod Judged
+pub mod Moved
 pub mod Third
 pub mod Runs

@@ -169,10 +169,10 @@ module _ (T : Tables) (g : Sound T) where
     inputs-room : inputsEnd T i ≤ length (s .inputs)
     inputs-room = omega (arith, a .inputs-length, g .inputs-in i h)
 
-    outputs-room : outputsEnd T i ≤ length (s .outputs)
+    pub outputs-room : outputsEnd T i ≤ length (s .outputs)
     outputs-room = omega (arith, a .outputs-length, g .outputs-in i h)
 
-    own : Own (fieldsAt T i) (inputsAt T (s .inputs) i) (outputsAt T (s .outputs) i)
+    pub own : Own (fieldsAt T i) (inputsAt T (s .inputs) i) (outputsAt T (s .outputs) i)
     own =
         record {
           obeyed = g .obeyed i h;
@@ -201,7 +201,7 @@ module _ (T : Tables) (g : Sound T) where
         sets-at-ne (made T t s i) (s .outputs) (firstOutput T i) (firstOutput T d + j)
         (rw made-length (output-off T g i d j h q ne l))
 
-    own-outputs : (j : ℕ) → j < fieldsAt T i .outputs
+    pub own-outputs : (j : ℕ) → j < fieldsAt T i .outputs
         → getD (outputsMade T t s i) (firstOutput T i + j) 0 ≡ getD (made T t s i) j 0
     own-outputs j l =
         sets-at (made T t s i) (s .outputs) (firstOutput T i) j (omega (arith, made-length, outputs-room))

@@ -1,0 +1,66 @@
+-- The bits of a round and the number of a run: what crate quiet has of the tables' outputs, what a table of bits that is too short does, and the
+-- rounds of a run one by one.
+-- Assumes nothing.
+use mathlib.Core.Path.{_≡_, refl, sym, ap, _∙_}
+use mathlib.Core.Bool.{Bool, true, false, cond, _&&_, true≢false}
+use mathlib.Core.List.{[], _∷_}
+use Prim.Native.Nat.{ℕ, zero, suc, _+_}
+use borrow.Author.Tests.{lt-ltb}
+use lib.ListN.{length, getD}
+use lib.Dec.{ltb}
+use Rattle.lists.specs.Lists.{from, total}
+use Rattle.lists.proofs.MembersLaws.{has-complete}
+use Rattle.value.specs.Value.{level}
+use Rattle.primitive.specs.Evaluate.{functionOf, outputsAfter, movedOutputs}
+use Rattle.tables.specs.Tables.{Tables, fieldsAt, currentList}
+use Rattle.rounds.specs.Round.{calm, roundBits}
+use Rattle.simulator.specs.Calls.{roundTables, roundMoved, bitsSet, noRound, run}
+use Rattle.simulator.proofs.Kept.{roundTables-done}
+use Rattle.simulator.proofs.CallsLaws.{roundNumber-room, roundCall-room}
+use Rattle.quiet.proofs.Moved.{round-bits-length, round-bit, round-still}
+use Rattle.demands.specs.Moved.{changed, BitsRight, BitsBeside, roundsOn, RunSum}
+
+pub bits-right : BitsRight
+bits-right T t z =
+    let e = roundTables-done T t z in (
+      round-bits-length T z t,
+      λ k j h. round-bit T z t k j h
+          ∙ ap (λ (U : Tables). level (ltb j (fieldsAt T (getD (currentList T) k 0) .outputs) && changed T U (getD (currentList T) k 0) j)) (sym e),
+      λ i j q l n. ap (λ (U : Tables). changed T U i j) e
+          ∙ round-still T z t i j q (λ m. true≢false (sym (has-complete i (currentList T) m) ∙ n)) l,
+    )
+
+pub bits-beside : BitsBeside
+unfolding roundMoved
+bits-beside T bits t = (
+  λ h. (roundNumber-room T t bits h, roundCall-room T t bits h),
+  λ h. let s = lt-ltb (length bits) 256 h in (rw s, rw s, rw s),
+)
+
+-- A sum over numbers from one later on.
+total-later : (f : ℕ → ℕ) (q n : ℕ) → total f (from (suc q) n) ≡ total (λ k. f (suc k)) (from q n)
+total-later f q zero = refl
+total-later f q (suc n) = ap (λ (x : ℕ). f (suc q) + x) (total-later f (suc q) n)
+
+pub run-sum : RunSum
+unfolding run
+run-sum zero t T = refl
+run-sum (suc k) t T = ap (λ (x : ℕ). total bitsSet (roundBits t T) + x) (by-calm (calm (roundTables T t)) (run-sum k t (roundTables T t)))
+  where
+    -- The rounds after the first: none, or those of the run from there.
+    by-calm : (b : Bool)
+        → run k t (roundTables T t) .moved
+        ≡ total (λ j. total bitsSet (roundBits t (roundsOn j t (roundTables T t)))) (from 0 (run k t (roundTables T t) .rounds))
+        → cond b (noRound (roundTables T t)) (run k t (roundTables T t)) .moved
+        ≡ total (λ j. total bitsSet (roundBits t (roundsOn j t T)))
+        (from 1 (cond b (noRound (roundTables T t)) (run k t (roundTables T t)) .rounds))
+    by-calm true e = refl
+    by-calm false e = e ∙ sym (total-later (λ j. total bitsSet (roundBits t (roundsOn j t T))) 0 (run k t (roundTables T t) .rounds))
+
+-- A Splitter of 3 bits that sees 5, by computing: its outputs were 0, 0, 0, and then 1, 1, 0.
+pub splitter-moved :
+    movedOutputs (record { kind = 10; inputs = 1; outputs = 3; width = 0; parameter = 3 }) (5 ∷ []) (0 ∷ 0 ∷ 0 ∷ []) 0
+    ∷ movedOutputs (record { kind = 10; inputs = 1; outputs = 3; width = 0; parameter = 3 }) (5 ∷ []) (1 ∷ 1 ∷ 0 ∷ []) 0 ∷ []
+    ≡ 5 ∷ 6 ∷ []
+unfolding movedOutputs outputsAfter functionOf
+splitter-moved = refl

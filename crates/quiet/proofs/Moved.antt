@@ -1,0 +1,154 @@
+-- What the bits of a round say: in the word of each component evaluated bit i is set exactly where output i of it is not after the round what it was
+-- before; and no output of any other component moves. docs/SPECIFICATION.md, "Rounds" (which outputs moved).
+--   MovedAt T s u i j   output j of component i is not in the state u what it is in the state s
+-- Assumes nothing.
+use mathlib.Core.Path.{_≡_, refl, sym, ap, subst, _∙_}
+use mathlib.Core.Bool.{Bool, true, false, not, _&&_}
+use mathlib.Core.Logic.{inl, inr}
+use mathlib.Core.List.{List, [], _∷_, foldl}
+use Prim.Native.Nat.{ℕ, zero, suc, _+_, _<_}
+use native.Mathlib.Omega.{arith}
+use borrow.Author.Tests.{eq-eqb, lt-ltb, le-ltb, ltb-true, ltb-false}
+use lib.ListN.{length, getD, List·getD-eq-default}
+use lib.Dec.{eqb, ltb}
+use Rattle.lists.proofs.MembersLaws.{In, in-getD}
+use Rattle.lists.proofs.NamesLaws.{Names}
+use Rattle.value.specs.Value.{level, bitOf}
+use Rattle.primitive.specs.Evaluate.{outputsAfter, moved, movedOutputs}
+use Rattle.primitive.proofs.MovedLaws.{moved-bit}
+use Rattle.tables.specs.declared.Wire.{Wire}
+use Rattle.tables.specs.Tables.{Tables, fieldsAt, firstOutput, inputsAt, outputsAt, wiresIn, currentList}
+use Rattle.net.specs.Net.{netNumber}
+use Rattle.rounds.specs.Round.{State, stateOf, leave, wiresFrom, evaluated, send, visit, movedAt, movedBy, round, roundBits, roundOf}
+use Rattle.rounds.proofs.Sound.{Sound, net-sound}
+use Rattle.rounds.proofs.Ports.{numbers-length, numbers-at}
+use Rattle.rounds.proofs.Held.{foldl-keeps, Held, Order, stored-order, SendCase, agrees, writes, send-case, written, made, made-length, others-left, own, own-outputs, outputs-room, visit-held}
+use Rattle.rounds.proofs.Left.{net-held}
+use Rattle.rounds.proofs.MovedLaws.{movedBy-length}
+
+-- Output j of component i in the outputs os.
+abbrev pub outputIn : Tables → List ℕ → ℕ → ℕ → ℕ
+outputIn T os i j = getD os (firstOutput T i + j) 0
+
+-- A wire leaves all outputs.
+send-outputs : (T : Tables) (s : State) (w : Wire) → send T s w .outputs ≡ s .outputs
+unfolding written
+send-outputs T s w = by-case (send-case T s w)
+  where
+    by-case : SendCase T s w → send T s w .outputs ≡ s .outputs
+    by-case (agrees p e) = rw e
+    by-case (writes p e) = rw e
+
+sends-outputs : (T : Tables) (s : State) (ws : List Wire) → foldl (send T) s ws .outputs ≡ s .outputs
+sends-outputs T s [] = refl
+sends-outputs T s (w ∷ ws) = sends-outputs T (send T s w) ws ∙ send-outputs T s w
+
+module _ (T : Tables) (g : Sound T) (ws : List Wire) (o : Order T ws) (t : ℕ) where
+  abbrev n : ℕ
+  n = T .counts .components
+
+  -- A visit leaves the outputs of every other component, and the component's own are what the evaluation makes them.
+  module _ (s : State) (a : Held T s) (i : ℕ) (h : i < n) where
+    visit-others : (d j : ℕ) → d < n → (d ≡ i → ⊥) → j < fieldsAt T d .outputs
+        → outputIn T (visit T ws t s i .outputs) d j ≡ outputIn T (s .outputs) d j
+    unfolding visit evaluated
+    visit-others d j q ne l =
+        ap (λ (os : List ℕ). outputIn T os d j) (sends-outputs T (evaluated T t i s) (wiresFrom i ws))
+        ∙ others-left T g t i h s a d j q ne l
+
+    visit-own : (j : ℕ) → j < fieldsAt T i .outputs → outputIn T (visit T ws t s i .outputs) i j ≡ getD (made T t s i) j 0
+    unfolding visit evaluated
+    visit-own j l =
+        ap (λ (os : List ℕ). outputIn T os i j) (sends-outputs T (evaluated T t i s) (wiresFrom i ws))
+        ∙ own-outputs T g t i h s a j l
+
+    -- Bit j of the component's word.
+    visit-bit : (j : ℕ) → bitOf (movedAt T t s i) j
+        ≡ level (ltb j (fieldsAt T i .outputs) && not (eqb (outputIn T (s .outputs) i j) (outputIn T (visit T ws t s i .outputs) i j)))
+    unfolding movedOutputs
+    visit-bit j =
+        moved-bit (outputsAt T (s .outputs) i) (made T t s i) (before-length ∙ sym (made-length T g t i h s a)) j
+        ∙ by-port (ltb j (fieldsAt T i .outputs)) refl
+      where
+        before-length : length (outputsAt T (s .outputs) i) ≡ fieldsAt T i .outputs
+        before-length = numbers-length (s .outputs) (firstOutput T i) (fieldsAt T i .outputs) (outputs-room T g t i h s a)
+
+        by-port : (b : Bool) → ltb j (fieldsAt T i .outputs) ≡ b
+            → level (not (eqb (getD (outputsAt T (s .outputs) i) j 0) (getD (made T t s i) j 0)))
+            ≡ level (b && not (eqb (outputIn T (s .outputs) i j) (outputIn T (visit T ws t s i .outputs) i j)))
+        by-port true e =
+            let l = ltb-true j (fieldsAt T i .outputs) e in
+            rw (visit-own j l, numbers-at (s .outputs) (firstOutput T i) (fieldsAt T i .outputs) (outputs-room T g t i h s a) j l)
+        by-port false e =
+            let l = ltb-false j (fieldsAt T i .outputs) e in
+            let y : getD (outputsAt T (s .outputs) i) j 0 ≡ 0 = List·getD-eq-default (outputsAt T (s .outputs) i) 0 (omega (arith, before-length)) in
+            let z : getD (made T t s i) j 0 ≡ 0 = List·getD-eq-default (made T t s i) 0 (omega (arith, made-length T g t i h s a)) in
+            rw (y, z)
+
+  -- Visits leave the outputs of a component that they do not name.
+  visits-others : (xs : List ℕ) (s : State) → Held T s → ((x : ℕ) → In x xs → x < n) → (d j : ℕ) → d < n → (In d xs → ⊥)
+      → j < fieldsAt T d .outputs
+      → outputIn T (foldl (visit T ws t) s xs .outputs) d j ≡ outputIn T (s .outputs) d j
+  visits-others [] s a f d j q ne l = refl
+  visits-others (x ∷ xs) s a f d j q ne l =
+      visits-others xs (visit T ws t s x) (visit-held T g ws o t s x (f x (inl refl)) a) (λ y m. f y (inr m)) d j q (λ m. ne (inr m)) l
+      ∙ visit-others s a x (f x (inl refl)) d j q (λ e. ne (inl e)) l
+
+  -- Output j of component d is not after visits what it was.
+  abbrev movedOver : State → List ℕ → ℕ → ℕ → Bool
+  movedOver s xs d j =
+      ltb j (fieldsAt T d .outputs) && not (eqb (outputIn T (s .outputs) d j) (outputIn T (foldl (visit T ws t) s xs .outputs) d j))
+
+  -- Bit j of word k is that of output j of the component at place k.
+  visits-bits : (xs : List ℕ) → Names n xs → (s : State) → Held T s → (k j : ℕ) → k < length xs
+      → bitOf (getD (movedBy T ws t s xs) k 0) j ≡ level (movedOver s xs (getD xs k 0) j)
+  visits-bits [] m s a k j h = absurd (omega arith)
+  visits-bits (x ∷ xs) m s a zero j h = visit-bit s a x (m .exist x (inl refl)) j ∙ by-port (ltb j (fieldsAt T x .outputs)) refl
+    where
+      by-port : (b : Bool) → ltb j (fieldsAt T x .outputs) ≡ b
+          → level (b && not (eqb (outputIn T (s .outputs) x j) (outputIn T (visit T ws t s x .outputs) x j)))
+          ≡ level (b && not (eqb (outputIn T (s .outputs) x j) (outputIn T (foldl (visit T ws t) (visit T ws t s x) xs .outputs) x j)))
+      by-port true e =
+          rw (visits-others xs (visit T ws t s x) (visit-held T g ws o t s x (m .exist x (inl refl)) a) (λ y p. m .exist y (inr p)) x j
+          (m .exist x (inl refl)) (m .once .0) (ltb-true j (fieldsAt T x .outputs) e))
+      by-port false e = refl
+  visits-bits (x ∷ xs) m s a (suc k) j h =
+      visits-bits xs (record { exist = λ y p. m .exist y (inr p); once = m .once .1 }) (visit T ws t s x)
+      (visit-held T g ws o t s x (m .exist x (inl refl)) a) k j (omega arith)
+      ∙ by-port (ltb j (fieldsAt T (getD xs k 0) .outputs)) refl
+    where
+      there : In (getD xs k 0) xs
+      there = in-getD xs k 0 (omega arith)
+
+      by-port : (b : Bool) → ltb j (fieldsAt T (getD xs k 0) .outputs) ≡ b
+          → level (b && not (eqb (outputIn T (visit T ws t s x .outputs) (getD xs k 0) j) (outputIn T (foldl (visit T ws t) (visit T ws t s x) xs .outputs) (getD xs k 0) j)))
+          ≡ level (b && not (eqb (outputIn T (s .outputs) (getD xs k 0) j) (outputIn T (foldl (visit T ws t) (visit T ws t s x) xs .outputs) (getD xs k 0) j)))
+      by-port true e =
+          rw (visit-others s a x (m .exist x (inl refl)) (getD xs k 0) j (m .exist (getD xs k 0) (inr there)) (λ q. m .once .0 (subst (λ (y : ℕ). In y xs) q there))
+          (ltb-true j (fieldsAt T (getD xs k 0) .outputs) e))
+      by-port false e = refl
+
+-- A round of a net, its wires in stored order.
+module _ (T : Tables) (z : netNumber T ≡ 0) (t : ℕ) where
+  abbrev U : Tables
+  U = roundOf t T
+
+  -- Output j of component d is not after the round what it was before.
+  abbrev pub movedIn : ℕ → ℕ → Bool
+  movedIn d j = not (eqb (outputIn T (T .outputs) d j) (outputIn T (U .outputs) d j))
+
+  pub round-bits-length : length (roundBits t T) ≡ length (currentList T)
+  unfolding roundBits
+  round-bits-length = movedBy-length T (wiresIn T) t (stateOf T) (currentList T)
+
+  pub round-bit : (k j : ℕ) → k < length (currentList T)
+      → bitOf (getD (roundBits t T) k 0) j ≡ level (ltb j (fieldsAt T (getD (currentList T) k 0) .outputs) && movedIn (getD (currentList T) k 0) j)
+  unfolding roundBits roundOf round leave
+  round-bit k j h =
+      visits-bits T (net-sound T z) (wiresIn T) (stored-order T) t (currentList T) (net-held T z .current) (stateOf T) (net-held T z) k j h
+
+  pub round-still : (d j : ℕ) → d < T .counts .components → (In d (currentList T) → ⊥) → j < fieldsAt T d .outputs → movedIn d j ≡ false
+  unfolding roundOf round leave
+  round-still d j q ne l =
+      rw (visits-others T (net-sound T z) (wiresIn T) (stored-order T) t (currentList T) (stateOf T) (net-held T z) (net-held T z .current .exist)
+      d j q ne l, eq-eqb (outputIn T (T .outputs) d j) (outputIn T (T .outputs) d j) refl)
