@@ -1,16 +1,17 @@
--- Which outputs changed: bit i is set exactly where output i did. Then the loop of `split`, which writes outputs from the last down.
+-- Which outputs changed: bit i is set exactly where output i did. Then the loop of `split`.
 -- Assumes nothing.
 use mathlib.Core.Path.{_≡_, refl, sym, ap, _∙_}
-use mathlib.Core.Bool.{not}
-use mathlib.Core.List.{List, [], _∷_, _++_}
-use Prim.Native.Nat.{ℕ, zero, suc, _+_, _-_, _*_, _/_, _%_, _^_, _≤_, _<_}
+use mathlib.Core.Bool.{Bool, true, false, not}
+use mathlib.Core.List.{List, [], _∷_, _++_, append-nil}
+use Prim.Native.Nat.{ℕ, zero, suc, _+_, _*_, _/_, _%_, _^_, _≤_, _<_}
 use native.Mathlib.Nat.{div-one, div-eq-of-lt, two-pow-succ, lt-of-lt-of-le}
+use native.Mathlib.Numerals.{add-one}
 use native.Mathlib.Omega.{arith}
 use borrow.Author.Tests.{eq-eqb}
-use lib.ListN.{length, getD, set, take, drop, length-drop}
+use lib.ListN.{length, getD, set, take, drop}
 use lib.Dec.{eqb}
-use lib.Pow.{pow-pos, pow-mono, shr-shr}
-use lib.Seq.{drop-cons, drop-length, take-length}
+use lib.Pow.{pow-pos, pow-mono, shl-exact, shr-shr}
+use lib.Seq.{drop-length, take-length, length-take-le}
 use Rattle.value.specs.Value.{level, bitOf}
 use Rattle.value.proofs.ValueLaws.{level-le}
 use Rattle.kinds.specs.declared.table.Fields.{Fields}
@@ -61,64 +62,78 @@ moved-lt [] zs = omega arith
 moved-lt (y ∷ ys) [] = pow-pos (length (y ∷ ys))
 moved-lt (y ∷ ys) (z ∷ zs) = rw two-pow-succ (omega (arith, moved-lt ys zs, level-le (not (eqb y z))))
 
--- No bits of no outputs.
-pub moved-end : (ys zs : List ℕ) → 0 ≡ moved (drop (length ys) ys) zs
-moved-end ys zs = sym (ap (λ (r : List ℕ). moved r zs) (drop-length ys))
-
--- The loop of `split`, over the outputs ys that came in and the outputs zs that it leaves: those from i on are written.
+-- The loop of `split`, over the outputs ys that came in and the outputs zs that it leaves: those before i are written.
 abbrev pub written : List ℕ → List ℕ → ℕ → List ℕ
-written ys zs i = take i ys ++ drop i zs
+written ys zs i = take i zs ++ drop i ys
 
-pub written-none : (ys zs : List ℕ) → length ys ≡ length zs → ys ≡ written ys zs (length ys)
-written-none [] [] l = refl
-written-none [] (z ∷ zs) l = absurd (omega arith)
-written-none (y ∷ ys) [] l = absurd (omega arith)
-written-none (y ∷ ys) (z ∷ zs) l = ap (λ (r : List ℕ). y ∷ r) (written-none ys zs (omega arith))
+-- Output i is still what it was.
+written-here : (ys zs : List ℕ) (i : ℕ) → length ys ≡ length zs → getD (written ys zs i) i 0 ≡ getD ys i 0
+written-here [] [] zero l = refl
+written-here [] [] (suc i) l = refl
+written-here [] (z ∷ zs) i l = absurd (omega arith)
+written-here (y ∷ ys) [] i l = absurd (omega arith)
+written-here (y ∷ ys) (z ∷ zs) zero l = refl
+written-here (y ∷ ys) (z ∷ zs) (suc i) l = written-here ys zs i (omega arith)
 
--- The output before them is still what it was.
-written-before : (ys zs : List ℕ) (j : ℕ) → j < length ys → getD (written ys zs (suc j)) j 0 ≡ getD ys j 0
-written-before [] zs j h = absurd (omega arith)
-written-before (y ∷ ys) zs zero h = refl
-written-before (y ∷ ys) [] (suc j) h = written-before ys [] j (omega arith)
-written-before (y ∷ ys) (z ∷ zs) (suc j) h = written-before ys zs j (omega arith)
-
-written-next : (ys zs : List ℕ) (j : ℕ) → length ys ≡ length zs → j < length ys
-    → set (written ys zs (suc j)) j (getD zs j 0) ≡ written ys zs j
-written-next [] zs j l h = absurd (omega arith)
-written-next (y ∷ ys) [] j l h = absurd (omega arith)
+written-next : (ys zs : List ℕ) (i : ℕ) → length ys ≡ length zs → i < length ys
+    → set (written ys zs i) i (getD zs i 0) ≡ written ys zs (suc i)
+written-next [] zs i l h = absurd (omega arith)
+written-next (y ∷ ys) [] i l h = absurd (omega arith)
 written-next (y ∷ ys) (z ∷ zs) zero l h = refl
-written-next (y ∷ ys) (z ∷ zs) (suc j) l h = ap (λ (r : List ℕ). y ∷ r) (written-next ys zs j (omega arith) (omega arith))
+written-next (y ∷ ys) (z ∷ zs) (suc i) l h = ap (λ (r : List ℕ). z ∷ r) (written-next ys zs i (omega arith) (omega arith))
 
-moved-next : (ys zs : List ℕ) (j : ℕ) → j < length ys → j < length zs
-    → level (not (eqb (getD ys j 0) (getD zs j 0))) + 2 * moved (drop (suc j) ys) (drop (suc j) zs) ≡ moved (drop j ys) (drop j zs)
-moved-next ys zs j h k = rw (drop-cons ys j 0 h, drop-cons zs j 0 k)
+-- Twice a level at bit i is the level at the bit above.
+level-up : (b : Bool) (i : ℕ) → 2 * (level b * 2 ^ i) ≡ level b * 2 ^ suc i
+level-up true i = rw two-pow-succ (omega arith)
+level-up false i = omega arith
 
--- A turn of the loop: that output is written, and its bit is set where that changes it.
-module _ (ys zs os : List ℕ) (i v : ℕ) (l : length ys ≡ length zs) (p : 0 < i) (h : i ≤ length ys) (so-far : os ≡ written ys zs i)
-    (bit : v ≡ getD zs (i - 1) 0) where
-  next : i ≡ suc (i - 1)
-  next = omega arith
+moved-next : (ys zs : List ℕ) (i : ℕ) → i < length ys → length ys ≡ length zs
+    → moved (take i ys) (take i zs) + level (not (eqb (getD ys i 0) (getD zs i 0))) * 2 ^ i ≡ moved (take (suc i) ys) (take (suc i) zs)
+moved-next [] zs i h l = absurd (omega arith)
+moved-next (y ∷ ys) [] i h l = absurd (omega arith)
+moved-next (y ∷ ys) (z ∷ zs) zero h l = omega arith
+moved-next (y ∷ ys) (z ∷ zs) (suc i) h l =
+    omega (arith, moved-next ys zs i (omega arith) (omega arith), level-up (not (eqb (getD ys i 0) (getD zs i 0))) i)
 
-  so-far-next : os ≡ written ys zs (suc (i - 1))
-  so-far-next = so-far ∙ ap (written ys zs) next
+-- A level that is shifted to a bit of a word.
+level-shl : (b : Bool) (i : ℕ) → i < 64 → level b * 2 ^ i % 2 ^ 64 ≡ level b * 2 ^ i
+level-shl true i h = shl-exact 1 i 64 (omega arith) (omega arith)
+level-shl false i h = shl-exact 0 i 64 (omega arith) (omega arith)
 
-  pub written-step : set os (i - 1) v ≡ written ys zs (i - 1)
+-- A turn of the loop: output i is written, and its bit is set where that changes it.
+module _ (ys zs os : List ℕ) (i v : ℕ) (l : length ys ≡ length zs) (h : i < length ys) (few : length ys ≤ 64) (so-far : os ≡ written ys zs i)
+    (bit : v ≡ getD zs i 0) where
+  pub written-step : set os i v ≡ written ys zs (i + 1)
   written-step =
-      ap (λ (r : List ℕ). set r (i - 1) v) so-far-next ∙ ap (set (written ys zs (suc (i - 1))) (i - 1)) bit
-      ∙ written-next ys zs (i - 1) l (omega arith)
+      ap (λ (r : List ℕ). set r i v) so-far ∙ ap (set (written ys zs i) i) bit ∙ written-next ys zs i l h ∙ ap (written ys zs) (sym (add-one i))
 
-  pub moved-step : (b m : ℕ) → b ≡ level (not (eqb (getD os (i - 1) 0) v)) → m ≡ moved (drop i ys) (drop i zs)
-      → b + 2 * m ≡ moved (drop (i - 1) ys) (drop (i - 1) zs)
-  moved-step b m q e =
-      let o : getD os (i - 1) 0 ≡ getD ys (i - 1) 0 =
-      ap (λ (r : List ℕ). getD r (i - 1) 0) so-far-next ∙ written-before ys zs (i - 1) (omega arith) in
-      let b′ : b ≡ level (not (eqb (getD ys (i - 1) 0) (getD zs (i - 1) 0))) =
-      q ∙ ap (λ (y : ℕ). level (not (eqb y v))) o ∙ ap (λ (z : ℕ). level (not (eqb (getD ys (i - 1) 0) z))) bit in
-      let m′ : m ≡ moved (drop (suc (i - 1)) ys) (drop (suc (i - 1)) zs) =
-      e ∙ ap (λ (k : ℕ). moved (drop k ys) (drop k zs)) next in
-      omega (arith, b′, m′, moved-next ys zs (i - 1) (omega arith) (omega arith))
+  module _ (b m : ℕ) (e : b ≡ level (not (eqb (getD os i 0) v))) (now : m ≡ moved (take i ys) (take i zs)) where
+    -- The bit, and that it is output i's own.
+    own-bit : b * 2 ^ i % 2 ^ 64 ≡ level (not (eqb (getD ys i 0) (getD zs i 0))) * 2 ^ i
+    own-bit =
+        let o : getD os i 0 ≡ getD ys i 0 = ap (λ (r : List ℕ). getD r i 0) so-far ∙ written-here ys zs i l in
+        let q : b ≡ level (not (eqb (getD ys i 0) (getD zs i 0))) =
+        e ∙ ap (λ (y : ℕ). level (not (eqb y v))) o ∙ ap (λ (z : ℕ). level (not (eqb (getD ys i 0) z))) bit in
+        ap (λ (x : ℕ). x * 2 ^ i % 2 ^ 64) q ∙ level-shl (not (eqb (getD ys i 0) (getD zs i 0))) i (omega arith)
 
--- At most 63 bits have room for one more.
-pub moved-room : (ys zs : List ℕ) (i : ℕ) → 0 < i → length ys ≤ 64 → moved (drop i ys) zs < 2 ^ 63
-moved-room ys zs i p h =
-    lt-of-lt-of-le (moved-lt (drop i ys) zs) (pow-mono {i = length (drop i ys)} {j = 63} (simp length-drop (omega arith)))
+    pub moved-step : m + b * 2 ^ i % 2 ^ 64 ≡ moved (take (i + 1) ys) (take (i + 1) zs)
+    moved-step =
+        omega (arith, now, own-bit, moved-next ys zs i h l)
+        ∙ ap (λ (k : ℕ). moved (take k ys) (take k zs)) (sym (add-one i))
+
+    pub moved-room : m + b * 2 ^ i % 2 ^ 64 < 2 ^ 64
+    moved-room =
+        let k : length (take (i + 1) ys) ≡ i + 1 = length-take-le (i + 1) ys (omega arith) in
+        rw moved-step
+        (lt-of-lt-of-le (moved-lt (take (i + 1) ys) (take (i + 1) zs)) (pow-mono {i = length (take (i + 1) ys)} {j = 64} (omega (arith, k))))
+
+-- All are written.
+pub written-all : (ys zs : List ℕ) (i : ℕ) → length ys ≡ length zs → i ≡ length ys → written ys zs i ≡ zs
+written-all ys zs i l e =
+    rw (e, drop-length ys, l, take-length zs) (append-nil zs)
+
+pub moved-all : (ys zs : List ℕ) (i : ℕ) → length ys ≡ length zs → i ≡ length ys → moved (take i ys) (take i zs) ≡ moved ys zs
+moved-all ys zs i l e =
+    let t : take i ys ≡ ys = ap (λ (k : ℕ). take k ys) e ∙ take-length ys in
+    let u : take i zs ≡ zs = ap (λ (k : ℕ). take k zs) (e ∙ l) ∙ take-length zs in
+    rw (t, u)

@@ -96,8 +96,7 @@ fn join(ports: &[u64]) -> u64
     number
 }
 
-// Splitter: output i is bit i of the input. The answer is which outputs changed: from the last output down, each output before
-// doubles the bits and sets the lowest.
+// Splitter: output i is bit i of the input. The answer is which outputs changed: each sets its own bit.
 fn split(input: u64, outputs: &mut [u64]) -> u64
     requires { ⌜ length (now outputs) ≤ 64 ⌝ }
     ensures { λ r. ⌜ (r ≡ moved (now (outputs .entry)) (now (outputs .exit)))
@@ -108,12 +107,12 @@ fn split(input: u64, outputs: &mut [u64]) -> u64
         width: outputs.len() as u64,
     };
     let mut bits: u64 = 0;
-    let mut i: usize = outputs.len();
-    while 0 < i {
-        i -= 1;
+    let mut i: usize = 0;
+    while i < outputs.len() {
         let number = value.bit(i as u64).number;
-        bits = level_of(outputs[i] != number) + 2 * bits;
+        bits += level_of(outputs[i] != number) << i;
         outputs[i] = number;
+        i += 1;
     }
     bits
 }

@@ -150,5 +150,8 @@ module _ (T : Tables) (z : netNumber T ≡ 0) (t : ℕ) where
   pub round-still : (d j : ℕ) → d < T .counts .components → (In d (currentList T) → ⊥) → j < fieldsAt T d .outputs → movedIn d j ≡ false
   unfolding roundOf round leave
   round-still d j q ne l =
-      rw (visits-others T (net-sound T z) (wiresIn T) (stored-order T) t (currentList T) (stateOf T) (net-held T z) (net-held T z .current .exist)
-      d j q ne l, eq-eqb (outputIn T (T .outputs) d j) (outputIn T (T .outputs) d j) refl)
+      rw (
+        visits-others T (net-sound T z) (wiresIn T) (stored-order T) t (currentList T) (stateOf T) (net-held T z) (net-held T z .current .exist)
+            d j q ne l,
+        eq-eqb (outputIn T (T .outputs) d j) (outputIn T (T .outputs) d j) refl,
+      )
