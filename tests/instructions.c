@@ -30,6 +30,7 @@ static uint32_t nothing(void) { return 0; }
 static uint32_t judge(void) { return berxundar_judge(bytes, length); }
 static uint32_t load(void) { return berxundar_net_load(&net, bytes, length); }
 static uint32_t run_round(void) { return berxundar_net_round(&net, at, moved); }
+static uint32_t run(void) { return berxundar_net_run_until_calm(&net, at, ROUNDS_MAX, NULL, NULL, NULL); }
 static uint32_t check(void) { return berxundar_net_check(&net); }
 static uint32_t satisfied(void) { return berxundar_net_satisfied(&net, &found); }
 
@@ -40,7 +41,7 @@ static const struct {
 } calls[] = { { "empty", &loaded, nothing }, { "judge", &loaded, judge }, { "load", &loaded, load },
     { "round, all listed", &loaded, run_round }, { "idle, all listed", &idle, run_round }, { "quiet", &quiet, run_round },
     { "net check", &quiet, check }, { "satisfied, none listed", &quiet, satisfied }, { "satisfied, one listed", &one, satisfied },
-    { "satisfied, all listed", &idle, satisfied } };
+    { "satisfied, all listed", &idle, satisfied }, { "run until calm", &loaded, run } };
 
 /* A system call that no kernel has, which the plugin sees. */
 static void mark(long what, long name)

@@ -1,24 +1,76 @@
--- The bits of a round and the number of a run: what crate quiet has of the tables' outputs, what a table of bits that is too short does, and the
--- rounds of a run one by one.
+-- The bits of a component evaluated alone, by what an evaluation leaves; the bits of a round and the number of a run: what crate quiet has of the
+-- tables' outputs, what a table of bits that is too short does, and the rounds of a run one by one.
 -- Assumes nothing.
 use mathlib.Core.Path.{_≡_, refl, sym, ap, _∙_}
-use mathlib.Core.Bool.{Bool, true, false, cond, _&&_, true≢false}
-use mathlib.Core.List.{[], _∷_}
-use Prim.Native.Nat.{ℕ, zero, suc, _+_}
-use borrow.Author.Tests.{lt-ltb}
-use lib.ListN.{length, getD}
-use lib.Dec.{ltb}
+use mathlib.Core.Bool.{Bool, true, false, cond, not, _&&_, true≢false}
+use mathlib.Core.List.{List, [], _∷_}
+use Prim.Native.Nat.{ℕ, zero, suc, _+_, _<_}
+use native.Mathlib.Omega.{arith}
+use borrow.Author.Tests.{lt-ltb, ltb-true, ltb-false}
+use lib.ListN.{length, getD, take, drop, List·getD-append, List·getD-eq-default}
+use lib.Seq.{getD-take}
+use lib.Dec.{eqb, ltb}
 use Rattle.lists.specs.Lists.{from, total}
 use Rattle.lists.proofs.MembersLaws.{has-complete}
-use Rattle.value.specs.Value.{level}
-use Rattle.primitive.specs.Evaluate.{functionOf, outputsAfter, movedOutputs}
+use Rattle.value.specs.Value.{level, bitOf}
+use Rattle.kinds.specs.declared.table.Fields.{Fields}
+use Rattle.kinds.proofs.GivenLaws.{done-giving}
+use Rattle.primitive.specs.Evaluate.{functionOf, outputsAfter, movedOutputs, evaluateNumber, evaluateOutputs}
+use Rattle.primitive.specs.Own.{Own}
+use Rattle.primitive.proofs.MovedLaws.{moved-bit}
+use Rattle.primitive.proofs.FitLaws.{outputsAfter-length}
+use Rattle.primitive.proofs.EvaluateLaws.{passed-own, done-outputs}
 use Rattle.tables.specs.Tables.{Tables, fieldsAt, currentList}
 use Rattle.rounds.specs.Round.{calm, roundBits}
 use Rattle.simulator.specs.Calls.{roundTables, roundMoved, bitsSet, noRound, run}
 use Rattle.simulator.proofs.Kept.{roundTables-done}
 use Rattle.simulator.proofs.CallsLaws.{roundNumber-room, roundCall-room}
 use Rattle.quiet.proofs.Moved.{round-bits-length, round-bit, round-still}
-use Rattle.demands.specs.Moved.{changed, BitsRight, BitsBeside, roundsOn, RunSum}
+use Rattle.demands.specs.Moved.{EvaluatedRight, changed, BitsRight, BitsBeside, roundsOn, RunSum}
+
+-- What an evaluation leaves: the component's outputs as it made them, and behind them what was there.
+module _ (f : Fields) (xs vs ys ws : List ℕ) (t : ℕ) (z : evaluateNumber f xs vs ys ws ≡ 0) where
+  abbrev before : List ℕ
+  before = take (f .outputs) ys
+
+  abbrev made : List ℕ
+  made = outputsAfter f (take (f .inputs) xs) before t
+
+  own : Own f (take (f .inputs) xs) before
+  own = passed-own f xs vs ys ws z
+
+  made-length : length made ≡ f .outputs
+  made-length = outputsAfter-length f (take (f .inputs) xs) before t own
+
+  -- Output j of the component, before and after.
+  made-at : (j : ℕ) → j < f .outputs → getD (evaluateOutputs f xs vs ys ws t) j 0 ≡ getD made j 0
+  made-at j h =
+      ap (λ (l : List ℕ). getD l j 0) (sym (done-outputs f xs vs ys ws z made t refl made-length))
+      ∙ List·getD-append made (drop (f .outputs) ys) 0 j (omega (arith, made-length))
+
+  evaluated-bit : (j : ℕ)
+      → bitOf (movedOutputs f (take (f .inputs) xs) before t) j
+      ≡ level (ltb j (f .outputs) && not (eqb (getD ys j 0) (getD (evaluateOutputs f xs vs ys ws t) j 0)))
+  unfolding movedOutputs
+  evaluated-bit j = moved-bit before made (own .all-outputs ∙ sym made-length) j ∙ by-port (ltb j (f .outputs)) refl
+    where
+      by-port : (b : Bool) → ltb j (f .outputs) ≡ b
+          → level (not (eqb (getD before j 0) (getD made j 0)))
+          ≡ level (b && not (eqb (getD ys j 0) (getD (evaluateOutputs f xs vs ys ws t) j 0)))
+      by-port true e =
+          let l = ltb-true j (f .outputs) e in
+          rw (made-at j l, getD-take (f .outputs) ys j 0 l)
+      by-port false e =
+          let l = ltb-false j (f .outputs) e in
+          let y : getD before j 0 ≡ 0 = List·getD-eq-default before 0 (omega (arith, own .all-outputs)) in
+          let n : getD made j 0 ≡ 0 = List·getD-eq-default made 0 (omega (arith, made-length)) in
+          rw (y, n)
+
+pub evaluated-right : EvaluatedRight
+evaluated-right f xs vs ys ws t bits zs p j =
+    let given = done-giving (bits ∷ []) (movedOutputs f (take (f .inputs) xs) (take (f .outputs) ys) t ∷ []) (evaluateNumber f xs vs ys ws) (p .0) in
+    ap (λ (l : List ℕ). bitOf (getD l 0 0) j) (given .1) ∙ evaluated-bit f xs vs ys ws t (given .0) j
+    ∙ ap (λ (l : List ℕ). level (ltb j (f .outputs) && not (eqb (getD ys j 0) (getD l j 0)))) (sym (p .1))
 
 pub bits-right : BitsRight
 bits-right T t z =

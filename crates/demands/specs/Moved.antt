@@ -1,6 +1,7 @@
 -- What the bits of a round, and the number of a run, say of the outputs. docs/SPECIFICATION.md, "Rounds" (which outputs moved).
---   Changed T U i j   output j of component i holds another number in the tables U than in the tables T
---   BitsRight         bit i of a component's word is set exactly where its output i changed; no output changed that no bit tells of
+--   EvaluatedRight    of a component evaluated alone, bit i is set exactly where its output i changed
+--   changed T U i j   output j of component i holds another number in the tables U than in the tables T
+--   BitsRight         the same of each component's word in a round; no output changed that no bit tells of
 --   BitsBeside        a round that is lent bits enough leaves the tables of a round, whatever the bits held; one that is not leaves everything
 --   RunSum            the number that a run answers is the sum over its rounds
 -- Assumes nothing.
@@ -12,10 +13,19 @@ use lib.ListN.{length, getD}
 use lib.Dec.{eqb, ltb}
 use Rattle.lists.specs.Lists.{from, has, total}
 use Rattle.value.specs.Value.{level, bitOf}
+use Rattle.kinds.specs.declared.table.Fields.{Fields}
+use Rattle.primitive.specs.declared.Evaluated.the-variants.{Done}
+use Rattle.primitive.specs.Evaluate.{Evaluates}
 use Rattle.tables.specs.Tables.{Tables, fieldsAt, endAt, outputPlace, currentList}
 use Rattle.net.specs.Net.{netNumber}
 use Rattle.rounds.specs.Round.{roundBits}
 use Rattle.simulator.specs.Calls.{roundTables, roundNumber, roundCall, roundMoved, bitsSet, run}
+
+-- Evaluating a component, not refused, which finds the outputs ys and leaves zs: bit j tells of the component's output j and of nothing else.
+abbrev pub EvaluatedRight : Type 0
+EvaluatedRight =
+    (f : Fields) (xs vs ys ws : List ℕ) (t bits : ℕ) (zs : List ℕ) → Evaluates f xs vs ys ws t (Done bits) zs
+    → (j : ℕ) → bitOf bits j ≡ level (ltb j (f .outputs) && not (eqb (getD ys j 0) (getD zs j 0)))
 
 -- Output j of component i, of T, holds another number in U than in T.
 abbrev pub changed : Tables → Tables → ℕ → ℕ → Bool

@@ -4,33 +4,29 @@ use mathlib.Core.Path.{_≡_, refl, sym, ap, _∙_}
 use mathlib.Core.Bool.{Bool, true, false, not}
 use mathlib.Core.List.{List, [], _∷_, _++_, append-nil}
 use Prim.Native.Nat.{ℕ, zero, suc, _+_, _*_, _/_, _%_, _^_, _≤_, _<_}
-use native.Mathlib.Nat.{div-one, div-eq-of-lt, two-pow-succ, lt-of-lt-of-le}
+use native.Mathlib.Nat.{div-eq-of-lt, two-pow-succ, lt-of-lt-of-le}
 use native.Mathlib.Numerals.{add-one}
 use native.Mathlib.Omega.{arith}
 use borrow.Author.Tests.{eq-eqb}
 use lib.ListN.{length, getD, set, take, drop}
 use lib.Dec.{eqb}
-use lib.Pow.{pow-pos, pow-mono, shl-exact, shr-shr}
+use lib.Pow.{pow-pos, pow-mono, shl-exact}
 use lib.Seq.{drop-length, take-length, length-take-le}
 use Rattle.value.specs.Value.{level, bitOf}
-use Rattle.value.proofs.ValueLaws.{level-le}
+use Rattle.value.proofs.ValueLaws.{level-le, bitOf-lowest, bitOf-half}
 use Rattle.kinds.specs.declared.table.Fields.{Fields}
 use Rattle.primitive.specs.Evaluate.{outputsAfter, moved, movedOutputs}
 
 -- The lowest bit of a number b + 2 * m is b, and the bits above are those of m.
 bit-first : (b m : ℕ) → b ≤ 1 → bitOf (b + 2 * m) 0 ≡ b
-bit-first b m h = ap (λ (x : ℕ). x % 2) (div-one (b + 2 * m)) ∙ low
-  where
-    low : (b + 2 * m) % 2 ≡ b
-    low = omega arith
+bit-first b m h =
+    let low : (b + 2 * m) % 2 ≡ b = omega arith in
+    bitOf-lowest (b + 2 * m) ∙ low
 
 bit-later : (b m j : ℕ) → b ≤ 1 → bitOf (b + 2 * m) (suc j) ≡ bitOf m j
 bit-later b m j h =
-    let e : 1 + j ≡ suc j = omega arith in
     let half : (b + 2 * m) / 2 ≡ m = omega arith in
-    let d : (b + 2 * m) / 2 / 2 ^ j ≡ (b + 2 * m) / 2 ^ suc j
-    = shr-shr (b + 2 * m) 1 j ∙ ap (λ (k : ℕ). (b + 2 * m) / 2 ^ k) e in
-    ap (λ (x : ℕ). x % 2) (sym d ∙ ap (λ (x : ℕ). x / 2 ^ j) half)
+    bitOf-half (b + 2 * m) j ∙ ap (λ (n : ℕ). bitOf n j) half
 
 -- Bit i of the bits of two lists is set exactly where the numbers at i differ; there are no others.
 pub moved-bit : (ys zs : List ℕ) → length ys ≡ length zs → (i : ℕ) → bitOf (moved ys zs) i ≡ level (not (eqb (getD ys i 0) (getD zs i 0)))

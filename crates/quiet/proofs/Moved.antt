@@ -1,6 +1,7 @@
 -- What the bits of a round say: in the word of each component evaluated bit i is set exactly where output i of it is not after the round what it was
 -- before; and no output of any other component moves. docs/SPECIFICATION.md, "Rounds" (which outputs moved).
---   MovedAt T s u i j   output j of component i is not in the state u what it is in the state s
+--   outputIn T os i j     output j of component i, in the outputs os
+--   movedIn T z t i j     it is not after a round at time t what it was before
 -- Assumes nothing.
 use mathlib.Core.Path.{_≡_, refl, sym, ap, subst, _∙_}
 use mathlib.Core.Bool.{Bool, true, false, not, _&&_}

@@ -3,7 +3,7 @@
 use mathlib.Core.Path.{_≡_, refl, sym, ap, _∙_}
 use mathlib.Core.List.{List, [], _∷_}
 use Prim.Native.Nat.{ℕ, zero, suc, _+_, _*_, _/_, _%_, _^_, _≤_, _<_}
-use native.Mathlib.Nat.{add-zero, div-one, div-eq-of-lt}
+use native.Mathlib.Nat.{add-zero, div-eq-of-lt}
 use native.Mathlib.Numerals.{add-one}
 use native.Mathlib.Omega.{arith}
 use lib.ListN.{length, getD, take}
@@ -12,18 +12,12 @@ use lib.Seq.{take-suc, length-take-le}
 use Rattle.lists.specs.Lists.{from, total}
 use Rattle.lists.proofs.MembersLaws.{total-append, from-last}
 use Rattle.value.specs.Value.{bitOf}
-use Rattle.value.proofs.ValueLaws.{bitOf-fits}
+use Rattle.value.proofs.ValueLaws.{bitOf-fits, bitOf-lowest, bitOf-half}
 use Rattle.simulator.specs.Calls.{bitsSet}
-
--- Bit j + 1 of a number is bit j of its half.
-bit-half : (b j : ℕ) → bitOf b (suc j) ≡ bitOf (b / 2) j
-bit-half b j =
-    let e : 1 + j ≡ suc j = omega arith in
-    ap (λ (x : ℕ). x % 2) (sym (shr-shr b 1 j ∙ ap (λ (k : ℕ). b / 2 ^ k) e))
 
 bits-half : (b q n : ℕ) → total (bitOf b) (from (suc q) n) ≡ total (bitOf (b / 2)) (from q n)
 bits-half b q zero = refl
-bits-half b q (suc n) = rw (bit-half b q, bits-half b (suc q) n)
+bits-half b q (suc n) = rw (bitOf-half b q, bits-half b (suc q) n)
 
 bits-last : (b n : ℕ) → total (bitOf b) (from 0 (suc n)) ≡ total (bitOf b) (from 0 n) + bitOf b n
 bits-last b n = ap (total (bitOf b)) (from-last n) ∙ total-append (bitOf b) (from 0 n) (n ∷ []) ∙ rw add-zero
@@ -41,12 +35,11 @@ bitsSet-le b = bits-le 0 64
 pub bitsSet-half : (b : ℕ) → b < 2 ^ 64 → bitsSet b ≡ b % 2 + bitsSet (b / 2)
 unfolding bitsSet
 bitsSet-half b h =
-    let low : bitOf b 0 ≡ b % 2 = ap (λ (x : ℕ). x % 2) (div-one b) in
     let above : b / 2 / 2 ^ 63 ≡ 0 = shr-shr b 1 63 ∙ div-eq-of-lt h in
     let top : bitOf (b / 2) 63 ≡ 0 = ap (λ (x : ℕ). x % 2) above in
     let half : total (bitOf b) (from 0 64) ≡ bitOf b 0 + total (bitOf (b / 2)) (from 0 63) = ap (λ (x : ℕ). bitOf b 0 + x) (bits-half b 0 63) in
     let last = bits-last (b / 2) 63 in
-    half ∙ ap (λ (x : ℕ). x + total (bitOf (b / 2)) (from 0 63)) low
+    half ∙ ap (λ (x : ℕ). x + total (bitOf (b / 2)) (from 0 63)) (bitOf-lowest b)
     ∙ ap (λ (x : ℕ). b % 2 + x) (sym (last ∙ ap (λ (x : ℕ). total (bitOf (b / 2)) (from 0 63) + x) top ∙ add-zero _))
 
 pub bitsSet-none : bitsSet 0 ≡ 0

@@ -4,12 +4,12 @@
 use mathlib.Core.Path.{_≡_, _∙_, refl, sym, ap, subst}
 use mathlib.Core.Bool.{Bool, true, false}
 use Prim.Native.Nat.{ℕ, suc, _+_, _-_, _*_, _/_, _%_, _^_, _≤_, _<_}
-use native.Mathlib.Nat.{one-mul, div-eq-of-lt, div-lt-iff-lt-mul, lt-of-lt-of-le, add-mul, mod-lt, pow-suc}
+use native.Mathlib.Nat.{one-mul, div-one, div-eq-of-lt, div-lt-iff-lt-mul, lt-of-lt-of-le, add-mul, mod-lt, pow-suc}
 use native.Mathlib.Decide.{decLt}
 use native.Mathlib.Omega.{arith}
 use borrow.Author.Tests.{lt-ltb, le-ltb, eq-eqb, ne-eqb, ltb-true}
 use lib.Dec.{eqb}
-use lib.Pow.{pow-pos, pow-mono, shl-exact, shr-lt, ones-split, split}
+use lib.Pow.{pow-pos, pow-mono, shl-exact, shr-lt, shr-shr, ones-split, split}
 use lib.Arith.{digits-div}
 use Rattle.lists.specs.Lists.{within}
 use Rattle.lists.proofs.ListsLaws.{within-most}
@@ -57,6 +57,15 @@ level-le false = omega arith
 
 pub bitOf-fits : (n i : ℕ) → bitOf n i < 2 ^ 1
 bitOf-fits n i = mod-lt (n / 2 ^ i) (omega arith)
+
+-- Bit 0 is the lowest, and bit i + 1 of a number is bit i of its half.
+pub bitOf-lowest : (n : ℕ) → bitOf n 0 ≡ n % 2
+bitOf-lowest n = ap (λ (x : ℕ). x % 2) (div-one n)
+
+pub bitOf-half : (n i : ℕ) → bitOf n (suc i) ≡ bitOf (n / 2) i
+bitOf-half n i =
+    let e : 1 + i ≡ suc i = omega arith in
+    ap (λ (x : ℕ). x % 2) (sym (shr-shr n 1 i ∙ ap (λ (k : ℕ). n / 2 ^ k) e))
 
 -- What a value that fits has: a width of a port, and a number below its power.
 module _ (v : Value) (e : fits v ≡ true) where
