@@ -1,16 +1,17 @@
--- Which outputs changed: bit i is set exactly where output i did. Then the loop of `split`.
+-- Which outputs changed: bit i is set exactly where output i did. Then a word in which a bit is set, and the loop of `split`.
 -- Assumes nothing.
-use mathlib.Core.Path.{_≡_, refl, sym, ap, _∙_}
+use mathlib.Core.Path.{_≡_, refl, sym, ap, subst, _∙_}
 use mathlib.Core.Bool.{Bool, true, false, not}
 use mathlib.Core.List.{List, [], _∷_, _++_, append-nil}
 use Prim.Native.Nat.{ℕ, zero, suc, _+_, _*_, _/_, _%_, _^_, _≤_, _<_}
-use native.Mathlib.Nat.{div-eq-of-lt, two-pow-succ, lt-of-lt-of-le}
+use native.Mathlib.Nat.{add-comm, div-eq-of-lt, two-pow-succ}
 use native.Mathlib.Numerals.{add-one}
 use native.Mathlib.Omega.{arith}
 use borrow.Author.Tests.{eq-eqb}
 use lib.ListN.{length, getD, set, take, drop}
 use lib.Dec.{eqb}
-use lib.Pow.{pow-pos, pow-mono, shl-exact}
+use lib.Bits.{bitOr, or-shifted-r}
+use lib.Pow.{pow-pos, shl-exact}
 use lib.Seq.{drop-length, take-length, length-take-le}
 use Rattle.value.specs.Value.{level, bitOf}
 use Rattle.value.proofs.ValueLaws.{level-le, bitOf-lowest, bitOf-half}
@@ -58,6 +59,12 @@ moved-lt [] zs = omega arith
 moved-lt (y ∷ ys) [] = pow-pos (length (y ∷ ys))
 moved-lt (y ∷ ys) (z ∷ zs) = rw two-pow-succ (omega (arith, moved-lt ys zs, level-le (not (eqb y z))))
 
+-- A bit that is set in a word which has none set from there on.
+pub bit-set : (b i : ℕ) → i < 64 → b < 2 ^ i → bitOr b (1 * 2 ^ i % 2 ^ 64) ≡ b + 1 * 2 ^ i
+bit-set b i h room =
+    let e : 1 * 2 ^ i % 2 ^ 64 ≡ 1 * 2 ^ i = shl-exact 1 i 64 (omega arith) (omega arith) in
+    ap (bitOr b) e ∙ or-shifted-r 1 i b room ∙ add-comm (1 * 2 ^ i) b
+
 -- The loop of `split`, over the outputs ys that came in and the outputs zs that it leaves: those before i are written.
 abbrev pub written : List ℕ → List ℕ → ℕ → List ℕ
 written ys zs i = take i zs ++ drop i ys
@@ -91,37 +98,26 @@ moved-next (y ∷ ys) (z ∷ zs) zero h l = omega arith
 moved-next (y ∷ ys) (z ∷ zs) (suc i) h l =
     omega (arith, moved-next ys zs i (omega arith) (omega arith), level-up (not (eqb (getD ys i 0) (getD zs i 0))) i)
 
--- A level that is shifted to a bit of a word.
-level-shl : (b : Bool) (i : ℕ) → i < 64 → level b * 2 ^ i % 2 ^ 64 ≡ level b * 2 ^ i
-level-shl true i h = shl-exact 1 i 64 (omega arith) (omega arith)
-level-shl false i h = shl-exact 0 i 64 (omega arith) (omega arith)
+-- The bits of the outputs before i have none set from bit i on.
+pub moved-room : (ys zs : List ℕ) (i m : ℕ) → i ≤ length ys → m ≡ moved (take i ys) (take i zs) → m < 2 ^ i
+moved-room ys zs i m h e =
+    let l : length (take i ys) ≡ i = length-take-le i ys h in
+    rw e (subst (λ (k : ℕ). moved (take i ys) (take i zs) < 2 ^ k) l (moved-lt (take i ys) (take i zs)))
 
 -- A turn of the loop: output i is written, and its bit is set where that changes it.
-module _ (ys zs os : List ℕ) (i v : ℕ) (l : length ys ≡ length zs) (h : i < length ys) (few : length ys ≤ 64) (so-far : os ≡ written ys zs i)
-    (bit : v ≡ getD zs i 0) where
+module _ (ys zs os : List ℕ) (i v : ℕ) (l : length ys ≡ length zs) (h : i < length ys) (so-far : os ≡ written ys zs i) (bit : v ≡ getD zs i 0) where
   pub written-step : set os i v ≡ written ys zs (i + 1)
   written-step =
       ap (λ (r : List ℕ). set r i v) so-far ∙ ap (set (written ys zs i) i) bit ∙ written-next ys zs i l h ∙ ap (written ys zs) (sym (add-one i))
 
-  module _ (b m : ℕ) (e : b ≡ level (not (eqb (getD os i 0) v))) (now : m ≡ moved (take i ys) (take i zs)) where
-    -- The bit, and that it is output i's own.
-    own-bit : b * 2 ^ i % 2 ^ 64 ≡ level (not (eqb (getD ys i 0) (getD zs i 0))) * 2 ^ i
-    own-bit =
-        let o : getD os i 0 ≡ getD ys i 0 = ap (λ (r : List ℕ). getD r i 0) so-far ∙ written-here ys zs i l in
-        let q : b ≡ level (not (eqb (getD ys i 0) (getD zs i 0))) =
-        e ∙ ap (λ (y : ℕ). level (not (eqb y v))) o ∙ ap (λ (z : ℕ). level (not (eqb (getD ys i 0) z))) bit in
-        ap (λ (x : ℕ). x * 2 ^ i % 2 ^ 64) q ∙ level-shl (not (eqb (getD ys i 0) (getD zs i 0))) i (omega arith)
-
-    pub moved-step : m + b * 2 ^ i % 2 ^ 64 ≡ moved (take (i + 1) ys) (take (i + 1) zs)
-    moved-step =
-        omega (arith, now, own-bit, moved-next ys zs i h l)
-        ∙ ap (λ (k : ℕ). moved (take k ys) (take k zs)) (sym (add-one i))
-
-    pub moved-room : m + b * 2 ^ i % 2 ^ 64 < 2 ^ 64
-    moved-room =
-        let k : length (take (i + 1) ys) ≡ i + 1 = length-take-le (i + 1) ys (omega arith) in
-        rw moved-step
-        (lt-of-lt-of-le (moved-lt (take (i + 1) ys) (take (i + 1) zs)) (pow-mono {i = length (take (i + 1) ys)} {j = 64} (omega (arith, k))))
+  pub moved-step : (m r : ℕ) → m ≡ moved (take i ys) (take i zs) → r ≡ m + level (not (eqb (getD os i 0) v)) * 2 ^ i
+      → r ≡ moved (take (i + 1) ys) (take (i + 1) zs)
+  moved-step m r now e =
+      let o : getD os i 0 ≡ getD ys i 0 = ap (λ (r : List ℕ). getD r i 0) so-far ∙ written-here ys zs i l in
+      let q : level (not (eqb (getD os i 0) v)) ≡ level (not (eqb (getD ys i 0) (getD zs i 0))) =
+      ap (λ (y : ℕ). level (not (eqb y v))) o ∙ ap (λ (z : ℕ). level (not (eqb (getD ys i 0) z))) bit in
+      e ∙ ap (λ (x : ℕ). m + x * 2 ^ i) q ∙ ap (λ (x : ℕ). x + level (not (eqb (getD ys i 0) (getD zs i 0))) * 2 ^ i) now
+      ∙ moved-next ys zs i h l ∙ ap (λ (k : ℕ). moved (take k ys) (take k zs)) (sym (add-one i))
 
 -- All are written.
 pub written-all : (ys zs : List ℕ) (i : ℕ) → length ys ≡ length zs → i ≡ length ys → written ys zs i ≡ zs

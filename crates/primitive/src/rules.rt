@@ -1,9 +1,11 @@
 // What a kind does with its ports: one named function for a kind or a family of kinds, and `update`, which picks it.
 // Rules: docs/SPECIFICATION.md, "Rounds". Source: primitive.rs, `update`.
 ghost use mathlib.Core.Path.{_≡_};
+ghost use mathlib.Core.Bool.{not};
 ghost use mathlib.Core.List.{[], _∷_};
-ghost use Prim.Native.Nat.{_^_, _≤_, _<_};
-ghost use lib.ListN.{length};
+ghost use Prim.Native.Nat.{_+_, _*_, _^_, _≤_, _<_};
+ghost use lib.ListN.{length, getD, set};
+ghost use lib.Dec.{eqb};
 ghost use Rattle.value.specs.Value.{level, complement};
 ghost use Rattle.kinds.specs.Kinds.{numberOf};
 ghost use Rattle.primitive.specs.Evaluate.{highs, join, split, one, clockHigh, outputsAfter, moved, movedOutputs};
@@ -96,22 +98,36 @@ fn join(ports: &[u64]) -> u64
     number
 }
 
-// Splitter: output i is bit i of the input. The answer is which outputs changed: each sets its own bit.
+// Writes output i where that changes it, and then sets bit i of `bits`, which has none set from there on. The answer is the bits.
+fn put_at(outputs: &mut [u64], i: usize, number: u64, bits: u64) -> u64
+    requires { ⌜ (i < length (now outputs)) × (i < 64) × (bits < 2 ^ i) ⌝ }
+    ensures { λ r. ⌜ (r ≡ bits + level (not (eqb (getD (now (outputs .entry)) i 0) number)) * 2 ^ i)
+        × (now (outputs .exit) ≡ set (now (outputs .entry)) i number) ⌝ }
+{
+    if outputs[i] == number {
+        return bits;
+    }
+    outputs[i] = number;
+    bits | (1 << i)
+}
+
+// Splitter: output i is bit i of the input, the lowest of what is left when it has been halved i times. The answer is which outputs
+// changed.
 fn split(input: u64, outputs: &mut [u64]) -> u64
     requires { ⌜ length (now outputs) ≤ 64 ⌝ }
     ensures { λ r. ⌜ (r ≡ moved (now (outputs .entry)) (now (outputs .exit)))
         × (now (outputs .exit) ≡ split input (length (now (outputs .entry)))) ⌝ }
 {
-    let value = Value {
-        number: input,
-        width: outputs.len() as u64,
-    };
+    let mut left = input;
     let mut bits: u64 = 0;
     let mut i: usize = 0;
     while i < outputs.len() {
-        let number = value.bit(i as u64).number;
-        bits += level_of(outputs[i] != number) << i;
-        outputs[i] = number;
+        let value = Value {
+            number: left,
+            width: 64,
+        };
+        bits = put_at(outputs, i, value.bit(0).number, bits);
+        left /= 2;
         i += 1;
     }
     bits

@@ -1,16 +1,16 @@
--- The bits of a word, counted from the lowest up: a word's lowest bit and the bits of its half; then the words of a table, one after the other.
+-- The bits of a word, each for itself, are as many as the machine counts in one step; then the words of a table, one after the other.
 -- Assumes nothing.
 use mathlib.Core.Path.{_≡_, refl, sym, ap, _∙_}
 use mathlib.Core.List.{List, [], _∷_}
 use Prim.Native.Nat.{ℕ, zero, suc, _+_, _*_, _/_, _%_, _^_, _≤_, _<_}
-use native.Mathlib.Nat.{add-zero, div-eq-of-lt}
+use native.Mathlib.Nat.{two-pow-succ}
 use native.Mathlib.Numerals.{add-one}
 use native.Mathlib.Omega.{arith}
 use lib.ListN.{length, getD, take}
-use lib.Pow.{shr-shr}
+use lib.Count.{ones, ones-step, ones-le}
 use lib.Seq.{take-suc, length-take-le}
 use Rattle.lists.specs.Lists.{from, total}
-use Rattle.lists.proofs.MembersLaws.{total-append, from-last}
+use Rattle.lists.proofs.MembersLaws.{total-append}
 use Rattle.value.specs.Value.{bitOf}
 use Rattle.value.proofs.ValueLaws.{bitOf-fits, bitOf-lowest, bitOf-half}
 use Rattle.simulator.specs.Calls.{bitsSet}
@@ -18,9 +18,6 @@ use Rattle.simulator.specs.Calls.{bitsSet}
 bits-half : (b q n : ℕ) → total (bitOf b) (from (suc q) n) ≡ total (bitOf (b / 2)) (from q n)
 bits-half b q zero = refl
 bits-half b q (suc n) = rw (bitOf-half b q, bits-half b (suc q) n)
-
-bits-last : (b n : ℕ) → total (bitOf b) (from 0 (suc n)) ≡ total (bitOf b) (from 0 n) + bitOf b n
-bits-last b n = ap (total (bitOf b)) (from-last n) ∙ total-append (bitOf b) (from 0 n) (n ∷ []) ∙ rw add-zero
 
 -- No more bits are set than there are.
 pub bitsSet-le : (b : ℕ) → bitsSet b ≤ 64
@@ -31,20 +28,17 @@ bitsSet-le b = bits-le 0 64
     bits-le q zero = omega arith
     bits-le q (suc n) = omega (arith, bits-le (suc q) n, bitOf-fits b q)
 
--- Of a word of 64 bits: its lowest bit, and those of its half.
-pub bitsSet-half : (b : ℕ) → b < 2 ^ 64 → bitsSet b ≡ b % 2 + bitsSet (b / 2)
-unfolding bitsSet
-bitsSet-half b h =
-    let above : b / 2 / 2 ^ 63 ≡ 0 = shr-shr b 1 63 ∙ div-eq-of-lt h in
-    let top : bitOf (b / 2) 63 ≡ 0 = ap (λ (x : ℕ). x % 2) above in
-    let half : total (bitOf b) (from 0 64) ≡ bitOf b 0 + total (bitOf (b / 2)) (from 0 63) = ap (λ (x : ℕ). bitOf b 0 + x) (bits-half b 0 63) in
-    let last = bits-last (b / 2) 63 in
-    half ∙ ap (λ (x : ℕ). x + total (bitOf (b / 2)) (from 0 63)) (bitOf-lowest b)
-    ∙ ap (λ (x : ℕ). b % 2 + x) (sym (last ∙ ap (λ (x : ℕ). total (bitOf (b / 2)) (from 0 63) + x) top ∙ add-zero _))
+-- A word's lowest bit and the bits of its half, counted on.
+bits-ones : (n b : ℕ) → b < 2 ^ n → total (bitOf b) (from 0 n) ≡ ones b
+bits-ones zero b h = omega (arith, ones-le 0 b h)
+bits-ones (suc n) b h =
+    let half : b / 2 < 2 ^ n = omega (arith, h, two-pow-succ n) in
+    ap (λ (x : ℕ). x + total (bitOf b) (from 1 n)) (bitOf-lowest b)
+    ∙ ap (λ (x : ℕ). b % 2 + x) (bits-half b 0 n ∙ bits-ones n (b / 2) half) ∙ sym (ones-step b)
 
-pub bitsSet-none : bitsSet 0 ≡ 0
+pub bitsSet-ones : (b : ℕ) → b < 2 ^ 64 → ones b ≡ bitsSet b
 unfolding bitsSet
-bitsSet-none = refl
+bitsSet-ones b h = sym (bits-ones 64 b h)
 
 -- The first words of a table, and one word more.
 pub counted-next : (ws : List ℕ) (k n m : ℕ) → k < length ws → n ≡ bitsSet (getD ws k 0) → m ≡ total bitsSet (take k ws)

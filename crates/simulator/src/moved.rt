@@ -5,17 +5,11 @@ ghost use Prim.Native.Nat.{_≤_};
 ghost use Rattle.lists.specs.Lists.{total};
 ghost use Rattle.simulator.specs.Calls.{bitsSet};
 
-// How many bits of a word are set, from the lowest up to the last that is.
+// How many bits of a word are set.
 fn bits_set(word: u64) -> u32
     ensures { λ r. ⌜ r ≡ bitsSet word ⌝ }
 {
-    let mut rest = word;
-    let mut count: u32 = 0;
-    while 0 < rest {
-        count += (rest % 2) as u32;
-        rest /= 2;
-    }
-    count
+    u64::count_ones(word)
 }
 
 // How many bits are set in the first `count` words.
