@@ -49,8 +49,8 @@
  *   - No memory is lent twice in one call: no two tables overlap, and neither do a table and the file or the words for an answer.
  *   - While a call runs, nobody else writes to what it is lent, nor reads what it writes. Apart from that calls may run in any
  *     number of threads at once.
- *   - A call takes at most 48 KiB (49,152 bytes) of stack: a look up to so many, a load or a judgement up to 32,000 bytes, each
- *     other call less than 10,000.
+ *   - A call takes at most 48 KiB (49,152 bytes) of stack: a look up to so many, a load or a judgement up to 32,000 bytes, a
+ *     round or a run until calm up to 12,000, each other call less than 8,000.
  *
  * WHEN TO LIGHT: once a round has run since the load, and `berxundar_satisfied` or `berxundar_calm` says 1. It is proved, for every
  * drawing that a load accepts and whatever calls came after it and after that round: satisfied says 1 exactly where the whole

@@ -90,11 +90,10 @@ static const struct {
     uint32_t (*call)(void);
     size_t said;
 } calls[] = { { "judge", judge, 32000 }, { "judge a pair", judge_pair, 32000 }, { "load", load, 32000 },
-    { "look at the root", look, 49152 }, { "look inside", look_inside, 49152 }, { "round", run_round, 10000 },
-    { "round, bits unasked", run_round_unasked, 10000 }, { "run until calm", run, 10000 }, { "edit", edit, 10000 },
-    { "calm", calm, 10000 }, { "satisfied", satisfied, 10000 }, { "index", index_of, 10000 }, { "value", value, 10000 },
-    { "sources", sources, 10000 }, { "targets", targets, 10000 }, { "check", check, 10000 },
-    { "evaluate", evaluate, 10000 } };
+    { "look at the root", look, 49152 }, { "look inside", look_inside, 49152 }, { "round", run_round, 12000 },
+    { "round, bits unasked", run_round_unasked, 12000 }, { "run until calm", run, 12000 }, { "edit", edit, 8000 },
+    { "calm", calm, 8000 }, { "satisfied", satisfied, 8000 }, { "index", index_of, 8000 }, { "value", value, 8000 },
+    { "sources", sources, 8000 }, { "targets", targets, 8000 }, { "check", check, 8000 }, { "evaluate", evaluate, 8000 } };
 
 int main(void)
 {
