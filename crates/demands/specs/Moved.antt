@@ -1,4 +1,4 @@
--- What the bits of a round, and the number of a run, say of the outputs. docs/SPECIFICATION.md, "Rounds" (which outputs moved).
+-- What the bits of an evaluation and of a round, and the number of a run, say of the outputs. docs/SPECIFICATION.md, "Rounds" (which outputs moved).
 --   EvaluatedRight    of a component evaluated alone, bit i is set exactly where its output i changed
 --   changed T U i j   output j of component i holds another number in the tables U than in the tables T
 --   BitsRight         the same of each component's word in a round; no output changed that no bit tells of
