@@ -6,8 +6,8 @@ use mathlib.Core.Bool.{Bool, true, false, cond, not, _&&_, true≢false}
 use mathlib.Core.List.{List, [], _∷_}
 use Prim.Native.Nat.{ℕ, zero, suc, _+_, _<_}
 use native.Mathlib.Omega.{arith}
-use borrow.Author.Tests.{lt-ltb, ltb-true, ltb-false}
-use lib.ListN.{length, getD, take, drop, List·getD-append, List·getD-eq-default}
+use borrow.Author.Tests.{lt-ltb}
+use lib.ListN.{length, getD, take, drop, List·getD-append}
 use lib.Seq.{getD-take}
 use lib.Dec.{eqb, ltb}
 use Rattle.lists.specs.Lists.{from, total}
@@ -17,7 +17,7 @@ use Rattle.kinds.specs.declared.table.Fields.{Fields}
 use Rattle.kinds.proofs.GivenLaws.{done-giving}
 use Rattle.primitive.specs.Evaluate.{functionOf, outputsAfter, movedOutputs, evaluateNumber, evaluateOutputs}
 use Rattle.primitive.specs.Own.{Own}
-use Rattle.primitive.proofs.MovedLaws.{moved-bit}
+use Rattle.primitive.proofs.MovedLaws.{moved-port}
 use Rattle.primitive.proofs.FitLaws.{outputsAfter-length}
 use Rattle.primitive.proofs.EvaluateLaws.{passed-own, done-outputs}
 use Rattle.tables.specs.Tables.{Tables, fieldsAt, currentList}
@@ -52,19 +52,8 @@ module _ (f : Fields) (xs vs ys ws : List ℕ) (t : ℕ) (z : evaluateNumber f x
       → bitOf (movedOutputs f (take (f .inputs) xs) before t) j
       ≡ level (ltb j (f .outputs) && not (eqb (getD ys j 0) (getD (evaluateOutputs f xs vs ys ws t) j 0)))
   unfolding movedOutputs
-  evaluated-bit j = moved-bit before made (own .all-outputs ∙ sym made-length) j ∙ by-port (ltb j (f .outputs)) refl
-    where
-      by-port : (b : Bool) → ltb j (f .outputs) ≡ b
-          → level (not (eqb (getD before j 0) (getD made j 0)))
-          ≡ level (b && not (eqb (getD ys j 0) (getD (evaluateOutputs f xs vs ys ws t) j 0)))
-      by-port true e =
-          let l = ltb-true j (f .outputs) e in
-          rw (made-at j l, getD-take (f .outputs) ys j 0 l)
-      by-port false e =
-          let l = ltb-false j (f .outputs) e in
-          let y : getD before j 0 ≡ 0 = List·getD-eq-default before 0 (omega (arith, own .all-outputs)) in
-          let n : getD made j 0 ≡ 0 = List·getD-eq-default made 0 (omega (arith, made-length)) in
-          rw (y, n)
+  evaluated-bit j =
+      moved-port before made (f .outputs) (own .all-outputs) made-length j _ _ (λ h. getD-take (f .outputs) ys j 0 h) (λ h. sym (made-at j h))
 
 pub evaluated-right : EvaluatedRight
 evaluated-right f xs vs ys ws t bits zs p j =

@@ -1,15 +1,15 @@
 -- Which outputs changed: bit i is set exactly where output i did. Then a word in which a bit is set, and the loop of `split`.
 -- Assumes nothing.
 use mathlib.Core.Path.{_≡_, refl, sym, ap, subst, _∙_}
-use mathlib.Core.Bool.{Bool, true, false, not}
+use mathlib.Core.Bool.{Bool, true, false, not, _&&_}
 use mathlib.Core.List.{List, [], _∷_, _++_, append-nil}
 use Prim.Native.Nat.{ℕ, zero, suc, _+_, _*_, _/_, _%_, _^_, _≤_, _<_}
 use native.Mathlib.Nat.{add-comm, div-eq-of-lt, two-pow-succ}
 use native.Mathlib.Numerals.{add-one}
 use native.Mathlib.Omega.{arith}
-use borrow.Author.Tests.{eq-eqb}
-use lib.ListN.{length, getD, set, take, drop}
-use lib.Dec.{eqb}
+use borrow.Author.Tests.{eq-eqb, ltb-true, ltb-false}
+use lib.ListN.{length, getD, set, take, drop, List·getD-eq-default}
+use lib.Dec.{eqb, ltb}
 use lib.Bits.{bitOr, or-shifted-r}
 use lib.Pow.{pow-pos, shl-exact}
 use lib.Seq.{drop-length, take-length, length-take-le}
@@ -30,13 +30,26 @@ bit-later b m j h =
     bitOf-half (b + 2 * m) j ∙ ap (λ (n : ℕ). bitOf n j) half
 
 -- Bit i of the bits of two lists is set exactly where the numbers at i differ; there are no others.
-pub moved-bit : (ys zs : List ℕ) → length ys ≡ length zs → (i : ℕ) → bitOf (moved ys zs) i ≡ level (not (eqb (getD ys i 0) (getD zs i 0)))
+moved-bit : (ys zs : List ℕ) → length ys ≡ length zs → (i : ℕ) → bitOf (moved ys zs) i ≡ level (not (eqb (getD ys i 0) (getD zs i 0)))
 moved-bit [] [] l i = ap (λ (x : ℕ). x % 2) (div-eq-of-lt (pow-pos i))
 moved-bit [] (z ∷ zs) l i = absurd (omega arith)
 moved-bit (y ∷ ys) [] l i = absurd (omega arith)
 moved-bit (y ∷ ys) (z ∷ zs) l zero = bit-first (level (not (eqb y z))) (moved ys zs) (level-le (not (eqb y z)))
 moved-bit (y ∷ ys) (z ∷ zs) l (suc j) =
     bit-later (level (not (eqb y z))) (moved ys zs) j (level-le (not (eqb y z))) ∙ moved-bit ys zs (omega arith) j
+
+-- The same for two lists of n numbers, which are y and z at j where that is below n.
+pub moved-port : (ys zs : List ℕ) (n : ℕ) → length ys ≡ n → length zs ≡ n → (j y z : ℕ) → (j < n → getD ys j 0 ≡ y) → (j < n → getD zs j 0 ≡ z)
+    → bitOf (moved ys zs) j ≡ level (ltb j n && not (eqb y z))
+moved-port ys zs n l m j y z at-ys at-zs = moved-bit ys zs (l ∙ sym m) j ∙ by-port (ltb j n) refl
+  where
+    by-port : (b : Bool) → ltb j n ≡ b → level (not (eqb (getD ys j 0) (getD zs j 0))) ≡ level (b && not (eqb y z))
+    by-port true e = let h = ltb-true j n e in rw (at-ys h, at-zs h)
+    by-port false e =
+        let h = ltb-false j n e in
+        let none-ys : getD ys j 0 ≡ 0 = List·getD-eq-default ys 0 (omega (arith, l)) in
+        let none-zs : getD zs j 0 ≡ 0 = List·getD-eq-default zs 0 (omega (arith, m)) in
+        rw (none-ys, none-zs)
 
 -- The bits of an evaluation that leaves the outputs zs.
 pub moved-outputs : (f : Fields) (xs ys zs : List ℕ) (t : ℕ) → zs ≡ outputsAfter f xs ys t → moved ys zs ≡ movedOutputs f xs ys t

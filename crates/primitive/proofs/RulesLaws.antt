@@ -1,16 +1,16 @@
 -- Laws of the rules of the kinds: loops over a component's ports, and the Rust's folds.
 -- Not here: that outputs fit their widths (FitLaws).
 -- Assumes nothing.
-use mathlib.Core.Path.{_≡_, refl, sym, ap, _∙_}
-use mathlib.Core.List.{List, [], _∷_, _++_, map, map-append}
+use mathlib.Core.Path.{_≡_, refl, ap, _∙_}
+use mathlib.Core.List.{List, [], _∷_, map}
 use Prim.Native.Nat.{ℕ, zero, suc, _+_, _-_, _*_, _^_, _≤_, _<_}
 use native.Mathlib.Nat.{add-zero, zero-add, two-pow-succ, lt-of-lt-of-le}
 use native.Mathlib.Numerals.{add-one}
 use native.Mathlib.Omega.{arith}
 use borrow.Author.Tests.{lt-ltb, le-ltb}
-use lib.ListN.{length, getD, set, take, drop, length-drop}
+use lib.ListN.{length, getD, set, drop, length-drop}
 use lib.Pow.{pow-mono}
-use lib.Seq.{drop-cons, drop-length, take-suc-set, take-length}
+use lib.Seq.{drop-cons, drop-length}
 use Rattle.lists.specs.Lists.{from}
 use Rattle.value.specs.Value.{level, bitOf}
 use Rattle.value.proofs.ValueLaws.{level-le}

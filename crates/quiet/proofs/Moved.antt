@@ -9,21 +9,21 @@ use mathlib.Core.Logic.{inl, inr}
 use mathlib.Core.List.{List, [], _∷_, foldl}
 use Prim.Native.Nat.{ℕ, zero, suc, _+_, _<_}
 use native.Mathlib.Omega.{arith}
-use borrow.Author.Tests.{eq-eqb, lt-ltb, le-ltb, ltb-true, ltb-false}
-use lib.ListN.{length, getD, List·getD-eq-default}
+use borrow.Author.Tests.{eq-eqb, ltb-true}
+use lib.ListN.{length, getD}
 use lib.Dec.{eqb, ltb}
 use Rattle.lists.proofs.MembersLaws.{In, in-getD}
 use Rattle.lists.proofs.NamesLaws.{Names}
 use Rattle.value.specs.Value.{level, bitOf}
-use Rattle.primitive.specs.Evaluate.{outputsAfter, moved, movedOutputs}
-use Rattle.primitive.proofs.MovedLaws.{moved-bit}
+use Rattle.primitive.specs.Evaluate.{moved, movedOutputs}
+use Rattle.primitive.proofs.MovedLaws.{moved-port}
 use Rattle.tables.specs.declared.Wire.{Wire}
-use Rattle.tables.specs.Tables.{Tables, fieldsAt, firstOutput, inputsAt, outputsAt, wiresIn, currentList}
+use Rattle.tables.specs.Tables.{Tables, fieldsAt, firstOutput, outputsAt, wiresIn, currentList}
 use Rattle.net.specs.Net.{netNumber}
 use Rattle.rounds.specs.Round.{State, stateOf, leave, wiresFrom, evaluated, send, visit, movedAt, movedBy, round, roundBits, roundOf}
 use Rattle.rounds.proofs.Sound.{Sound, net-sound}
 use Rattle.rounds.proofs.Ports.{numbers-length, numbers-at}
-use Rattle.rounds.proofs.Held.{foldl-keeps, Held, Order, stored-order, SendCase, agrees, writes, send-case, written, made, made-length, others-left, own, own-outputs, outputs-room, visit-held}
+use Rattle.rounds.proofs.Held.{Held, Order, stored-order, SendCase, agrees, writes, send-case, written, made, made-length, others-left, own, own-outputs, outputs-room, visit-held}
 use Rattle.rounds.proofs.Left.{net-held}
 use Rattle.rounds.proofs.MovedLaws.{movedBy-length}
 
@@ -68,23 +68,10 @@ module _ (T : Tables) (g : Sound T) (ws : List Wire) (o : Order T ws) (t : ℕ) 
         ≡ level (ltb j (fieldsAt T i .outputs) && not (eqb (outputIn T (s .outputs) i j) (outputIn T (visit T ws t s i .outputs) i j)))
     unfolding movedOutputs
     visit-bit j =
-        moved-bit (outputsAt T (s .outputs) i) (made T t s i) (before-length ∙ sym (made-length T g t i h s a)) j
-        ∙ by-port (ltb j (fieldsAt T i .outputs)) refl
-      where
-        before-length : length (outputsAt T (s .outputs) i) ≡ fieldsAt T i .outputs
-        before-length = numbers-length (s .outputs) (firstOutput T i) (fieldsAt T i .outputs) (outputs-room T g t i h s a)
-
-        by-port : (b : Bool) → ltb j (fieldsAt T i .outputs) ≡ b
-            → level (not (eqb (getD (outputsAt T (s .outputs) i) j 0) (getD (made T t s i) j 0)))
-            ≡ level (b && not (eqb (outputIn T (s .outputs) i j) (outputIn T (visit T ws t s i .outputs) i j)))
-        by-port true e =
-            let l = ltb-true j (fieldsAt T i .outputs) e in
-            rw (visit-own j l, numbers-at (s .outputs) (firstOutput T i) (fieldsAt T i .outputs) (outputs-room T g t i h s a) j l)
-        by-port false e =
-            let l = ltb-false j (fieldsAt T i .outputs) e in
-            let y : getD (outputsAt T (s .outputs) i) j 0 ≡ 0 = List·getD-eq-default (outputsAt T (s .outputs) i) 0 (omega (arith, before-length)) in
-            let z : getD (made T t s i) j 0 ≡ 0 = List·getD-eq-default (made T t s i) 0 (omega (arith, made-length T g t i h s a)) in
-            rw (y, z)
+        moved-port (outputsAt T (s .outputs) i) (made T t s i) (fieldsAt T i .outputs)
+        (numbers-length (s .outputs) (firstOutput T i) (fieldsAt T i .outputs) (outputs-room T g t i h s a)) (made-length T g t i h s a) j _ _
+        (λ l. numbers-at (s .outputs) (firstOutput T i) (fieldsAt T i .outputs) (outputs-room T g t i h s a) j l)
+        (λ l. sym (visit-own j l))
 
   -- Visits leave the outputs of a component that they do not name.
   visits-others : (xs : List ℕ) (s : State) → Held T s → ((x : ℕ) → In x xs → x < n) → (d j : ℕ) → d < n → (In d xs → ⊥)

@@ -258,7 +258,8 @@ fn visit_all(
         → (stateAt (now (inputs .exit)) (now (outputs .exit)) (take (r .following) (now (following .exit))) (take (r .standing) (now (standing .exit)))
         ≡ foldl (visit (wiring (now (components .entry)) (now (wires .entry)) counts) vs time) before (take count (now (list .entry))))
         × (now (moved .exit)
-        ≡ overlay (movedBy (wiring (now (components .entry)) (now (wires .entry)) counts) vs time before (take count (now (list .entry)))) (now (moved .entry))))
+        ≡ overlay (movedBy (wiring (now (components .entry)) (now (wires .entry)) counts) vs time before (take count (now (list .entry))))
+        (now (moved .entry))))
         × (r .following ≤ length (now (following .exit))) × (r .standing ≤ length (now (standing .exit))) ⌝ }
 {
     let mut reached = sizes;

@@ -1,13 +1,10 @@
 -- `put_at`: an output that is what it shall be stays, and no bit is set; any other is written, and its bit is set.
 -- Assumes nothing.
-use mathlib.Core.Path.{_≡_, refl, sym, ap, _∙_}
-use mathlib.Core.Bool.{not}
-use Prim.Native.Nat.{ℕ, _+_, _*_, _^_}
+use mathlib.Core.Path.{refl, sym, ap, _∙_}
 use native.Mathlib.Omega.{arith}
 use borrow.Author.Tests.{eq-eqb, ne-eqb}
 use lib.ListN.{getD, set}
 use lib.Seq.{set-getD}
-use Rattle.value.specs.Value.{level}
 use Rattle.primitive.proofs.MovedLaws.{bit-set}
 use borrow.Author.Needs.{needs}
 use Rattle.primitive.proofs.rules.put_at.Statement.{statement}

@@ -1,6 +1,5 @@
 -- `bits_set`: the machine's count of a word's bits.
 -- Assumes nothing.
-use borrow.Author.Needs.{needs}
 use Rattle.simulator.proofs.MovedLaws.{bitsSet-ones}
 use Rattle.simulator.proofs.moved.bits_set.Statement.{statement}
 use Rattle.simulator.proofs.moved.bits_set.Tie as tie
