@@ -11,7 +11,7 @@ use lib.ListN.{length, getD, take, drop, List·getD-append}
 use lib.Seq.{getD-take}
 use lib.Dec.{eqb, ltb}
 use Rattle.lists.specs.Lists.{from, total}
-use Rattle.lists.proofs.MembersLaws.{has-complete}
+use Rattle.lists.proofs.MembersLaws.{has-complete, total-later}
 use Rattle.value.specs.Value.{level, bitOf}
 use Rattle.kinds.specs.declared.table.Fields.{Fields}
 use Rattle.kinds.proofs.GivenLaws.{done-giving}
@@ -77,11 +77,6 @@ bits-beside T bits t = (
   λ h. (roundNumber-room T t bits h, roundCall-room T t bits h),
   λ h. let s = lt-ltb (length bits) 256 h in (rw s, rw s, rw s),
 )
-
--- A sum over numbers from one later on.
-total-later : (f : ℕ → ℕ) (q n : ℕ) → total f (from (suc q) n) ≡ total (λ k. f (suc k)) (from q n)
-total-later f q zero = refl
-total-later f q (suc n) = ap (λ (x : ℕ). f (suc q) + x) (total-later f (suc q) n)
 
 pub run-sum : RunSum
 unfolding run

@@ -346,6 +346,11 @@ from-append q (suc j) k =
     ap (λ (i : ℕ). from q i) a
     ∙ ap (λ (l : List ℕ). q ∷ l) (from-append (suc q) j k ∙ ap (λ (i : ℕ). from (suc q) j ++ from i k) b)
 
+-- A sum over numbers from one later on.
+pub total-later : (f : ℕ → ℕ) (q n : ℕ) → total f (from (suc q) n) ≡ total (λ k. f (suc k)) (from q n)
+total-later f q zero = refl
+total-later f q (suc n) = ap (λ (x : ℕ). f (suc q) + x) (total-later f (suc q) n)
+
 pub from-last : (k : ℕ) → from 0 (suc k) ≡ from 0 k ++ (k ∷ [])
 from-last k =
     let a : suc k ≡ k + 1 = omega arith in

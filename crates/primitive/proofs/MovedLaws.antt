@@ -4,7 +4,7 @@ use mathlib.Core.Path.{_≡_, refl, sym, ap, subst, _∙_}
 use mathlib.Core.Bool.{Bool, true, false, not, _&&_}
 use mathlib.Core.List.{List, [], _∷_, _++_, append-nil}
 use Prim.Native.Nat.{ℕ, zero, suc, _+_, _*_, _/_, _%_, _^_, _≤_, _<_}
-use native.Mathlib.Nat.{add-comm, div-eq-of-lt, two-pow-succ}
+use native.Mathlib.Nat.{zero-add, add-comm, div-eq-of-lt, two-pow-succ}
 use native.Mathlib.Numerals.{add-one}
 use native.Mathlib.Omega.{arith}
 use borrow.Author.Tests.{eq-eqb, ltb-true, ltb-false}
@@ -12,7 +12,7 @@ use lib.ListN.{length, getD, set, take, drop, List·getD-eq-default}
 use lib.Dec.{eqb, ltb}
 use lib.Bits.{bitOr, or-shifted-r}
 use lib.Pow.{pow-pos, shl-exact}
-use lib.Seq.{drop-length, take-length, length-take-le}
+use lib.Seq.{drop-length, take-length, length-take-le, paste-suc}
 use Rattle.value.specs.Value.{level, bitOf}
 use Rattle.value.proofs.ValueLaws.{level-le, bitOf-lowest, bitOf-half}
 use Rattle.kinds.specs.declared.table.Fields.{Fields}
@@ -93,10 +93,7 @@ written-here (y ∷ ys) (z ∷ zs) (suc i) l = written-here ys zs i (omega arith
 
 written-next : (ys zs : List ℕ) (i : ℕ) → length ys ≡ length zs → i < length ys
     → set (written ys zs i) i (getD zs i 0) ≡ written ys zs (suc i)
-written-next [] zs i l h = absurd (omega arith)
-written-next (y ∷ ys) [] i l h = absurd (omega arith)
-written-next (y ∷ ys) (z ∷ zs) zero l h = refl
-written-next (y ∷ ys) (z ∷ zs) (suc i) l h = ap (λ (r : List ℕ). z ∷ r) (written-next ys zs i (omega arith) (omega arith))
+written-next ys zs i l h = rw (zero-add i, zero-add (suc i)) at (paste-suc ys 0 zs i 0 (omega (arith, h)) (omega arith))
 
 -- Twice a level at bit i is the level at the bit above.
 level-up : (b : Bool) (i : ℕ) → 2 * (level b * 2 ^ i) ≡ level b * 2 ^ suc i

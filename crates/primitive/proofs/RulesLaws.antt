@@ -8,10 +8,11 @@ use native.Mathlib.Nat.{add-zero, zero-add, two-pow-succ, lt-of-lt-of-le}
 use native.Mathlib.Numerals.{add-one}
 use native.Mathlib.Omega.{arith}
 use borrow.Author.Tests.{lt-ltb, le-ltb}
-use lib.ListN.{length, getD, set, drop, length-drop}
+use lib.ListN.{length, getD, set, drop, length-drop, length-map}
 use lib.Pow.{pow-mono}
 use lib.Seq.{drop-cons, drop-length}
 use Rattle.lists.specs.Lists.{from}
+use Rattle.lists.proofs.MembersLaws.{from-length}
 use Rattle.value.specs.Value.{level, bitOf}
 use Rattle.value.proofs.ValueLaws.{level-le}
 use Rattle.primitive.specs.Evaluate.{highs, join, split}
@@ -52,12 +53,8 @@ join-room xs i p h =
     lt-of-lt-of-le (join-lt (drop i xs)) (pow-mono {i = length (drop i xs)} {j = 63} (simp length-drop (omega arith)))
 
 -- What `split` leaves: as many outputs as there were, bit j of the number at output j.
-bits-length : (x q k : ℕ) → length (map (bitOf x) (from q k)) ≡ k
-bits-length x q zero = refl
-bits-length x q (suc k) = ap suc (bits-length x (suc q) k)
-
 pub split-length : (x n : ℕ) → length (split x n) ≡ n
-split-length x n = bits-length x 0 n
+split-length x n = length-map (from 0 n) (bitOf x) ∙ from-length 0 n
 
 bits-at : (x q k j : ℕ) → j < k → getD (map (bitOf x) (from q k)) j 0 ≡ bitOf x (q + j)
 bits-at x q zero j h = absurd (omega arith)

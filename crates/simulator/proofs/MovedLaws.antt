@@ -1,6 +1,6 @@
 -- The bits of a word, each for itself, are as many as the machine counts in one step; then the words of a table, one after the other.
 -- Assumes nothing.
-use mathlib.Core.Path.{_≡_, refl, sym, ap, _∙_}
+use mathlib.Core.Path.{_≡_, sym, ap, _∙_}
 use mathlib.Core.List.{List, [], _∷_}
 use Prim.Native.Nat.{ℕ, zero, suc, _+_, _*_, _/_, _%_, _^_, _≤_, _<_}
 use native.Mathlib.Nat.{two-pow-succ}
@@ -10,14 +10,10 @@ use lib.ListN.{length, getD, take}
 use lib.Count.{ones, ones-step, ones-le}
 use lib.Seq.{take-suc, length-take-le}
 use Rattle.lists.specs.Lists.{from, total}
-use Rattle.lists.proofs.MembersLaws.{total-append}
+use Rattle.lists.proofs.MembersLaws.{total-append, total-cong, total-later}
 use Rattle.value.specs.Value.{bitOf}
 use Rattle.value.proofs.ValueLaws.{bitOf-fits, bitOf-lowest, bitOf-half}
 use Rattle.simulator.specs.Calls.{bitsSet}
-
-bits-half : (b q n : ℕ) → total (bitOf b) (from (suc q) n) ≡ total (bitOf (b / 2)) (from q n)
-bits-half b q zero = refl
-bits-half b q (suc n) = rw (bitOf-half b q, bits-half b (suc q) n)
 
 -- No more bits are set than there are.
 pub bitsSet-le : (b : ℕ) → bitsSet b ≤ 64
@@ -33,8 +29,10 @@ bits-ones : (n b : ℕ) → b < 2 ^ n → total (bitOf b) (from 0 n) ≡ ones b
 bits-ones zero b h = omega (arith, ones-le 0 b h)
 bits-ones (suc n) b h =
     let half : b / 2 < 2 ^ n = omega (arith, h, two-pow-succ n) in
+    let above : total (bitOf b) (from 1 n) ≡ total (bitOf (b / 2)) (from 0 n) =
+    total-later (bitOf b) 0 n ∙ total-cong (λ i. bitOf b (suc i)) (bitOf (b / 2)) (from 0 n) (bitOf-half b) in
     ap (λ (x : ℕ). x + total (bitOf b) (from 1 n)) (bitOf-lowest b)
-    ∙ ap (λ (x : ℕ). b % 2 + x) (bits-half b 0 n ∙ bits-ones n (b / 2) half) ∙ sym (ones-step b)
+    ∙ ap (λ (x : ℕ). b % 2 + x) (above ∙ bits-ones n (b / 2) half) ∙ sym (ones-step b)
 
 pub bitsSet-ones : (b : ℕ) → b < 2 ^ 64 → ones b ≡ bitsSet b
 unfolding bitsSet
