@@ -13,7 +13,7 @@
  * A DRAWING FILE is a row of records of 24 bytes; docs/SPECIFICATION.md, "The drawing file", says what they hold. A load makes a
  * net of it: components (no composites, which are boxes of the drawing alone), each with inputs and outputs, joined by wires. A
  * round evaluates the components of the current list, sends what changed along the wires, and says which outputs moved. An edit
- * sets a Switch, or an Input that no wire enters.
+ * sets a Switch, or an Input that no wire enters, and the next round evaluates it.
  *
  * AN ID is the number that a component has in the drawing. AN INDEX is its place in the tables, from 0. Only `berxundar_index`
  * takes an id, and `berxundar_look` ids in a row; every other call names a component by its index, and a port by its number among
@@ -30,7 +30,7 @@
  *   wires       4 of 16 bits     4,096       of each wire: index and output that it leaves, index and input that it enters
  *   current     1 of 16 bits     256         the components of the next round, by index
  *   following   1 of 16 bits     256         what the round after that starts from
- *   standing    1 of 16 bits     256         Clocks; and Consts and what was edited until they are evaluated
+ *   standing    1 of 16 bits     256         Clocks; Consts, and what `berxundar_edit_standing` set, until they are evaluated
  *   counts      7 of 64 bits     7           how many components, inputs, outputs and wires are in use, and entries of the three
  *                                            lists: current, following, standing
  *
@@ -176,7 +176,7 @@ static inline const char *berxundar_words(uint32_t answer_or_number)
     }
 }
 
-/* ---- The fifteen calls, with every pointer and its length in entries of the pointer's type. What is marked `const` is only
+/* ---- The sixteen calls, with every pointer and its length in entries of the pointer's type. What is marked `const` is only
  * read; the numbers behind a colon are those of the refusals that a call can give. ---- */
 
 /* Judges the bytes of a file as a load would, without tables: 1, 3 to 15. Two records that enter one input are 13 here, whatever
@@ -212,8 +212,17 @@ uint32_t berxundar_round(
     uint16_t *following, size_t following_length, uint16_t *standing, size_t standing_length, uint64_t *counts,
     size_t counts_length, uint64_t time, uint64_t *moved, size_t moved_length);
 
-/* Sets the component at an index, which is evaluated no later than in the third round after: 2, 16, 17, 18, 19. */
+/* Sets the component at an index, and appends it to the current list unless there: it is evaluated in the very next round, whatever
+ * edits come between: 2, 16, 17, 18, 19. */
 uint32_t berxundar_edit(
+    const uint64_t *components, size_t components_length, uint64_t *inputs, size_t inputs_length, uint64_t *outputs,
+    size_t outputs_length, const uint16_t *wires, size_t wires_length, uint16_t *current, size_t current_length,
+    const uint16_t *following, size_t following_length, const uint16_t *standing, size_t standing_length, uint64_t *counts,
+    size_t counts_length, size_t index, uint64_t number);
+
+/* The old way, for hosts that count rounds as they always did: sets it too, and appends it to the standing list unless there, so
+ * that it is evaluated no later than in the third round after: 2, 16, 17, 18, 19. Both ways may be mixed. */
+uint32_t berxundar_edit_standing(
     const uint64_t *components, size_t components_length, uint64_t *inputs, size_t inputs_length, uint64_t *outputs,
     size_t outputs_length, const uint16_t *wires, size_t wires_length, const uint16_t *current, size_t current_length,
     const uint16_t *following, size_t following_length, uint16_t *standing, size_t standing_length, uint64_t *counts,
@@ -338,9 +347,16 @@ static inline uint32_t berxundar_net_round(berxundar_net *net, uint64_t time, ui
     return berxundar_round(BERXUNDAR_LENT(net), net->counts, BERXUNDAR_COUNTS, time, moved ? moved : unasked, BERXUNDAR_MOVED);
 }
 
+/* The next round evaluates it. */
 static inline uint32_t berxundar_net_edit(berxundar_net *net, size_t index, uint64_t number)
 {
     return berxundar_edit(BERXUNDAR_LENT(net), net->counts, BERXUNDAR_COUNTS, index, number);
+}
+
+/* The old way: one of the next three rounds does. */
+static inline uint32_t berxundar_net_edit_standing(berxundar_net *net, size_t index, uint64_t number)
+{
+    return berxundar_edit_standing(BERXUNDAR_LENT(net), net->counts, BERXUNDAR_COUNTS, index, number);
 }
 
 /* `rounds`, `evaluations` and `moved` may be NULL. *moved is how many times an output changed, over all rounds. */

@@ -123,7 +123,7 @@ static int refused(const char *word, uint32_t answer, uint64_t index)
     return 1;
 }
 
-/* Sets the component that a word ID=NUMBER names: the exit status that it asks for. */
+/* Sets the component that a word ID=NUMBER names, which the next round evaluates: the exit status that it asks for. */
 static int set(const char *word)
 {
     uint32_t id, answer;

@@ -3,9 +3,9 @@
  * call answers as for any short table (2), a load and a look as for an empty file (1), and a component without ports is
  * evaluated; a net of zeros is one of no components, the net of a root alone, which is looked at along no path; a sentence
  * belongs to an answer and to its number; half of the votes are not most of them; of two records that meet the first call says
- * 13, and the others what they are; while an edit waits a net is not calm, and not satisfied where it has something to change;
- * a bit is set for each output that an evaluation changes, and too little room for the bits is 2. Leaves with 1 at the first other
- * answer.
+ * 13, and the others what they are; an edit goes first, or stands, the old way, and both may be mixed; while an edit waits a net
+ * is not calm, and not satisfied where it has something to change; a bit is set for each output that an evaluation changes, and too
+ * little room for the bits is 2. Leaves with 1 at the first other answer.
  */
 #include "berxundar.h"
 
@@ -26,7 +26,8 @@ static int nothing_lent(void)
         && berxundar_load(NONE, SEVEN, NONE) == NUMBER(1) && berxundar_round(SEVEN, NONE, 3, NONE) == NUMBER(2)
         && berxundar_round(SEVEN, net.counts, 7, 3, numbers, 256) == NUMBER(2)
         && berxundar_round(BERXUNDAR_LENT(&net), net.counts, 7, 3, NONE) == NUMBER(2)
-        && berxundar_edit(SEVEN, NONE, 3, 3) == NUMBER(2)
+        && berxundar_edit(SEVEN, NONE, 3, 3) == NUMBER(2) && berxundar_edit(SEVEN, net.counts, 7, 3, 3) == NUMBER(2)
+        && berxundar_edit_standing(SEVEN, NONE, 3, 3) == NUMBER(2) && berxundar_edit_standing(SEVEN, net.counts, 7, 3, 3) == NUMBER(2)
         && berxundar_run_until_calm(SEVEN, NONE, 3, 3, NONE) == NUMBER(2)
         && berxundar_run_until_calm(BERXUNDAR_LENT(&net), net.counts, 7, 3, 3, NONE) == NUMBER(2)
         && berxundar_run_until_calm(BERXUNDAR_LENT(&net), net.counts, 7, 3, 3, found, 2) == NUMBER(2)
@@ -59,7 +60,7 @@ static int zeros(void)
     return berxundar_net_check(&net) == 0 && berxundar_net_calm(&net, &calm) == 0 && calm == 1
         && berxundar_net_satisfied(&net, &satisfied) == 0 && satisfied == 1
         && berxundar_net_run_until_calm(&net, 5, 7, &rounds, NULL, &moved) == 0 && rounds == 1 && moved == 0
-        && berxundar_net_edit(&net, 0, 0) == NUMBER(17);
+        && berxundar_net_edit(&net, 0, 0) == NUMBER(17) && berxundar_net_edit_standing(&net, 0, 0) == NUMBER(17);
 }
 
 /* A root alone in a net of zeros is looked at along no path and not by its id; with an input it is 21, with a Switch in it 20. */
@@ -217,23 +218,49 @@ static uint32_t load_not(void)
 }
 
 /*
- * A Switch leads to a Not. Once it is set the net is not calm until the round has ended that evaluates the Not again: the edit
- * waits in the standing list, the following list, the current list. A run waits for it too, and then the Not is high again.
+ * A Switch leads to a Not. Once it is set, the old way, the net is not calm until the round has ended that evaluates the Not again:
+ * the edit waits in the standing list, the following list, the current list. A run waits for it too, and then the Not is high again.
  */
 static int waited(void)
 {
     uint64_t calm = 9, rounds = 0, evaluations = 0, moved = 0, value = 9;
     int i;
     if (load_not() != 0 || berxundar_net_run_until_calm(&net, 0, 9, NULL, NULL, NULL) != 0 || berxundar_net_calm(&net, &calm) != 0
-        || calm != 1 || berxundar_net_edit(&net, 0, 1) != 0)
+        || calm != 1 || berxundar_net_edit_standing(&net, 0, 1) != 0)
         return 0;
     for (i = 0; i < 4; i++)
         if (berxundar_net_calm(&net, &calm) != 0 || calm != 0 || berxundar_net_round(&net, 0, NULL) != 0)
             return 0;
     if (berxundar_net_calm(&net, &calm) != 0 || calm != 1 || berxundar_net_value(&net, 1, 1, 0, &value, NULL) != 0 || value != 0)
         return 0;
-    return berxundar_net_edit(&net, 0, 0) == 0 && berxundar_net_run_until_calm(&net, 0, 9, &rounds, &evaluations, &moved) == 0
+    return berxundar_net_edit_standing(&net, 0, 0) == 0 && berxundar_net_run_until_calm(&net, 0, 9, &rounds, &evaluations, &moved) == 0
         && rounds == 4 && evaluations == 3 && moved == 1 && berxundar_net_value(&net, 1, 1, 0, &value, NULL) == 0 && value == 1;
+}
+
+/* How many components the current, the following and the standing list name. */
+static int named(uint64_t current, uint64_t following, uint64_t standing)
+{
+    return net.counts[BERXUNDAR_COUNT_CURRENT] == current && net.counts[BERXUNDAR_COUNT_FOLLOWING] == following
+        && net.counts[BERXUNDAR_COUNT_STANDING] == standing;
+}
+
+/*
+ * The same drawing. A Switch that goes first is named in the current list alone, and once: the next round evaluates it, and the one
+ * after it the Not. Where it stands already it still stands, until it is evaluated.
+ */
+static int went_first(void)
+{
+    uint64_t calm = 9, rounds = 0, evaluations = 0, moved = 0, value = 9;
+    if (load_not() != 0 || berxundar_net_run_until_calm(&net, 0, 9, NULL, NULL, NULL) != 0 || !named(0, 0, 0)
+        || berxundar_net_edit(&net, 0, 1) != 0 || !named(1, 0, 0) || net.current[0] != 0 || berxundar_net_edit(&net, 0, 1) != 0
+        || !named(1, 0, 0) || berxundar_net_calm(&net, &calm) != 0 || calm != 0)
+        return 0;
+    if (berxundar_net_run_until_calm(&net, 0, 9, &rounds, &evaluations, &moved) != 0 || rounds != 2 || evaluations != 2 || moved != 1
+        || berxundar_net_value(&net, 1, 1, 0, &value, NULL) != 0 || value != 0)
+        return 0;
+    if (berxundar_net_edit_standing(&net, 0, 0) != 0 || !named(0, 0, 1) || berxundar_net_edit(&net, 0, 0) != 0 || !named(1, 0, 1))
+        return 0;
+    return berxundar_net_round(&net, 0, NULL) == 0 && named(1, 0, 0) && net.current[0] == 1;
 }
 
 static int satisfied_is(uint64_t wanted)
@@ -243,7 +270,7 @@ static int satisfied_is(uint64_t wanted)
 }
 
 /*
- * The same drawing, as `waited` left it: the Switch low, the Not high, calm and satisfied. An edit to the number that is there
+ * The same drawing, as `waited` left it: the Switch low, the Not high, calm and satisfied. An edit, which stands, to what is there
  * leaves it satisfied and not calm. An edit to another leaves the wire with two numbers, and the net is not satisfied until the
  * round has ended that evaluates the Not again. A wire that no list looks at is not judged, nor is a Switch ever; a Not whose
  * output is wrong is, where a list names it.
@@ -252,8 +279,8 @@ static int judged(void)
 {
     uint64_t calm = 9;
     int i;
-    if (!satisfied_is(1) || berxundar_net_edit(&net, 0, 0) != 0 || !satisfied_is(1) || berxundar_net_calm(&net, &calm) != 0
-        || calm != 0 || berxundar_net_edit(&net, 0, 1) != 0)
+    if (!satisfied_is(1) || berxundar_net_edit_standing(&net, 0, 0) != 0 || !satisfied_is(1) || berxundar_net_calm(&net, &calm) != 0
+        || calm != 0 || berxundar_net_edit_standing(&net, 0, 1) != 0)
         return 0;
     for (i = 0; i < 4; i++)
         if (!satisfied_is(0) || berxundar_net_round(&net, 0, NULL) != 0)
@@ -299,7 +326,8 @@ static int bits_moved(void)
     for (i = 2; i <= BERXUNDAR_MOVED; i++)
         if (bits[i] != 9)
             return 0;
-    if (berxundar_net_edit(&net, 0, 1) != 0 || berxundar_net_round(&net, 0, bits) != 0 || berxundar_net_round(&net, 0, bits) != 0)
+    if (berxundar_net_edit_standing(&net, 0, 1) != 0 || berxundar_net_round(&net, 0, bits) != 0
+        || berxundar_net_round(&net, 0, bits) != 0)
         return 0;
     bits[0] = bits[1] = 9;
     if (berxundar_net_round(&net, 0, bits) != 0 || bits[0] != 0 || bits[1] != 9)
@@ -309,6 +337,6 @@ static int bits_moved(void)
 
 int main(void)
 {
-    return !(zeros() && nothing_lent() && looked_at() && joined() && split() && voted() && sentences() && met() && waited()
-        && judged() && bits_moved());
+    return !(zeros() && nothing_lent() && looked_at() && joined() && split() && voted() && sentences() && met() && went_first()
+        && waited() && judged() && bits_moved());
 }

@@ -63,6 +63,7 @@ static uint32_t run_round(void) { return berxundar_net_round(&net, 3, moved); }
 static uint32_t run_round_unasked(void) { return berxundar_net_round(&net, 3, NULL); }
 static uint32_t run(void) { return berxundar_net_run_until_calm(&net, 4, 5, NULL, NULL, NULL); }
 static uint32_t edit(void) { return berxundar_net_edit(&net, 0, 1); }
+static uint32_t edit_standing(void) { return berxundar_net_edit_standing(&net, 0, 1); }
 static uint32_t calm(void) { return berxundar_net_calm(&net, &found); }
 static uint32_t satisfied(void) { return berxundar_net_satisfied(&net, &found); }
 static uint32_t index_of(void) { return berxundar_net_index(&net, (uint32_t)net.components[BERXUNDAR_WORD_ID], &found); }
@@ -92,8 +93,9 @@ static const struct {
 } calls[] = { { "judge", judge, 32000 }, { "judge a pair", judge_pair, 32000 }, { "load", load, 32000 },
     { "look at the root", look, 49152 }, { "look inside", look_inside, 49152 }, { "round", run_round, 12000 },
     { "round, bits unasked", run_round_unasked, 12000 }, { "run until calm", run, 12000 }, { "edit", edit, 8000 },
-    { "calm", calm, 8000 }, { "satisfied", satisfied, 8000 }, { "index", index_of, 8000 }, { "value", value, 8000 },
-    { "sources", sources, 8000 }, { "targets", targets, 8000 }, { "check", check, 8000 }, { "evaluate", evaluate, 8000 } };
+    { "edit, the old way", edit_standing, 8000 }, { "calm", calm, 8000 }, { "satisfied", satisfied, 8000 },
+    { "index", index_of, 8000 }, { "value", value, 8000 }, { "sources", sources, 8000 }, { "targets", targets, 8000 },
+    { "check", check, 8000 }, { "evaluate", evaluate, 8000 } };
 
 int main(void)
 {

@@ -335,16 +335,21 @@ static int run_round(void)
     return 1;
 }
 
-static int edit(void)
+/* An edit, of the old way or one that goes first. */
+static int edit(int first)
 {
     uint8_t bytes[10];
     uint32_t answer;
+    size_t index;
+    uint64_t number;
     if (!take(bytes, 10))
         return 0;
+    index = (size_t)number_in(bytes, 2);
+    number = number_in(bytes + 2, 8);
     lend_all(0, 0);
-    answer = berxundar_edit(NOW, (size_t)number_in(bytes, 2), number_in(bytes + 2, 8));
+    answer = first ? berxundar_edit(NOW, index, number) : berxundar_edit_standing(NOW, index, number);
     back_all(0);
-    pair("edit", berxundar_number(answer), berxundar_position(answer));
+    pair(first ? "first" : "edit", berxundar_number(answer), berxundar_position(answer));
     return 1;
 }
 
@@ -697,7 +702,8 @@ static int answer_one(uint8_t letter)
     case 'P': show_state(); return 1;
     case 'A': show_all(); return 1;
     case 'R': return run_round();
-    case 'E': return edit();
+    case 'E': return edit(0);
+    case 'G': return edit(1);
     case 'U': return run();
     case 'C': return ask_calm();
     case 'Q': return ask_satisfied();

@@ -34,6 +34,7 @@ pub enum Command {
     All,
     Round { time: u64 },
     Edit { index: u16, number: u64 },
+    EditFirst { index: u16, number: u64 },
     Run { time: u64, limit: u16 },
     Calm,
     Satisfied,
@@ -63,6 +64,7 @@ impl Command {
             b'A' => Command::All,
             b'R' => Command::Round { time: from.number::<8>()? },
             b'E' => Command::Edit { index: from.number::<2>()? as u16, number: from.number::<8>()? },
+            b'G' => Command::EditFirst { index: from.number::<2>()? as u16, number: from.number::<8>()? },
             b'U' => Command::Run { time: from.number::<8>()?, limit: from.number::<2>()? as u16 },
             b'C' => Command::Calm,
             b'Q' => Command::Satisfied,
@@ -108,6 +110,7 @@ impl Command {
             Command::Satisfied => to.push(b'Q'),
             Command::Round { time } => words(to, b'R', &[(*time, 8)]),
             Command::Edit { index, number } => words(to, b'E', &[(*index as u64, 2), (*number, 8)]),
+            Command::EditFirst { index, number } => words(to, b'G', &[(*index as u64, 2), (*number, 8)]),
             Command::Run { time, limit } => words(to, b'U', &[(*time, 8), (*limit as u64, 2)]),
             Command::Index { id } => words(to, b'I', &[(*id as u64, 4)]),
             Command::Value { side, index, port } => {

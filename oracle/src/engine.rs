@@ -5,7 +5,7 @@ use crate::plain::drawing::{Drawing, Id};
 use crate::plain::flat::is_primitive;
 use crate::plain::look::Shown;
 use crate::plain::net::{entries, Entry};
-use crate::plain::running::Judged;
+use crate::plain::running::{Judged, Way};
 use crate::plain::single::PortValue;
 use crate::primitive::{bits_between, in_logix, kind_words, primitive};
 use crate::tables::{Tables, COMPONENTS, CURRENT, FOLLOWING, INPUTS, OUTPUTS, STANDING, WIRES};
@@ -190,17 +190,21 @@ impl Engine {
         })
     }
 
-    /// Added: sets a Switch's output, or an Input's input, and appends the
-    /// component to the standing list unless there.
-    pub fn edit(&mut self, index: usize, number: u64) {
+    /// Added: sets a Switch's output, or an Input's input, and appends the component,
+    /// unless there, to logix's own list of the next pass, or to its standing list.
+    pub fn edit(&mut self, way: Way, index: usize, number: u64) {
         self.simulator.state(|state| {
             let component = &mut state.comp.components[index];
             match component.prim_type {
                 Primitive::Switch => component.outputs[0].set_value(number as usize),
                 _ => component.inputs[0].set_value(number as usize),
             }
-            if !state.to_upd.contains(&index) {
-                state.to_upd.push(index);
+            let list = match way {
+                Way::First => &mut state.local_upd_list,
+                Way::Standing => &mut state.to_upd,
+            };
+            if !list.contains(&index) {
+                list.push(index);
             }
         });
     }

@@ -14,7 +14,7 @@ use crate::plain::host::{first_answer, second_answer};
 use crate::plain::judge::{judge, words};
 use crate::plain::look::{look, Shown};
 use crate::plain::rules::{moved, outputs_after};
-use crate::plain::running::{self, Judged};
+use crate::plain::running::{self, Judged, Way};
 use crate::plain::single::{single_number, PortValue};
 use crate::primitive::{evaluated, in_logix};
 use crate::tables::{
@@ -84,7 +84,14 @@ impl Program {
             Command::State => self.state(lines),
             Command::All => self.all(lines),
             Command::Round { time } => self.round(*time, lines),
-            Command::Edit { index, number } => self.edit(*index, *number, lines),
+            Command::Edit { index, number } => {
+                let refused = self.edit(Way::Standing, *index, *number);
+                line(lines, "edit", [refused, 0]);
+            }
+            Command::EditFirst { index, number } => {
+                let refused = self.edit(Way::First, *index, *number);
+                line(lines, "first", [refused, 0]);
+            }
             Command::Run { time, limit } => self.run_until_calm(*time, *limit, lines),
             Command::Calm => self.calm(lines),
             Command::Satisfied => self.satisfied(lines),
@@ -203,15 +210,16 @@ impl Program {
         second
     }
 
-    fn edit(&mut self, index: u16, number: u64, lines: &mut String) {
+    /// An edit: the number that it gives.
+    fn edit(&mut self, way: Way, index: u16, number: u64) -> u64 {
         let refused = edit_number(&self.tables, index, number);
         if refused == 0 {
             self.change(
-                |engine| engine.edit(index as usize, number),
-                |tables| running::edit(tables, index as u64, number),
+                |engine| engine.edit(way, index as usize, number),
+                |tables| running::edit(tables, way, index as u64, number),
             );
         }
-        line(lines, "edit", [refused, 0]);
+        refused
     }
 
     /// Rounds one by one, at least one unless the limit is 0, until one leaves calm.

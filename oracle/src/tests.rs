@@ -1,8 +1,9 @@
-//! Tests: the lamp drawing, the limits, records that meet, outputs that moved, the language,
+//! Tests: the lamp drawing, the limits, records that meet, both ways of an edit, outputs that moved, the language,
 //! and where logix and the plain coding can be laid side by side.
 
 mod agreement;
 mod differences;
+mod edits;
 mod lamp;
 mod language;
 mod limits;
@@ -64,6 +65,13 @@ fn verdict(records: &[Record]) -> (u64, u64) {
     let (number, position, earlier) = told(records);
     assert_eq!(earlier, 0, "{number} names no earlier record");
     (number, position)
+}
+
+/// A program that has a drawing loaded.
+fn loaded(records: &[Record]) -> Program {
+    let mut program = Program::new();
+    assert_eq!(answer(&mut program, Command::Load(file_of(records))), "load 0 0 0\n");
+    program
 }
 
 /// The lines of one command.

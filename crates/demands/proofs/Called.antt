@@ -51,11 +51,11 @@ call-kept (calls.rounded u bits) T ran t z a = by-room (ltb (length bits) 256)
           unbroken = subst (λ (b : Bool). Unbroken T b t) (sym (or-false ran)) a;
         }
     by-room false = record { net = roundTables-net T u z; wiring = roundTables-wiring T u; unbroken = roundTables-unbroken T ran t u a }
-call-kept (calls.edited i v) T ran t z a =
+call-kept (calls.edited way i v) T ran t z a =
     record {
-      net = editTables-net T i v z;
-      wiring = editTables-wiring T i v;
-      unbroken = subst (λ (b : Bool). Unbroken (callTables (calls.edited i v) T) b t) (sym (or-false ran)) (editTables-unbroken T ran t i v a);
+      net = editTables-net way T i v z;
+      wiring = editTables-wiring way T i v;
+      unbroken = subst (λ (b : Bool). Unbroken (callTables (calls.edited way i v) T) b t) (sym (or-false ran)) (editTables-unbroken way T ran t i v a);
     }
 call-kept (calls.untilCalm u limit) T ran t z a =
     record {

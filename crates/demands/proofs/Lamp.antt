@@ -4,6 +4,7 @@ use Prim.Native.Nat.{ℕ, zero, suc}
 use lib.ListN.{replicate}
 use Rattle.tables.specs.Tables.{Tables, tablesOf, countsOf}
 use Rattle.load.specs.Load.{loadTables}
+use Rattle.simulator.specs.Edit.{Way}
 use Rattle.simulator.specs.Calls.{roundTables, editTables}
 use Rattle.component.proofs.Drawings.{lamp}
 
@@ -17,7 +18,7 @@ sevens =
 abbrev pub lampLoaded : Tables
 lampLoaded = loadTables lamp sevens
 
--- Before round k + 3, where Switch 0 is set after round 2.
-abbrev pub lampSet : ℕ → Tables
-lampSet zero = editTables (roundTables (roundTables lampLoaded 0) 0) 0 1
-lampSet (suc k) = roundTables (lampSet k) 0
+-- Before round k + 3, where Switch 0 is set after round 2: in the timing case, the old way.
+abbrev pub lampSet : Way → ℕ → Tables
+lampSet way zero = editTables way (roundTables (roundTables lampLoaded 0) 0) 0 1
+lampSet way (suc k) = roundTables (lampSet way k) 0

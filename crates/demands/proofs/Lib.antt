@@ -4,6 +4,7 @@ pub mod LampHold
 pub mod MarkedHold
 pub mod Called
 pub mod Demand3
+pub mod Edits
 pub mod Calm
 pub mod Judging
 pub mod Moved

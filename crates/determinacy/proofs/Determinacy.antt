@@ -32,7 +32,7 @@ module _ {A : Type 0} (gives : A → Given) (is : (a b : A) → gives a ≡ give
 equation : {A : Type 0} (x : A) → DeterminedAnswer (λ (a : A). a ≡ x)
 equation x a a′ p q = p ∙ sym q
 
--- For evaluating one component, a load, a round, an edit, a run until calm, and the questions and looks that write lent lists; then for judging, also as
+-- For evaluating one component, a load, a round, an edit of either way, a run until calm, and the questions and looks that write lent lists; then for judging, also as
 -- the host's two calls, check 16, calm, satisfied, the index of an id, a port's value, and a value's methods.
 pub determinacy : Determinacy
 determinacy = (
@@ -44,7 +44,7 @@ determinacy = (
       let left = d .1 in
       let moved = p .1 ∙ sym (q .1) in
       (d .0, λ i. (left i, moved i)),
-  λ i v T. changes-determined answerGives answerGives-is (giving (editNumber T i v)) _,
+  λ way i v T. changes-determined answerGives answerGives-is (giving (editNumber T i v)) _,
   λ t limit T. changes-determined ranGives ranGives-is
       (λ counts. giving (netNumber T) (run limit t T .rounds ∷ run limit t T .evaluations ∷ run limit t T .moved ∷ counts)) _,
   λ T i lent. outcome listGives listGives-is (λ zs. giving (listNumber T i lent) (length (sources T i) ∷ [])) _,

@@ -145,7 +145,7 @@ module _ (few : Bool) (ws fs : List ℕ) (lent : Counts → Tables) where
   host-determinacy = (
     λ file. changes _ (determinacy .1 file),
     rounds,
-    λ i v. changes _ (determinacy .3 i v),
+    λ way i v. changes _ (determinacy .3 way i v),
     λ t limit. runs (Runs t limit) (determinacy .4 t limit),
     asks whetherGives _ (determinacy .12),
     asks whetherGives _ (determinacy .13),

@@ -14,6 +14,7 @@ use Rattle.tables.specs.Tables.{Tables}
 use Rattle.load.specs.Load.{Loads}
 use Rattle.net.specs.Net.{Checks}
 use Rattle.questions.specs.declared.Side.{Side}
+use Rattle.simulator.specs.Edit.{Way}
 use Rattle.simulator.specs.Calls.{Rounds, Edits, Runs}
 use Rattle.look.specs.declared.Looked.{Looked}
 use Rattle.look.specs.Look.{Looks}
@@ -34,7 +35,7 @@ Determinacy =
     ((f : Fields) (xs vs ys ws : List ℕ) (t : ℕ) → Determined (Evaluates f xs vs ys ws t))
     × ((file : List ℕ) (T : Tables) → Determined (Loads file T))
     × ((t : ℕ) (bits : List ℕ) (T : Tables) → Determined (λ (r : Answer) (b : Tables × List ℕ). Rounds t bits T r (b .0) (b .1)))
-    × ((i v : ℕ) (T : Tables) → Determined (Edits i v T))
+    × ((way : Way) (i v : ℕ) (T : Tables) → Determined (Edits way i v T))
     × ((t limit : ℕ) (T : Tables) → Determined (Runs t limit T))
     × ((T : Tables) (i : ℕ) (lent : List ℕ) → Determined (AsksSources T i lent))
     × ((T : Tables) (i : ℕ) (lent : List ℕ) → Determined (AsksTargets T i lent))

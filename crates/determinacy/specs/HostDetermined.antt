@@ -15,6 +15,7 @@ use Rattle.load.specs.Load.{Loads}
 use Rattle.net.specs.Net.{Checks}
 use Rattle.questions.specs.declared.Side.{Side}
 use Rattle.questions.specs.declared.Listed.{Listed}
+use Rattle.simulator.specs.Edit.{Way}
 use Rattle.simulator.specs.Calls.{Edits, Runs}
 use Rattle.questions.specs.Questions.{whetherGives, AsksCalm, AsksSatisfied, indexGives, AsksIndex, valueGives, AsksValue, AsksSources, AsksTargets}
 use Rattle.look.specs.declared.Looked.{Looked}
@@ -53,12 +54,12 @@ module _ (few : Bool) (ws fs : List ℕ) (lent : Counts → Tables) where
   LooksDetermined P =
       (ns wd : List ℕ) → Determined (λ (r : ℕ) (c : List ℕ × List ℕ × List ℕ). CallLooks P few ws ns (c .0) wd (c .1) fs (c .2) lent r)
 
-  -- Every call on tables, in the order of the header: load, round, edit, run until calm, then the questions.
+  -- Every call on tables, in the order of the header: load, round, the two edits, run until calm, then the questions.
   abbrev pub HostDeterminacy : Type 0
   HostDeterminacy =
       ((file : List ℕ) → ChangesDetermined (Loads file))
       × ((t : ℕ) (bs : List ℕ) → RoundsDetermined t bs)
-      × ((i v : ℕ) → ChangesDetermined (Edits i v))
+      × ((way : Way) (i v : ℕ) → ChangesDetermined (Edits way i v))
       × ((t limit r s : ℕ) (a b c d : List ℕ) (f g : Counts → Tables) → CallRuns (Runs t limit) few ws a fs c lent f r
       → CallRuns (Runs t limit) few ws b fs d lent g s → (r ≡ s) × (a ≡ b) × (c ≡ d) × (f (countsIn a) ≡ g (countsIn b)))
       × AsksDetermined whetherGives AsksCalm

@@ -18,7 +18,8 @@ use Rattle.meeting.specs.Meeting.{judgement}
 use Rattle.tables.specs.Tables.{Tables, fullSize}
 use Rattle.load.specs.Load.{drawingTables, loadVerdict, loadTables}
 use Rattle.net.specs.Net.{countsWithin, kindsObeyed, idsDistinct, portsFollow, valuesFit, constsHeld, wiresFit, inputsOnce, names, isNet, netNumber}
-use Rattle.rounds.specs.Round.{leave, evaluated, send, visit, round, portSet, editedState, roundOf}
+use Rattle.rounds.specs.Round.{leave, evaluated, send, visit, round, roundOf}
+use Rattle.simulator.specs.Edit.{stands, portSet, editedState}
 use Rattle.simulator.specs.Calls.{roundTables, editNumber, editTables}
 use Rattle.boxes.specs.Boxes.{matched, dangling}
 use Rattle.look.specs.Look.{shown, lookNumber, lookVerdict, lookedAt, valuesShown, listBy}
@@ -72,7 +73,7 @@ pub looks-hold :
     -- A Switch has an output alone.
     × (looking lamp lampLoaded (1 ∷ []) ≡ ports 0 1 (0 ∷ 7 ∷ 7 ∷ []) (1 ∷ 7 ∷ 7 ∷ []))
     -- Switch 0 is set, and that has come through.
-    × (looking lamp (lampSet 5) (3 ∷ []) ≡ ports 2 1 (1 ∷ 0 ∷ 0 ∷ []) (1 ∷ 1 ∷ 1 ∷ []))
+    × (looking lamp (lampSet stands 5) (3 ∷ []) ≡ ports 2 1 (1 ∷ 0 ∷ 0 ∷ []) (1 ∷ 1 ∷ 1 ∷ []))
     -- No child of the root; below a primitive; the root's own id.
     × (looking lamp lampLoaded (4 ∷ []) ≡ refusedAs 20 0)
     × (looking lamp lampLoaded (3 ∷ 4 ∷ 9 ∷ []) ≡ refusedAs 20 0)

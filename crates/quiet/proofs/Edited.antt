@@ -15,19 +15,20 @@ use lib.Dec.{eqb}
 use Rattle.lists.proofs.TestsLaws.{and-left, and-right}
 use Rattle.lists.proofs.MembersLaws.{In, any-none}
 use Rattle.lists.proofs.TestsLaws.{or-cases}
-use Rattle.lists.proofs.NamesLaws.{names-append}
 use Rattle.value.specs.Value.{fits, ofWidth}
 use Rattle.kinds.specs.declared.Kind.the-variants.{Switch, Input, Const}
 use Rattle.kinds.specs.Kinds.{is, inputWidth, outputWidth}
 use Rattle.tables.specs.declared.Wire.{Wire}
 use Rattle.tables.specs.Tables.{Tables, fieldsAt, firstInput, firstOutput, numbers, inputsAt, outputsAt, wiresIn}
-use Rattle.rounds.specs.Round.{State, withInputs, withOutputs, stood, portSet, editedState}
+use Rattle.rounds.specs.Round.{State, withInputs, withOutputs}
+use Rattle.simulator.specs.Edit.{Way, portSet, editedState}
 use Rattle.simulator.specs.Calls.{driven, editNumber}
 use Rattle.simulator.proofs.EditsLaws.{edit-there, edit-settable, edit-fits}
 use Rattle.rounds.proofs.Ports.{Off, off-apart, numbers-cong}
 use Rattle.rounds.proofs.Evaluation.{is-other, const-outputs, switch-outputs, input-inputs}
 use Rattle.rounds.proofs.Sound.{outputCount, inputCount, Sound, output-off, input-off}
 use Rattle.rounds.proofs.Held.{Held}
+use Rattle.quiet.proofs.Appended.{appended-held}
 
 pub record Editable (T : Tables) (i v : ℕ) : Type 0 where
   pub exists : i < T .counts .components
@@ -59,21 +60,21 @@ driven-none T i w e m q =
 
 -- The state after a Switch's output was set, and after an Input's input was.
 unfoldable pub switched : Tables → ℕ → ℕ → State → State
-switched T i v s = stood i (withOutputs (set (s .outputs) (firstOutput T i) v) s)
+switched T i v s = withOutputs (set (s .outputs) (firstOutput T i) v) s
 
 unfoldable pub fed : Tables → ℕ → ℕ → State → State
-fed T i v s = stood i (withInputs (set (s .inputs) (firstInput T i) v) s)
+fed T i v s = withInputs (set (s .inputs) (firstInput T i) v) s
 
--- An edit is one of the two.
+-- An edit sets a port in one of the two ways.
 pub data EditCase (T : Tables) (i v : ℕ) (s : State) : Type 0 where
   switch : is Switch (fieldsAt T i) ≡ true → fits (ofWidth (outputWidth (fieldsAt T i)) v) ≡ true
-      → editedState T i v s ≡ switched T i v s → EditCase T i v s
+      → portSet T i v s ≡ switched T i v s → EditCase T i v s
   input : is Input (fieldsAt T i) ≡ true → driven T i ≡ false → fits (ofWidth (inputWidth (fieldsAt T i)) v) ≡ true
-      → editedState T i v s ≡ fed T i v s
+      → portSet T i v s ≡ fed T i v s
       → EditCase T i v s
 
 pub edit-case : (T : Tables) (i v : ℕ) (s : State) → Editable T i v → EditCase T i v s
-unfolding editedState portSet switched fed
+unfolding portSet switched fed
 edit-case T i v s a = by-kind (a .settable) (a .value)
   where
     by-kind : (is Switch (fieldsAt T i) ≡ true) ⊎ ((is Input (fieldsAt T i) ≡ true) × (driven T i ≡ false))
@@ -149,7 +150,7 @@ module _ (T : Tables) (g : Sound T) (i v : ℕ) (h : i < T .counts .components) 
           consts = λ d q e. const d q e (ℕ-discrete d i);
           current = a .current;
           following = a .following;
-          standing = names-append n i (s .standing) h (a .standing);
+          standing = a .standing;
         }
       where
         room : firstOutput T i < length (s .outputs)
@@ -197,16 +198,17 @@ module _ (T : Tables) (g : Sound T) (i v : ℕ) (h : i < T .counts .components) 
           consts = a .consts;
           current = a .current;
           following = a .following;
-          standing = names-append n i (s .standing) h (a .standing);
+          standing = a .standing;
         }
       where
         room : firstInput T i < length (s .inputs)
         room = omega (arith, one-input, a .inputs-length, g .inputs-in i h)
 
-  -- An edit keeps what a net holds.
-  pub edited-held : Editable T i v → Held T (editedState T i v s)
-  edited-held ok = by-case (edit-case T i v s ok)
+  -- An edit, of either way, keeps what a net holds.
+  pub edited-held : (way : Way) → Editable T i v → Held T (editedState T way i v s)
+  unfolding editedState
+  edited-held way ok = appended-held T i (portSet T i v s) way h (by-case (edit-case T i v s ok))
     where
-      by-case : EditCase T i v s → Held T (editedState T i v s)
+      by-case : EditCase T i v s → Held T (portSet T i v s)
       by-case (switch k b e) = rw e (switched-held k b)
       by-case (input k f b e) = rw e (fed-held k b)

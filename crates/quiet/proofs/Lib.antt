@@ -1,6 +1,7 @@
+pub mod Invariant
+pub mod Appended
 pub mod Edited
 pub mod EditKept
-pub mod Invariant
 pub mod EditInvariant
 pub mod Since
 pub mod Obeyed

@@ -15,7 +15,8 @@ use Rattle.kinds.specs.Kinds.{is}
 use Rattle.tables.specs.declared.Wire.{Wire}
 use Rattle.tables.specs.Tables.{Tables, fieldsAt, wiresIn, currentList, followingList, standingList}
 use Rattle.net.specs.Net.{netNumber}
-use Rattle.rounds.specs.Round.{State, stateOf, leave, round, editedState as editedState, roundOf}
+use Rattle.rounds.specs.Round.{State, stateOf, leave, round, roundOf}
+use Rattle.simulator.specs.Edit.{Way, editedState}
 use Rattle.simulator.specs.Calls.{roundTables, editNumber, editTables}
 use Rattle.rounds.proofs.Sound.{net-sound}
 use Rattle.rounds.proofs.Held.{Order, stored-order}
@@ -82,15 +83,15 @@ roundTables-unbroken T ran t u a = by-number (eqb (netNumber T) 0) refl
         (round-unbroken T (wiresIn T) (stored-order T) ran t u (eqb-true (netNumber T) 0 e) a)
     by-number false e = subst (λ (r : Bool). Unbroken T r t) (sym (or-false ran)) a
 
--- An edit as a call keeps it, refused or not.
-pub editTables-unbroken : (T : Tables) (ran : Bool) (t i v : ℕ) → Unbroken T ran t → Unbroken (editTables T i v) ran t
+-- An edit as a call keeps it, of either way, refused or not.
+pub editTables-unbroken : (way : Way) (T : Tables) (ran : Bool) (t i v : ℕ) → Unbroken T ran t → Unbroken (editTables way T i v) ran t
 unfolding editTables
-editTables-unbroken T ran t i v a =
-    by-number (λ (U : Tables). Unbroken U ran t) (editNumber T i v) (leave T (editedState T i v (stateOf T))) T done a
+editTables-unbroken way T ran t i v a =
+    by-number (λ (U : Tables). Unbroken U ran t) (editNumber T i v) (leave T (editedState T way i v (stateOf T))) T done a
   where
-    done : editNumber T i v ≡ 0 → Unbroken (leave T (editedState T i v (stateOf T))) ran t
+    done : editNumber T i v ≡ 0 → Unbroken (leave T (editedState T way i v (stateOf T))) ran t
     done e =
         let z = edit-is-net T i v e in
-        leave-unbroken T ran t (editedState T i v (stateOf T))
-        (edited-inv T (net-sound T z) ran t i v (edit-there T i v e) (stateOf T)
+        leave-unbroken T ran t (editedState T way i v (stateOf T))
+        (edited-inv T (net-sound T z) way ran t i v (edit-there T i v e) (stateOf T)
         (net-held T z) a (editNumber-editable T i v e))

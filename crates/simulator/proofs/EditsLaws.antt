@@ -21,16 +21,17 @@ use Rattle.kinds.specs.Kinds.{is, primitive, obeys, inputWidth, outputWidth}
 use Rattle.kinds.specs.Given.{refusedBy}
 use Rattle.tables.specs.declared.Counts.{Counts}
 use Rattle.tables.specs.declared.Answer.the-variants.{Done, Refused}
-use Rattle.tables.specs.Tables.{Tables, tablesOf, fieldsAt, firstInput, firstOutput, standingList, wireAt}
+use Rattle.tables.specs.Tables.{Tables, tablesOf, fieldsAt, firstInput, firstOutput, currentList, standingList, wireAt}
 use Rattle.tables.specs.Words.{RowInside, fieldsIn, firstInputIn, firstOutputIn}
 use Rattle.net.specs.Net.{netNumber}
 use Rattle.net.proofs.NetLaws.{netNumber-net, netNumber-sizes}
-use Rattle.rounds.specs.Round.{State, withInputs, withOutputs, stateOf, leave, portSet, editedState}
+use Rattle.rounds.specs.Round.{State, withInputs, withOutputs, stateOf, leave}
+use Rattle.simulator.specs.Edit.{Way, goesFirst, stands, portSet, editedState}
 use Rattle.simulator.specs.Calls.{driven, editNumber, editTables, Edits}
 use Rattle.simulator.specs.Asked.{entered, editRefusal}
 use Rattle.rounds.proofs.RoundLaws.{net-rows}
 use Rattle.rounds.proofs.Evaluation.{switch-outputs, input-inputs}
-use Rattle.rounds.proofs.Sound.{net-sound, net-within, current-in, following-in}
+use Rattle.rounds.proofs.Sound.{net-sound, net-within, current-in, following-in, standing-in}
 use Rattle.rounds.proofs.StepsLaws.{append-room}
 use Rattle.net.proofs.NetLaws.{number-refused, number-net, number-passed}
 
@@ -90,7 +91,7 @@ module _ (T : Tables) (i v : ℕ) where
   unfolding editNumber editRefusal
   edit-net z = sym (number-net T (refusal checks) z ∙ rw (driven-entered T i))
 
--- Where none is given: the component and its port are there, and the standing list has room.
+-- Where none is given: the component and its port are there, and the current and the standing list have room.
 module _ (T : Tables) (i v : ℕ) (z : editNumber T i v ≡ 0) where
   pub edit-is-net : netNumber T ≡ 0
   unfolding editNumber
@@ -141,6 +142,11 @@ module _ (T : Tables) (i v : ℕ) (z : editNumber T i v ≡ 0) where
   pub edit-index : i < 65536
   edit-index = omega (arith, edit-there, net-within T edit-is-net .components)
 
+  pub edit-room-first : length (appendNew i (currentList T)) ≤ length (T .current)
+  edit-room-first =
+      append-room T i (currentList T) (T .current) (netNumber-net T edit-is-net .current) edit-there
+      (net-within T edit-is-net .components) (netNumber-sizes T edit-is-net .current)
+
   pub edit-room : length (appendNew i (standingList T)) ≤ length (T .standing)
   edit-room =
       append-room T i (standingList T) (T .standing) (netNumber-net T edit-is-net .standing) edit-there
@@ -169,44 +175,68 @@ module _ (cs ins outs ws cur fol std : List ℕ) (m : Counts) (i v : ℕ) where
   abbrev came : Tables
   came = tablesOf cs ins outs ws cur fol std m
 
-  pub edit-kept : (k : ℕ) → k ≡ editNumber came i v → (k ≡ 0 → ⊥) → Edits i v came (Refused (refusedBy k)) came
+  pub edit-kept : (way : Way) (k : ℕ) → k ≡ editNumber came i v → (k ≡ 0 → ⊥) → Edits way i v came (Refused (refusedBy k)) came
   unfolding editTables
-  edit-kept k e ne = rw (← e, ne-eqb k 0 ne) (refl, refl)
+  edit-kept way k e ne = rw (← e, ne-eqb k 0 ne) (refl, refl)
 
-  -- The counts with a new one of the standing list.
-  abbrev counted : ℕ → Counts
-  counted n =
+  -- The counts with those of the current and the standing list put anew.
+  abbrev counted : ℕ → ℕ → Counts
+  counted c n =
       record {
         components = m .components;
         inputs = m .inputs;
         outputs = m .outputs;
         wires = m .wires;
-        current = m .current;
+        current = c;
         following = m .following;
         standing = n;
       }
 
-  module _ (z : editNumber came i v ≡ 0) (ins' outs' std' : List ℕ) (n : ℕ)
+  module _ (z : editNumber came i v ≡ 0) (ins' outs' : List ℕ)
       (ei : ins' ≡ cond (is Switch (fieldsIn cs i)) ins (set ins (firstInputIn cs i) v))
-      (eo : outs' ≡ cond (is Switch (fieldsIn cs i)) (set outs (firstOutputIn cs i) v) outs)
-      (en : n ≡ length (appendNew i (take (m .standing) std)))
-      (es : std' ≡ overlay (appendNew i (take (m .standing) std)) std) where
-    made : tablesOf cs ins' outs' ws cur fol std' (counted n) ≡ editTables came i v
-    unfolding editTables leave editedState
-    made =
-        let net = edit-is-net came i v z in
-        rw (
-          z,
-          portSet-ports came i v (stateOf came),
-          ei,
-          eo,
-          en,
-          es,
-          overlay-same (m .current) cur (current-in came net),
-          overlay-same (m .following) fol (following-in came net),
-          length-take-le (m .current) cur (current-in came net),
-          length-take-le (m .following) fol (following-in came net),
-        )
+      (eo : outs' ≡ cond (is Switch (fieldsIn cs i)) (set outs (firstOutputIn cs i) v) outs) where
+    -- The component goes first: the current list has it,
+    module _ (cur' : List ℕ) (n : ℕ) (en : n ≡ length (appendNew i (take (m .current) cur)))
+        (es : cur' ≡ overlay (appendNew i (take (m .current) cur)) cur) where
+      put-first : tablesOf cs ins' outs' ws cur' fol std (counted n (m .standing)) ≡ editTables goesFirst came i v
+      unfolding editTables leave editedState
+      put-first =
+          let net = edit-is-net came i v z in
+          rw (
+            z,
+            portSet-ports came i v (stateOf came),
+            ei,
+            eo,
+            en,
+            es,
+            overlay-same (m .following) fol (following-in came net),
+            overlay-same (m .standing) std (standing-in came net),
+            length-take-le (m .following) fol (following-in came net),
+            length-take-le (m .standing) std (standing-in came net),
+          )
 
-    pub edit-made : Edits i v came (Done (counted n)) (tablesOf cs ins' outs' ws cur fol std' (counted n))
-    edit-made = (rw z refl, made)
+      pub edit-first : Edits goesFirst i v came (Done (counted n (m .standing))) (tablesOf cs ins' outs' ws cur' fol std (counted n (m .standing)))
+      edit-first = (rw z refl, put-first)
+
+    -- or it stands: the standing list has it.
+    module _ (std' : List ℕ) (n : ℕ) (en : n ≡ length (appendNew i (take (m .standing) std)))
+        (es : std' ≡ overlay (appendNew i (take (m .standing) std)) std) where
+      put-standing : tablesOf cs ins' outs' ws cur fol std' (counted (m .current) n) ≡ editTables stands came i v
+      unfolding editTables leave editedState
+      put-standing =
+          let net = edit-is-net came i v z in
+          rw (
+            z,
+            portSet-ports came i v (stateOf came),
+            ei,
+            eo,
+            en,
+            es,
+            overlay-same (m .current) cur (current-in came net),
+            overlay-same (m .following) fol (following-in came net),
+            length-take-le (m .current) cur (current-in came net),
+            length-take-le (m .following) fol (following-in came net),
+          )
+
+      pub edit-stands : Edits stands i v came (Done (counted (m .current) n)) (tablesOf cs ins' outs' ws cur fol std' (counted (m .current) n))
+      edit-stands = (rw z refl, put-standing)

@@ -1,20 +1,17 @@
-// Edits: a Switch's output, or the input of an Input that no wire enters, set to a plain number. Rule: docs/SPECIFICATION.md, "Rounds"
-// and "Numbers given back". The Rust has none.
+// What edits of both ways share: their checks, and the port that is set, a Switch's output or the input of an Input that no wire enters.
+// Rule: docs/SPECIFICATION.md, "Rounds" and "Numbers given back". The Rust has none.
 ghost use mathlib.Core.Path.{_≡_};
 ghost use mathlib.Core.Bool.{true, cond};
 ghost use Prim.Native.Nat.{_<_};
 ghost use lib.ListN.{length, set};
 ghost use Rattle.kinds.specs.declared.Kind.the-variants.{Switch};
 ghost use Rattle.kinds.specs.Kinds.{is};
-ghost use Rattle.tables.specs.Tables.{tablesOf, countsAfter};
+ghost use Rattle.tables.specs.Tables.{tablesOf};
 ghost use Rattle.tables.specs.Words.{RowInside, WiresInside, fieldsFit, fieldsIn, firstInputIn, firstOutputIn};
-ghost use Rattle.simulator.specs.Calls.{editNumber, Edits};
+ghost use Rattle.simulator.specs.Calls.{editNumber};
 ghost use Rattle.simulator.specs.Asked.{entered, editRefusal};
 use kinds::Kind;
-use kinds::refused_by;
-use tables::Answer;
 use tables::Counts;
-use tables::FlatIdx;
 use value::Value;
 
 // Whether one of the first `count` wires enters component i.
@@ -62,7 +59,13 @@ fn edit_number(components: &[u64], wires: &[u16], counts: Counts, i: usize, numb
 }
 
 // Sets the output of a Switch, and of any other component the first input.
-fn set_port(components: &[u64], inputs: &mut [u64], outputs: &mut [u64], i: usize, number: u64)
+pub(crate) fn set_port(
+    components: &[u64],
+    inputs: &mut [u64],
+    outputs: &mut [u64],
+    i: usize,
+    number: u64,
+)
     requires { ⌜ RowInside (now components) i
         × (is Switch (fieldsIn (now components) i) ≡ true → firstOutputIn (now components) i < length (now outputs))
         × ((is Switch (fieldsIn (now components) i) ≡ true → ⊥) → firstInputIn (now components) i < length (now inputs)) ⌝ }
@@ -81,7 +84,7 @@ fn set_port(components: &[u64], inputs: &mut [u64], outputs: &mut [u64], i: usiz
 }
 
 // What an edit checks, on any tables: 2 and 16, then the rest.
-fn edit_checks(
+pub(crate) fn edit_checks(
     components: &[u64],
     inputs: &[u64],
     outputs: &[u64],
@@ -110,46 +113,4 @@ fn edit_checks(
         return refused;
     }
     edit_number(components, wires, counts, i, number)
-}
-
-// Sets a component's port to a number and appends the component to the standing list unless there. A refusal changes no table.
-pub fn edit(
-    components: &[u64],
-    inputs: &mut [u64],
-    outputs: &mut [u64],
-    wires: &[u16],
-    current: &[u16],
-    following: &[u16],
-    standing: &mut [u16],
-    counts: Counts,
-    index: FlatIdx,
-    number: u64,
-) -> Answer
-    ensures { λ r.
-        let before = tablesOf (now (components .entry)) (now (inputs .entry)) (now (outputs .entry)) (now (wires .entry))
-        (now (current .entry)) (now (following .entry)) (now (standing .entry)) counts in
-        let after = tablesOf (now (components .entry)) (now (inputs .exit)) (now (outputs .exit)) (now (wires .entry))
-        (now (current .entry)) (now (following .entry)) (now (standing .exit)) (countsAfter r counts) in
-        ⌜ Edits (index .0) number before r after ⌝ }
-{
-    let i = index.0;
-    let refused = edit_checks(
-        components,
-        inputs,
-        outputs,
-        wires,
-        current,
-        following,
-        standing,
-        counts,
-        i,
-        number,
-    );
-    if refused != 0 {
-        return Answer::Refused(refused_by(refused));
-    }
-    set_port(components, inputs, outputs, i, number);
-    let mut left = counts;
-    left.standing = tables::append_new(standing, counts.standing, i as u16);
-    Answer::Done(left)
 }

@@ -1,12 +1,15 @@
 // Rounds, edits and runs until calm as calls over lent tables. Rules: docs/SPECIFICATION.md, "Rounds" and "Numbers given back". Source: simulator.rs.
 mod calls;
 mod edits;
+mod first;
 mod moved;
+mod standing;
 
 pub use calls::round;
 pub use calls::run_until_calm;
-pub use edits::edit;
+pub use first::edit;
 use kinds::Refusal;
+pub use standing::edit_standing;
 use tables::Counts;
 
 // Run until calm: the new counts, the rounds run, the evaluations made and how many times an output changed.

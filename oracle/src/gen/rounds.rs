@@ -1,4 +1,4 @@
-//! Loads, each with rounds, edits, runs until calm and the question of calm; after each, satisfied or not;
+//! Loads, each with rounds, edits of both ways, runs until calm and the question of calm; after each, satisfied or not;
 //! now and then the table of a round's bits, and too little of it lent.
 
 use super::drawing::{drawing, file_of, running_profile};
@@ -25,6 +25,9 @@ pub fn run<W: Write>(random: &mut Random, stream: &mut Stream<W>, file: Vec<u8>)
         let command = step(random, &stream.program.tables, time);
         let rounds = matches!(command, Command::Round { .. } | Command::Run { .. });
         stream.put_all([command, Command::Satisfied, Command::State])?;
+        if random.once_in(10) {
+            edits_in_a_row(random, stream)?;
+        }
         if rounds && random.once_in(8) {
             stream.put(BITS)?;
         }
@@ -36,6 +39,20 @@ pub fn run<W: Write>(random: &mut Random, stream: &mut Stream<W>, file: Vec<u8>)
         }
     }
     Ok(())
+}
+
+/// Some edits with no round between, of either way, half of them of one component.
+fn edits_in_a_row<W: Write>(random: &mut Random, stream: &mut Stream<W>) -> Result<()> {
+    let mut last = edit(random, &stream.program.tables);
+    for _ in 0..random.between(2, 5) {
+        stream.put_all([last.clone(), Command::State])?;
+        last = match (random.below(2), &last) {
+            (0, Command::Edit { index, number }) => either_way(random, *index, *number ^ 1),
+            (0, Command::EditFirst { index, number }) => either_way(random, *index, *number ^ 1),
+            _ => edit(random, &stream.program.tables),
+        };
+    }
+    stream.put(Command::Satisfied)
 }
 
 /// The table of a round's bits.
@@ -86,7 +103,7 @@ pub fn step(random: &mut Random, tables: &Tables, time: u64) -> Command {
     }
 }
 
-/// Mostly an edit that is taken; else of any component, with any number.
+/// Mostly an edit that is taken; else of any component, with any number. Either way.
 pub fn edit(random: &mut Random, tables: &Tables) -> Command {
     let open = editable(tables);
     let (index, width) = match (open.is_empty(), random.below(5)) {
@@ -100,7 +117,15 @@ pub fn edit(random: &mut Random, tables: &Tables) -> Command {
         3 | 4 => 0,
         _ => random.any() & greatest,
     };
-    Command::Edit { index, number }
+    either_way(random, index, number)
+}
+
+/// An edit that goes first, or one of the old way.
+fn either_way(random: &mut Random, index: u16, number: u64) -> Command {
+    match random.below(2) {
+        0 => Command::Edit { index, number },
+        _ => Command::EditFirst { index, number },
+    }
 }
 
 fn any_index(random: &mut Random, tables: &Tables) -> u16 {

@@ -63,6 +63,7 @@ fn every_call<W: Write>(random: &mut Random, stream: &mut Stream<W>) -> Result<(
     let mut calls = vec![
         Command::Round { time },
         edit(random, &stream.program.tables),
+        edit(random, &stream.program.tables),
         Command::Run { time, limit: random.pick(&[0, 1, 5]) },
         Command::Calm,
         Command::Satisfied,

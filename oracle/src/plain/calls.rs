@@ -41,7 +41,7 @@ pub fn net_number(tables: &Tables) -> u64 {
     }
 }
 
-/// An edit: checks 2, 16, 17, 18, 19.
+/// An edit, of either way: checks 2, 16, 17, 18, 19.
 pub fn edit_number(tables: &Tables, index: u16, number: u64) -> u64 {
     on_component(tables, index, |entry| match entry.fields.kind {
         7 => number_fits(number, entry.fields.output_width()),

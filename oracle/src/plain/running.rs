@@ -86,17 +86,31 @@ fn send(tables: &mut Tables, wire: &[u64; 4], following: &mut Vec<u64>) {
     }
 }
 
+/// The two ways of an edit.
+#[derive(Clone, Copy, PartialEq)]
+pub enum Way {
+    /// "an edit appends the component to the current list, unless there, and not to the
+    /// standing list"
+    First,
+    /// "appends the component to the standing list unless there"
+    Standing,
+}
+
 /// "an edit sets a Switch's output, or an undriven Input's input, and appends the
-/// component to the standing list unless there."
-pub fn edit(tables: &mut Tables, index: u64, number: u64) {
+/// component" to the list of its way.
+pub fn edit(tables: &mut Tables, way: Way, index: u64, number: u64) {
     let Entry { fields, first_input, first_output, .. } = entry(tables, index);
     match fields.kind {
         SWITCH => tables.words[OUTPUTS][first_output as usize] = number,
         _ => tables.words[INPUTS][first_input as usize] = number,
     }
-    let mut standing = tables.used(STANDING).to_vec();
-    append(&mut standing, index);
-    tables.put(STANDING, &standing);
+    let list = match way {
+        Way::First => CURRENT,
+        Way::Standing => STANDING,
+    };
+    let mut names = tables.used(list).to_vec();
+    append(&mut names, index);
+    tables.put(list, &names);
 }
 
 /// Appends a component to a list, unless there.

@@ -1,8 +1,7 @@
 //! The lamp drawing and its cases.
 
-use super::{answer, connection, lamp, told};
+use super::{answer, connection, lamp, loaded, told};
 use crate::command::Command;
-use crate::gen::drawing::file_of;
 use crate::program::Program;
 use crate::tables::{COMPONENTS, CURRENT, WIRES};
 
@@ -20,15 +19,9 @@ round 2 next
 calm
 ";
 
-fn loaded_lamp() -> Program {
-    let mut program = Program::new();
-    assert_eq!(answer(&mut program, Command::Load(file_of(&lamp()))), "load 0 0 0\n");
-    program
-}
-
 #[test]
 fn is_accepted_with_its_three_wires() {
-    let mut program = loaded_lamp();
+    let mut program = loaded(&lamp());
     let net = "net 4 3 4 3
 component 7 1 0 0 0 1 0 0
 component 7 2 0 0 0 1 0 1
@@ -46,7 +39,7 @@ wire 2 0 3 0
 /// What the listing program prints, from the tables.
 #[test]
 fn is_listed_as_the_document_says() {
-    let mut program = loaded_lamp();
+    let mut program = loaded(&lamp());
     let mut text = String::new();
     let names = [(5, "Nor"), (7, "Switch"), (9, "Output")];
     text += &format!("components {}\n", program.tables.counts[COMPONENTS]);
@@ -75,7 +68,7 @@ fn current(program: &Program) -> String {
 
 #[test]
 fn a_switch_set_after_round_2_gets_out_in_round_5() {
-    let mut program = loaded_lamp();
+    let mut program = loaded(&lamp());
     for _ in 0..2 {
         answer(&mut program, Command::Round { time: 0 });
     }
@@ -92,7 +85,7 @@ fn a_switch_set_after_round_2_gets_out_in_round_5() {
 
 #[test]
 fn run_until_calm_gives_rounds_evaluations_and_outputs_moved() {
-    let mut program = loaded_lamp();
+    let mut program = loaded(&lamp());
     assert_eq!(answer(&mut program, Command::Run { time: 0, limit: 0 }), "run 0 0 0 0\n");
     assert_eq!(answer(&mut program, Command::Run { time: 0, limit: 16 }), "run 0 2 5 2\n");
     assert_eq!(answer(&mut program, Command::Run { time: 0, limit: 16 }), "run 0 1 0 0\n");

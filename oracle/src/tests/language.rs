@@ -127,6 +127,10 @@ fn questions_and_edits_on_the_lamp() {
     assert_eq!(answer(&mut program, Command::Edit { index: 2, number: 9 }), "edit 18 0\n");
     assert_eq!(answer(&mut program, Command::Edit { index: 1, number: 2 }), "edit 19 0\n");
     assert_eq!(answer(&mut program, Command::Edit { index: 1, number: 1 }), "edit 0 0\n");
+    assert_eq!(answer(&mut program, Command::EditFirst { index: 4, number: 9 }), "first 17 0\n");
+    assert_eq!(answer(&mut program, Command::EditFirst { index: 2, number: 9 }), "first 18 0\n");
+    assert_eq!(answer(&mut program, Command::EditFirst { index: 1, number: 2 }), "first 19 0\n");
+    assert_eq!(answer(&mut program, Command::EditFirst { index: 1, number: 1 }), "first 0 0\n");
 }
 
 #[test]
@@ -223,6 +227,7 @@ fn commands_are_read_as_written() {
         Command::Host(vec![1, 2, 3, 4]),
         Command::Round { time: u64::MAX - 3 },
         Command::Edit { index: 513, number: 1 << 63 },
+        Command::EditFirst { index: 514, number: 1 << 62 },
         Command::Run { time: 5, limit: 258 },
         Command::Index { id: 0x0102_0304 },
         Command::Value { side: 2, index: 3, port: 772 },
@@ -239,7 +244,7 @@ fn commands_are_read_as_written() {
         command.write(&mut bytes);
     }
     let lines =
-        "judge 1 0 0\nhost 65536 4294967296\nround 0 0\nedit 17 0\nrun 0 1 0 0\nindex 17 0\nvalue 17 0 0\n\
+        "judge 1 0 0\nhost 65536 4294967296\nround 0 0\nedit 17 0\nfirst 17 0\nrun 0 1 0 0\nindex 17 0\nvalue 17 0 0\n\
                  look 2 0 0 0 0\nno table\nnet 0 0 0 0\n";
     assert_eq!(printed(&bytes), lines);
 }

@@ -1,7 +1,7 @@
 //! Looks: the lamp's box, the order of the checks, what matches, and logix beside the
 //! plain coding on generated drawings.
 
-use super::{answer, component, input_map, lamp, output_map};
+use super::{answer, component, input_map, lamp, loaded, output_map};
 use crate::command::Command;
 use crate::engine::{nested, Engine};
 use crate::gen::drawing::{boxes_profile, drawing, file_of};
@@ -17,11 +17,9 @@ use logix::primitives::primitive::PrimitiveComponent;
 use std::panic::{catch_unwind, AssertUnwindSafe};
 
 /// A program that has a drawing loaded and keeps its file.
-fn loaded(records: &[Record]) -> Program {
-    let mut program = Program::new();
-    let file = file_of(records);
-    assert_eq!(answer(&mut program, Command::Load(file.clone())), "load 0 0 0\n");
-    assert_eq!(answer(&mut program, Command::Keep(file)), "");
+fn kept(records: &[Record]) -> Program {
+    let mut program = loaded(records);
+    assert_eq!(answer(&mut program, Command::Keep(file_of(records))), "");
     program
 }
 
@@ -37,7 +35,7 @@ fn write(program: &mut Program, table: usize, place: u16, word: u64) {
 
 #[test]
 fn the_lamps_box_shows_its_nor() {
-    let mut program = loaded(&lamp());
+    let mut program = kept(&lamp());
     assert_eq!(looked(&mut program, &[3]), "look 0 0 0 2 1 0 1 0 1 0 1");
     answer(&mut program, Command::Run { time: 0, limit: 16 });
     assert_eq!(looked(&mut program, &[3]), "look 0 0 0 2 1 0 1 0 1 1 1");
@@ -54,7 +52,7 @@ fn the_lamps_box_shows_its_nor() {
 
 #[test]
 fn a_path_goes_by_ids_below_the_root() {
-    let mut program = loaded(&lamp());
+    let mut program = kept(&lamp());
     for path in
         [&[100][..], &[100, 3], &[4], &[3, 3], &[3, 4, 4], &[3, 4, 100], &[5, 3], &[0], &[6], &[3; 256]]
     {
@@ -81,7 +79,7 @@ fn fanned_out(order: [usize; 3]) -> Vec<Record> {
 #[test]
 fn an_input_shows_what_its_maps_reach_last() {
     for (order, last) in [([0, 1, 2], 1), ([1, 0, 2], 0), ([2, 0, 1], 1), ([1, 2, 0], 0)] {
-        let mut program = loaded(&fanned_out(order));
+        let mut program = kept(&fanned_out(order));
         write(&mut program, INPUTS, last, 1);
         assert_eq!(looked(&mut program, &[11]), "look 0 0 0 1 1 1 1 0 1", "{order:?}");
         assert_eq!(looked(&mut program, &[11, 13]), "look 21 0 0 0 0");
@@ -91,7 +89,7 @@ fn an_input_shows_what_its_maps_reach_last() {
 
 #[test]
 fn the_answer_is_laid_over_the_lists() {
-    let mut program = loaded(&lamp());
+    let mut program = kept(&lamp());
     answer(&mut program, Command::Run { time: 0, limit: 16 });
     looked(&mut program, &[3]);
     assert_eq!(program.tables.words[NUMBERS][..4], [0, 0, 1, 7]);
@@ -107,7 +105,7 @@ fn the_answer_is_laid_over_the_lists() {
 #[test]
 fn the_checks_come_in_their_order() {
     let dangling = [component(0, 0, 1, 0, 10), component(3, 0, 1, 1, 11)];
-    let mut program = loaded(&dangling);
+    let mut program = kept(&dangling);
     assert_eq!(looked(&mut program, &[]), "look 21 0 0 0 0");
     assert_eq!(looked(&mut program, &[11]), "look 0 0 0 1 1 0 1 0 1");
     let shorter = [dangling[0], component(3, 0, 1, 1, 12)];
@@ -132,7 +130,7 @@ fn the_checks_come_in_their_order() {
 
 #[test]
 fn only_components_and_wires_must_match() {
-    let mut program = loaded(&lamp());
+    let mut program = kept(&lamp());
     let mut other = |change: fn(&mut Vec<Record>)| {
         let mut records = lamp();
         change(&mut records);
@@ -154,7 +152,7 @@ fn only_components_and_wires_must_match() {
     );
     assert_eq!(other(|_| ()), shown);
     for (table, place, word) in [(0, 1, 9), (0, 16, 2), (WIRES, 0, 1)] {
-        let mut program = loaded(&lamp());
+        let mut program = kept(&lamp());
         write(&mut program, table, place, word);
         assert_eq!(looked(&mut program, &[3]), "look 20 0 0 0 0", "{table} {place}");
     }
@@ -188,7 +186,7 @@ fn logix_shows_what_the_plain_coding_shows() {
     for _ in 0..4_000 {
         let profile = boxes_profile(&mut random);
         let drawn = drawing(&mut random, profile);
-        let mut program = loaded(&drawn);
+        let mut program = kept(&drawn);
         if random.once_in(3) {
             answer(&mut program, Command::Run { time: random.below(30), limit: 5 });
         } else {

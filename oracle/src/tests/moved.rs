@@ -1,6 +1,6 @@
 //! Which outputs moved: of a single component, in rounds, and their number in runs.
 
-use super::{answer, component, connection, lamp};
+use super::{answer, component, connection, lamp, loaded};
 use crate::command::{Command, Single};
 use crate::gen::drawing::{drawing, file_of, running_profile};
 use crate::gen::random::Random;
@@ -11,12 +11,6 @@ use crate::plain::net::entries;
 use crate::plain::single::PortValue;
 use crate::program::Program;
 use crate::tables::{CURRENT, FULL_WORDS, MOVED, OUTPUTS};
-
-fn loaded(records: &[Record]) -> Program {
-    let mut program = Program::new();
-    assert_eq!(answer(&mut program, Command::Load(file_of(records))), "load 0 0 0\n");
-    program
-}
 
 fn round(program: &mut Program, time: u64) -> String {
     answer(program, Command::Round { time })

@@ -1,6 +1,6 @@
 //! Check 16 on the lamp's tables, and entries past the counts.
 
-use super::{answer, component, lamp};
+use super::{answer, component, lamp, loaded};
 use crate::command::Command;
 use crate::gen::drawing::file_of;
 use crate::program::Program;
@@ -9,15 +9,9 @@ use crate::tables::{COMPONENTS, CURRENT, FOLLOWING, INPUTS, OUTPUTS, STANDING, W
 /// The line of the lamp's first round.
 const ROUND: &str = "round 0 0 0 0 1 1\n";
 
-fn loaded_lamp() -> Program {
-    let mut program = Program::new();
-    answer(&mut program, Command::Load(file_of(&lamp())));
-    program
-}
-
 /// What a round gives after one word of the lamp's tables was written.
 fn round_after(table: usize, place: u16, word: u64) -> String {
-    let mut program = loaded_lamp();
+    let mut program = loaded(&lamp());
     answer(&mut program, Command::WriteWord { table: table as u8, place, word });
     answer(&mut program, Command::Round { time: 0 })
 }
@@ -64,7 +58,7 @@ fn values_wires_and_lists_are_looked_at() {
 #[test]
 fn counts_are_looked_at() {
     let round = |which: usize, number: u64| {
-        let mut program = loaded_lamp();
+        let mut program = loaded(&lamp());
         answer(&mut program, Command::SetCount { which: which as u8, number });
         answer(&mut program, Command::Round { time: 0 })
     };
@@ -93,7 +87,7 @@ fn a_const_holds_its_value() {
 
 #[test]
 fn entries_past_the_counts_keep_what_they_held() {
-    let mut program = loaded_lamp();
+    let mut program = loaded(&lamp());
     answer(&mut program, Command::Run { time: 0, limit: 16 });
     let before = program.tables.words.clone();
     answer(&mut program, Command::Load(file_of(&[component(7, 0, 0, 1, 50)])));
@@ -107,7 +101,7 @@ fn entries_past_the_counts_keep_what_they_held() {
 
 #[test]
 fn a_refusal_changes_no_table() {
-    let mut program = loaded_lamp();
+    let mut program = loaded(&lamp());
     answer(&mut program, Command::WriteWord { table: 4, place: 3, word: 9 });
     let before = answer(&mut program, Command::All);
     answer(&mut program, Command::Round { time: 0 });

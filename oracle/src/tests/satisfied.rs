@@ -1,8 +1,8 @@
 //! Satisfied or not.
 
-use super::{answer, component, connection, lamp};
+use super::{answer, component, connection, lamp, loaded};
 use crate::command::Command;
-use crate::gen::drawing::{drawing, file_of, running_profile};
+use crate::gen::drawing::{drawing, running_profile};
 use crate::gen::random::Random;
 use crate::gen::rounds::edit;
 use crate::plain::drawing::Record;
@@ -11,12 +11,6 @@ use crate::tables::{CURRENT, FOLLOWING, INPUTS, OUTPUTS, STANDING};
 
 const YES: &str = "satisfied 0 1\n";
 const NO: &str = "satisfied 0 0\n";
-
-fn loaded(records: &[Record]) -> Program {
-    let mut program = Program::new();
-    assert_eq!(answer(&mut program, Command::Load(file_of(records))), "load 0 0 0\n");
-    program
-}
 
 fn satisfied(program: &mut Program) -> String {
     answer(program, Command::Satisfied)

@@ -3,6 +3,7 @@
 use mathlib.Core.Path.{_∙_}
 use Rattle.tables.specs.declared.Counts.{Counts}
 use Rattle.tables.specs.Tables.{Tables, tablesOf, answerGives}
+use Rattle.simulator.specs.Edit.{goesFirst}
 use Rattle.simulator.specs.Calls.{Edits}
 use Rattle.words.proofs.PlainLaws.{plain-fits, plain-spoken}
 use Rattle.words.proofs.SaidLaws.{change-short, change-made}
@@ -37,7 +38,7 @@ returns-2 c =
     let r = c .before .before .before .before .before .before .before .before .before .before .edit in
     let k = c .before .before .keep in
     let p = edited-plain (came s (m .result)) (s .args .index) (s .args .number) (answerGives (r .result)) _ (r .ensures .0) in
-    change-made (Edits (s .args .index) (s .args .number)) (s .args .counts .now) (came s) (r .result) (m .result) (k .last .0) _ (k .result)
+    change-made (Edits goesFirst (s .args .index) (s .args .number)) (s .args .counts .now) (came s) (r .result) (m .result) (k .last .0) _ (k .result)
     (c .before .before .before .before .before .before .before .before .before .before .before .before .before .before .before .before .if1 .left) (m .ensures)
     (r .ensures) (k .ensures .0 ∙ plain-spoken (answerGives (r .result)) p) (k .ensures .1)
 

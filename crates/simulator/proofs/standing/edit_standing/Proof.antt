@@ -1,14 +1,15 @@
--- `edit`: refused by the number, or the port set and the component in the standing list.
+-- `edit_standing`: refused by the number, or the port set and the component in the standing list.
 -- Assumes nothing.
 use mathlib.Core.Path.{_≡_, sym, _∙_}
 use native.Mathlib.Omega.{arith}
 use Rattle.tables.specs.Tables.{Tables, tablesOf}
+use Rattle.simulator.specs.Edit.{stands}
 use Rattle.simulator.specs.Calls.{editNumber}
 use Rattle.rounds.proofs.Sound.{standing-in}
-use Rattle.simulator.proofs.EditsLaws.{edit-row, edit-index, edit-output, edit-input, edit-is-net, edit-room, edit-kept, edit-made}
+use Rattle.simulator.proofs.EditsLaws.{edit-row, edit-index, edit-output, edit-input, edit-is-net, edit-room, edit-kept, edit-stands}
 use borrow.Author.Needs.{needs}
-use Rattle.simulator.proofs.edits.edit.Statement.{statement}
-use Rattle.simulator.proofs.edits.edit.Tie as tie
+use Rattle.simulator.proofs.standing.edit_standing.Statement.{statement}
+use Rattle.simulator.proofs.standing.edit_standing.Tie as tie
 
 abbrev came : tie.Start → Tables
 came s =
@@ -29,7 +30,7 @@ returns c =
     let a = s .args in
     rw (c .refused-by .ensures) (edit-kept (a .components .now) (a .inputs .now) (a .outputs .now) (a .wires .now) (a .current .now)
     (a .following .now) (a .standing .now)
-    (a .counts) (a .index .0) (a .number) _ (c .before .before .edit-checks .ensures) (c .before .if1 .taken))
+    (a .counts) (a .index .0) (a .number) stands _ (c .before .before .edit-checks .ensures) (c .before .if1 .taken))
 
 set-port-requires : tie.Need-set-port-requires
 set-port-requires c κs =
@@ -67,12 +68,12 @@ returns-2 c =
     let a = s .args in
     let p = at-set-port .set-port .ensures in
     let e = c .before .before .append-new .ensures in
-    edit-made (a .components .now) (a .inputs .now) (a .outputs .now) (a .wires .now) (a .current .now)
+    edit-stands (a .components .now) (a .inputs .now) (a .outputs .now) (a .wires .now) (a .current .now)
     (a .following .now) (a .standing .now)
-    (a .counts) (a .index .0) (a .number) (passed at-place) _ _ _ _ (p .0) (p .1) (e .0) (e .1)
+    (a .counts) (a .index .0) (a .number) (passed at-place) _ _ (p .0) (p .1) _ _ (e .0) (e .1)
 
-pub edit-spec : {M : Type 1} → statement M
-edit-spec =
+pub edit-standing-spec : {M : Type 1} → statement M
+edit-standing-spec =
     tie.close
     (tie.spec
     (λ c κs. search needs)

@@ -1,0 +1,47 @@
+// An edit of the old way, called from C.
+ghost use Rattle.tables.specs.Tables.{tablesOf};
+ghost use Rattle.simulator.specs.Edit.{stands};
+ghost use Rattle.simulator.specs.Calls.{Edits};
+ghost use Rattle.words.specs.Said.{short, CallChanges};
+use tables::FlatIdx;
+use words::counts_in;
+use words::keep;
+
+// An edit of the component at an index to a plain number: the component stands, and is evaluated no later than the third round after.
+#[no_mangle]
+pub extern "C" fn berxundar_edit_standing(
+    components: &[u64],
+    inputs: &mut [u64],
+    outputs: &mut [u64],
+    wires: &[u16],
+    current: &[u16],
+    following: &[u16],
+    standing: &mut [u16],
+    counts: &mut [u64],
+    index: usize,
+    number: u64,
+) -> u32
+    ensures { λ r.
+        let lent = tablesOf (now (components .entry)) (now (inputs .entry)) (now (outputs .entry)) (now (wires .entry))
+        (now (current .entry)) (now (following .entry)) (now (standing .entry)) in
+        let left = tablesOf (now (components .entry)) (now (inputs .exit)) (now (outputs .exit)) (now (wires .entry))
+        (now (current .entry)) (now (following .entry)) (now (standing .exit)) in
+        ⌜ CallChanges (Edits stands index number) (short (now (counts .entry)) 7) (now (counts .entry)) (now (counts .exit)) lent left r ⌝ }
+{
+    if counts.len() < 7 {
+        return 131072;
+    }
+    let answer = simulator::edit_standing(
+        components,
+        inputs,
+        outputs,
+        wires,
+        current,
+        following,
+        standing,
+        counts_in(counts),
+        FlatIdx(index),
+        number,
+    );
+    keep(counts, answer)
+}

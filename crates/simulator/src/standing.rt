@@ -1,0 +1,53 @@
+// The old way of an edit, in which its component stands. Rule: docs/SPECIFICATION.md, "Rounds" and "Numbers given back".
+ghost use Rattle.tables.specs.Tables.{tablesOf, countsAfter};
+ghost use Rattle.simulator.specs.Edit.{stands};
+ghost use Rattle.simulator.specs.Calls.{Edits};
+use crate::edits::edit_checks;
+use crate::edits::set_port;
+use kinds::refused_by;
+use tables::Answer;
+use tables::Counts;
+use tables::FlatIdx;
+
+// The old way of an edit: appends the component to the standing list unless there, so that it is evaluated no later than the third round
+// after. The runs against the Rust and the timing case ask for it.
+pub fn edit_standing(
+    components: &[u64],
+    inputs: &mut [u64],
+    outputs: &mut [u64],
+    wires: &[u16],
+    current: &[u16],
+    following: &[u16],
+    standing: &mut [u16],
+    counts: Counts,
+    index: FlatIdx,
+    number: u64,
+) -> Answer
+    ensures { λ r.
+        let before = tablesOf (now (components .entry)) (now (inputs .entry)) (now (outputs .entry)) (now (wires .entry))
+        (now (current .entry)) (now (following .entry)) (now (standing .entry)) counts in
+        let after = tablesOf (now (components .entry)) (now (inputs .exit)) (now (outputs .exit)) (now (wires .entry))
+        (now (current .entry)) (now (following .entry)) (now (standing .exit)) (countsAfter r counts) in
+        ⌜ Edits stands (index .0) number before r after ⌝ }
+{
+    let i = index.0;
+    let refused = edit_checks(
+        components,
+        inputs,
+        outputs,
+        wires,
+        current,
+        following,
+        standing,
+        counts,
+        i,
+        number,
+    );
+    if refused != 0 {
+        return Answer::Refused(refused_by(refused));
+    }
+    set_port(components, inputs, outputs, i, number);
+    let mut left = counts;
+    left.standing = tables::append_new(standing, counts.standing, i as u16);
+    Answer::Done(left)
+}
