@@ -1,5 +1,5 @@
--- What the definitions make of the lamp drawing: its verdict, its wires, its lists round by round, the timing case, the same with an edit that goes first, and which outputs moved.
--- Each is a computation. Assumes nothing.
+-- What the definitions make of the lamp drawing: its verdict, its wires, its lists round by round, the timing case, the same with an edit that goes
+-- first, and which outputs moved. Each is a computation. Assumes nothing.
 use mathlib.Core.Path.{_≡_, refl}
 use mathlib.Core.Bool.{true, false}
 use mathlib.Core.List.{[], _∷_, map}

@@ -32,8 +32,8 @@ module _ {A : Type 0} (gives : A → Given) (is : (a b : A) → gives a ≡ give
 equation : {A : Type 0} (x : A) → DeterminedAnswer (λ (a : A). a ≡ x)
 equation x a a′ p q = p ∙ sym q
 
--- For evaluating one component, a load, a round, an edit of either way, a run until calm, and the questions and looks that write lent lists; then for judging, also as
--- the host's two calls, check 16, calm, satisfied, the index of an id, a port's value, and a value's methods.
+-- For evaluating one component, a load, a round, an edit of either way, a run until calm, and the questions and looks that write lent lists; then for
+-- judging, also as the host's two calls, check 16, calm, satisfied, the index of an id, a port's value, and a value's methods.
 pub determinacy : Determinacy
 determinacy = (
   λ f xs vs ys ws t. outcome evaluatedGives evaluatedGives-is

@@ -65,7 +65,7 @@ switched T i v s = withOutputs (set (s .outputs) (firstOutput T i) v) s
 unfoldable pub fed : Tables → ℕ → ℕ → State → State
 fed T i v s = withInputs (set (s .inputs) (firstInput T i) v) s
 
--- An edit sets a port in one of the two ways.
+-- An edit sets the one or the other.
 pub data EditCase (T : Tables) (i v : ℕ) (s : State) : Type 0 where
   switch : is Switch (fieldsAt T i) ≡ true → fits (ofWidth (outputWidth (fieldsAt T i)) v) ≡ true
       → portSet T i v s ≡ switched T i v s → EditCase T i v s

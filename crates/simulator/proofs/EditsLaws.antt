@@ -22,13 +22,13 @@ use Rattle.kinds.specs.Given.{refusedBy}
 use Rattle.tables.specs.declared.Counts.{Counts}
 use Rattle.tables.specs.declared.Answer.the-variants.{Done, Refused}
 use Rattle.tables.specs.Tables.{Tables, tablesOf, fieldsAt, firstInput, firstOutput, currentList, standingList, wireAt}
-use Rattle.tables.specs.Words.{RowInside, fieldsIn, firstInputIn, firstOutputIn}
+use Rattle.tables.specs.Words.{RowInside, fieldsIn}
 use Rattle.net.specs.Net.{netNumber}
 use Rattle.net.proofs.NetLaws.{netNumber-net, netNumber-sizes}
 use Rattle.rounds.specs.Round.{State, withInputs, withOutputs, stateOf, leave}
 use Rattle.simulator.specs.Edit.{Way, goesFirst, stands, portSet, editedState}
-use Rattle.simulator.specs.Calls.{driven, editNumber, editTables, Edits}
-use Rattle.simulator.specs.Asked.{entered, editRefusal}
+use Rattle.simulator.specs.Calls.{after, driven, editNumber, editTables, Edits}
+use Rattle.simulator.specs.Asked.{entered, editRefusal, inputsSet, outputsSet}
 use Rattle.rounds.proofs.RoundLaws.{net-rows}
 use Rattle.rounds.proofs.Evaluation.{switch-outputs, input-inputs}
 use Rattle.rounds.proofs.Sound.{net-sound, net-within, current-in, following-in, standing-in}
@@ -165,6 +165,10 @@ portSet-ports T i v s = by-kind (is Switch (fieldsAt T i))
     by-kind true = refl
     by-kind false = refl
 
+-- A refusal leaves what there was.
+pub after-refused : {A : Type 0} (k : ℕ) (new old : A) → (k ≡ 0 → ⊥) → old ≡ after k new old
+after-refused k new old ne = rw (ne-eqb k 0 ne)
+
 -- A table with its own list at its front.
 overlay-same : (n : ℕ) (t : List ℕ) → n ≤ length t → overlay (take n t) t ≡ t
 unfolding overlay
@@ -174,10 +178,6 @@ overlay-same n t h = rw (length-take-le n t h) (take-append-drop n t)
 module _ (cs ins outs ws cur fol std : List ℕ) (m : Counts) (i v : ℕ) where
   abbrev came : Tables
   came = tablesOf cs ins outs ws cur fol std m
-
-  pub edit-kept : (way : Way) (k : ℕ) → k ≡ editNumber came i v → (k ≡ 0 → ⊥) → Edits way i v came (Refused (refusedBy k)) came
-  unfolding editTables
-  edit-kept way k e ne = rw (← e, ne-eqb k 0 ne) (refl, refl)
 
   -- The counts with those of the current and the standing list put anew.
   abbrev counted : ℕ → ℕ → Counts
@@ -192,51 +192,57 @@ module _ (cs ins outs ws cur fol std : List ℕ) (m : Counts) (i v : ℕ) where
         standing = n;
       }
 
-  module _ (z : editNumber came i v ≡ 0) (ins' outs' : List ℕ)
-      (ei : ins' ≡ cond (is Switch (fieldsIn cs i)) ins (set ins (firstInputIn cs i) v))
-      (eo : outs' ≡ cond (is Switch (fieldsIn cs i)) (set outs (firstOutputIn cs i) v) outs) where
-    -- The component goes first: the current list has it,
-    module _ (cur' : List ℕ) (n : ℕ) (en : n ≡ length (appendNew i (take (m .current) cur)))
-        (es : cur' ≡ overlay (appendNew i (take (m .current) cur)) cur) where
-      put-first : tablesOf cs ins' outs' ws cur' fol std (counted n (m .standing)) ≡ editTables goesFirst came i v
-      unfolding editTables leave editedState
-      put-first =
-          let net = edit-is-net came i v z in
-          rw (
-            z,
-            portSet-ports came i v (stateOf came),
-            ei,
-            eo,
-            en,
-            es,
-            overlay-same (m .following) fol (following-in came net),
-            overlay-same (m .standing) std (standing-in came net),
-            length-take-le (m .following) fol (following-in came net),
-            length-take-le (m .standing) std (standing-in came net),
-          )
+  -- The number k was given, and the port set where it is 0.
+  module _ (k : ℕ) (e : k ≡ editNumber came i v) (ins' outs' : List ℕ) (ei : ins' ≡ after k (inputsSet cs i v ins) ins)
+      (eo : outs' ≡ after k (outputsSet cs i v outs) outs) where
+    -- Refused: nothing was written.
+    pub edit-kept : (way : Way) → (k ≡ 0 → ⊥) → Edits way i v came (Refused (refusedBy k)) (tablesOf cs ins' outs' ws cur fol std m)
+    unfolding editTables
+    edit-kept way ne = rw (← e, ei, eo, ne-eqb k 0 ne) (refl, refl)
 
-      pub edit-first : Edits goesFirst i v came (Done (counted n (m .standing))) (tablesOf cs ins' outs' ws cur' fol std (counted n (m .standing)))
-      edit-first = (rw z refl, put-first)
+    module _ (z : k ≡ 0) where
+      none : editNumber came i v ≡ 0
+      none = sym e ∙ z
 
-    -- or it stands: the standing list has it.
-    module _ (std' : List ℕ) (n : ℕ) (en : n ≡ length (appendNew i (take (m .standing) std)))
-        (es : std' ≡ overlay (appendNew i (take (m .standing) std)) std) where
-      put-standing : tablesOf cs ins' outs' ws cur fol std' (counted (m .current) n) ≡ editTables stands came i v
-      unfolding editTables leave editedState
-      put-standing =
-          let net = edit-is-net came i v z in
-          rw (
-            z,
-            portSet-ports came i v (stateOf came),
-            ei,
-            eo,
-            en,
-            es,
-            overlay-same (m .current) cur (current-in came net),
-            overlay-same (m .following) fol (following-in came net),
-            length-take-le (m .current) cur (current-in came net),
-            length-take-le (m .following) fol (following-in came net),
-          )
+      net : netNumber came ≡ 0
+      net = edit-is-net came i v none
 
-      pub edit-stands : Edits stands i v came (Done (counted (m .current) n)) (tablesOf cs ins' outs' ws cur fol std' (counted (m .current) n))
-      edit-stands = (rw z refl, put-standing)
+      -- The component goes first: the current list has it,
+      module _ (cur' : List ℕ) (n : ℕ) (en : n ≡ length (appendNew i (take (m .current) cur)))
+          (es : cur' ≡ overlay (appendNew i (take (m .current) cur)) cur) where
+        pub edit-first : Edits goesFirst i v came (Done (counted n (m .standing))) (tablesOf cs ins' outs' ws cur' fol std (counted n (m .standing)))
+        unfolding editTables leave editedState
+        edit-first =
+            rw (
+              none,
+              portSet-ports came i v (stateOf came),
+              ei,
+              eo,
+              z,
+              en,
+              es,
+              overlay-same (m .following) fol (following-in came net),
+              overlay-same (m .standing) std (standing-in came net),
+              length-take-le (m .following) fol (following-in came net),
+              length-take-le (m .standing) std (standing-in came net),
+            ) (refl, refl)
+
+      -- or it stands: the standing list has it.
+      module _ (std' : List ℕ) (n : ℕ) (en : n ≡ length (appendNew i (take (m .standing) std)))
+          (es : std' ≡ overlay (appendNew i (take (m .standing) std)) std) where
+        pub edit-stands : Edits stands i v came (Done (counted (m .current) n)) (tablesOf cs ins' outs' ws cur fol std' (counted (m .current) n))
+        unfolding editTables leave editedState
+        edit-stands =
+            rw (
+              none,
+              portSet-ports came i v (stateOf came),
+              ei,
+              eo,
+              z,
+              en,
+              es,
+              overlay-same (m .current) cur (current-in came net),
+              overlay-same (m .following) fol (following-in came net),
+              length-take-le (m .current) cur (current-in came net),
+              length-take-le (m .following) fol (following-in came net),
+            ) (refl, refl)

@@ -1,15 +1,15 @@
 // What edits of both ways share: their checks, and the port that is set, a Switch's output or the input of an Input that no wire enters.
 // Rule: docs/SPECIFICATION.md, "Rounds" and "Numbers given back". The Rust has none.
 ghost use mathlib.Core.Path.{_≡_};
-ghost use mathlib.Core.Bool.{true, cond};
+ghost use mathlib.Core.Bool.{true};
 ghost use Prim.Native.Nat.{_<_};
-ghost use lib.ListN.{length, set};
+ghost use lib.ListN.{length};
 ghost use Rattle.kinds.specs.declared.Kind.the-variants.{Switch};
 ghost use Rattle.kinds.specs.Kinds.{is};
 ghost use Rattle.tables.specs.Tables.{tablesOf};
 ghost use Rattle.tables.specs.Words.{RowInside, WiresInside, fieldsFit, fieldsIn, firstInputIn, firstOutputIn};
-ghost use Rattle.simulator.specs.Calls.{editNumber};
-ghost use Rattle.simulator.specs.Asked.{entered, editRefusal};
+ghost use Rattle.simulator.specs.Calls.{after, editNumber};
+ghost use Rattle.simulator.specs.Asked.{entered, editRefusal, inputsSet, outputsSet};
 use kinds::Kind;
 use tables::Counts;
 use value::Value;
@@ -59,20 +59,12 @@ fn edit_number(components: &[u64], wires: &[u16], counts: Counts, i: usize, numb
 }
 
 // Sets the output of a Switch, and of any other component the first input.
-pub(crate) fn set_port(
-    components: &[u64],
-    inputs: &mut [u64],
-    outputs: &mut [u64],
-    i: usize,
-    number: u64,
-)
+fn set_port(components: &[u64], inputs: &mut [u64], outputs: &mut [u64], i: usize, number: u64)
     requires { ⌜ RowInside (now components) i
         × (is Switch (fieldsIn (now components) i) ≡ true → firstOutputIn (now components) i < length (now outputs))
         × ((is Switch (fieldsIn (now components) i) ≡ true → ⊥) → firstInputIn (now components) i < length (now inputs)) ⌝ }
-    ensures { λ _. ⌜ (now (inputs .exit) ≡ cond (is Switch (fieldsIn (now (components .entry)) i)) (now (inputs .entry))
-        (set (now (inputs .entry)) (firstInputIn (now (components .entry)) i) number))
-        × (now (outputs .exit) ≡ cond (is Switch (fieldsIn (now (components .entry)) i))
-        (set (now (outputs .entry)) (firstOutputIn (now (components .entry)) i) number) (now (outputs .entry))) ⌝ }
+    ensures { λ _. ⌜ (now (inputs .exit) ≡ inputsSet (now (components .entry)) i number (now (inputs .entry)))
+        × (now (outputs .exit) ≡ outputsSet (now (components .entry)) i number (now (outputs .entry))) ⌝ }
 {
     if tables::is_kind(components, i, Kind::Switch) {
         let at = tables::first_output(components, i);
@@ -84,7 +76,7 @@ pub(crate) fn set_port(
 }
 
 // What an edit checks, on any tables: 2 and 16, then the rest.
-pub(crate) fn edit_checks(
+fn edit_checks(
     components: &[u64],
     inputs: &[u64],
     outputs: &[u64],
@@ -113,4 +105,41 @@ pub(crate) fn edit_checks(
         return refused;
     }
     edit_number(components, wires, counts, i, number)
+}
+
+// Makes the checks of an edit, on any tables, and sets the port where none refuses. The answer is the number.
+pub(crate) fn set_or_refuse(
+    components: &[u64],
+    inputs: &mut [u64],
+    outputs: &mut [u64],
+    wires: &[u16],
+    current: &[u16],
+    following: &[u16],
+    standing: &[u16],
+    counts: Counts,
+    i: usize,
+    number: u64,
+) -> u32
+    ensures { λ r. ⌜ (r ≡ editNumber (tablesOf (now (components .entry)) (now (inputs .entry)) (now (outputs .entry)) (now (wires .entry))
+        (now (current .entry)) (now (following .entry)) (now (standing .entry)) counts) i number)
+        × (now (inputs .exit) ≡ after r (inputsSet (now (components .entry)) i number (now (inputs .entry))) (now (inputs .entry)))
+        × (now (outputs .exit) ≡ after r (outputsSet (now (components .entry)) i number (now (outputs .entry))) (now (outputs .entry))) ⌝ }
+{
+    let refused = edit_checks(
+        components,
+        inputs,
+        outputs,
+        wires,
+        current,
+        following,
+        standing,
+        counts,
+        i,
+        number,
+    );
+    if refused != 0 {
+        return refused;
+    }
+    set_port(components, inputs, outputs, i, number);
+    0
 }

@@ -2,8 +2,7 @@
 ghost use Rattle.tables.specs.Tables.{tablesOf, countsAfter};
 ghost use Rattle.simulator.specs.Edit.{goesFirst};
 ghost use Rattle.simulator.specs.Calls.{Edits};
-use crate::edits::edit_checks;
-use crate::edits::set_port;
+use crate::edits::set_or_refuse;
 use kinds::refused_by;
 use tables::Answer;
 use tables::Counts;
@@ -30,8 +29,7 @@ pub fn edit(
         (now (current .exit)) (now (following .entry)) (now (standing .entry)) (countsAfter r counts) in
         ⌜ Edits goesFirst (index .0) number before r after ⌝ }
 {
-    let i = index.0;
-    let refused = edit_checks(
+    let refused = set_or_refuse(
         components,
         inputs,
         outputs,
@@ -40,14 +38,13 @@ pub fn edit(
         following,
         standing,
         counts,
-        i,
+        index.0,
         number,
     );
     if refused != 0 {
         return Answer::Refused(refused_by(refused));
     }
-    set_port(components, inputs, outputs, i, number);
     let mut left = counts;
-    left.current = tables::append_new(current, counts.current, i as u16);
+    left.current = tables::append_new(current, counts.current, index.0 as u16);
     Answer::Done(left)
 }
