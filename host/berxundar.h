@@ -212,16 +212,16 @@ uint32_t berxundar_round(
     uint16_t *following, size_t following_length, uint16_t *standing, size_t standing_length, uint64_t *counts,
     size_t counts_length, uint64_t time, uint64_t *moved, size_t moved_length);
 
-/* Sets the component at an index, and appends it to the current list unless there: it is evaluated in the very next round, whatever
- * edits come between: 2, 16, 17, 18, 19. */
+/* Sets the component at an index, a Switch or an Input that no wire enters, and appends it to the current list unless there, so
+ * that the very next round evaluates it, whatever edits come between: 2, 16, 17, 18, 19. */
 uint32_t berxundar_edit(
     const uint64_t *components, size_t components_length, uint64_t *inputs, size_t inputs_length, uint64_t *outputs,
     size_t outputs_length, const uint16_t *wires, size_t wires_length, uint16_t *current, size_t current_length,
     const uint16_t *following, size_t following_length, const uint16_t *standing, size_t standing_length, uint64_t *counts,
     size_t counts_length, size_t index, uint64_t number);
 
-/* The old way, for hosts that count rounds as they always did: sets it too, and appends it to the standing list unless there, so
- * that it is evaluated no later than in the third round after: 2, 16, 17, 18, 19. Both ways may be mixed. */
+/* The old way, for hosts that count rounds as they always did: sets it likewise, and appends it to the standing list unless there,
+ * so that it is evaluated no later than in the third round after: 2, 16, 17, 18, 19. Both ways may be mixed. */
 uint32_t berxundar_edit_standing(
     const uint64_t *components, size_t components_length, uint64_t *inputs, size_t inputs_length, uint64_t *outputs,
     size_t outputs_length, const uint16_t *wires, size_t wires_length, const uint16_t *current, size_t current_length,

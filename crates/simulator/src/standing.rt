@@ -8,8 +8,8 @@ use tables::Answer;
 use tables::Counts;
 use tables::FlatIdx;
 
-// The old way of an edit: appends the component to the standing list unless there, so that it is evaluated no later than the third round
-// after. The runs against the Rust and the timing case ask for it.
+// The old way of an edit: sets the port likewise and appends the component to the standing list unless there, so that it is evaluated no
+// later than the third round after. A refusal changes no table. The runs against the Rust and the timing case ask for it.
 pub fn edit_standing(
     components: &[u64],
     inputs: &mut [u64],
