@@ -1,11 +1,14 @@
--- What appending an edit's component to the list of its way leaves: the ports, and every name; and its component is named. Each law is one for each way.
+-- What appending an edit's component to the list of its way leaves: the ports, and every name; and its component is named. Where the ways differ,
+-- a law has a clause for each.
 -- Assumes nothing.
+use mathlib.Core.List.{List}
 use Prim.Native.Nat.{ℕ, _<_}
+use Rattle.lists.specs.Lists.{appendNew}
 use Rattle.lists.proofs.MembersLaws.{In}
-use Rattle.lists.proofs.NamesLaws.{names-append, appendNew-has, appendNew-kept}
+use Rattle.lists.proofs.NamesLaws.{Names, names-append, appendNew-has, appendNew-kept}
 use Rattle.tables.specs.declared.Wire.{Wire}
 use Rattle.tables.specs.Tables.{Tables}
-use Rattle.rounds.specs.Round.{State}
+use Rattle.rounds.specs.Round.{State, withCurrent, withStanding}
 use Rattle.simulator.specs.Edit.{Way, goesFirst, stands, appended}
 use Rattle.rounds.proofs.Held.{Held, Agree}
 use Rattle.quiet.proofs.Invariant.{Fits, Named, now, next, later}
@@ -44,27 +47,22 @@ module _ (T : Tables) (i : ℕ) (s : State) where
   appended-fits goesFirst t d f = f
   appended-fits stands t d f = f
 
-  -- What a net holds it still holds.
+  -- Other lists in the state: what a net holds it still holds, where they name components, none twice.
+  listed-held : (c d : List ℕ) → Names (T .counts .components) c → Names (T .counts .components) d → Held T s → Held T (withCurrent c (withStanding d s))
+  listed-held c d named standing a =
+      record {
+        inputs-length = a .inputs-length;
+        outputs-length = a .outputs-length;
+        inputs-fit = a .inputs-fit;
+        outputs-fit = a .outputs-fit;
+        consts = a .consts;
+        current = named;
+        following = a .following;
+        standing = standing;
+      }
+
   pub appended-held : (way : Way) → i < T .counts .components → Held T s → Held T (appended way i s)
   appended-held goesFirst h a =
-      record {
-        inputs-length = a .inputs-length;
-        outputs-length = a .outputs-length;
-        inputs-fit = a .inputs-fit;
-        outputs-fit = a .outputs-fit;
-        consts = a .consts;
-        current = names-append (T .counts .components) i (s .current) h (a .current);
-        following = a .following;
-        standing = a .standing;
-      }
+      listed-held (appendNew i (s .current)) (s .standing) (names-append (T .counts .components) i (s .current) h (a .current)) (a .standing) a
   appended-held stands h a =
-      record {
-        inputs-length = a .inputs-length;
-        outputs-length = a .outputs-length;
-        inputs-fit = a .inputs-fit;
-        outputs-fit = a .outputs-fit;
-        consts = a .consts;
-        current = a .current;
-        following = a .following;
-        standing = names-append (T .counts .components) i (s .standing) h (a .standing);
-      }
+      listed-held (s .current) (appendNew i (s .standing)) (a .current) (names-append (T .counts .components) i (s .standing) h (a .standing)) a

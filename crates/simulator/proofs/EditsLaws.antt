@@ -23,7 +23,7 @@ use Rattle.tables.specs.declared.Counts.{Counts}
 use Rattle.tables.specs.declared.Answer.the-variants.{Done, Refused}
 use Rattle.tables.specs.Tables.{Tables, tablesOf, fieldsAt, firstInput, firstOutput, currentList, standingList, wireAt}
 use Rattle.tables.specs.Words.{RowInside, fieldsIn}
-use Rattle.net.specs.Net.{netNumber}
+use Rattle.net.specs.Net.{names, netNumber}
 use Rattle.net.proofs.NetLaws.{netNumber-net, netNumber-sizes}
 use Rattle.rounds.specs.Round.{State, withInputs, withOutputs, stateOf, leave}
 use Rattle.simulator.specs.Edit.{Way, goesFirst, stands, portSet, editedState}
@@ -142,15 +142,15 @@ module _ (T : Tables) (i v : ℕ) (z : editNumber T i v ≡ 0) where
   pub edit-index : i < 65536
   edit-index = omega (arith, edit-there, net-within T edit-is-net .components)
 
+  -- A list of the net has room for the component, in its table of full size.
+  room : (l t : List ℕ) → names T l ≡ true → 256 ≤ length t → length (appendNew i l) ≤ length t
+  room l t named size = append-room T i l t named edit-there (net-within T edit-is-net .components) size
+
   pub edit-room-first : length (appendNew i (currentList T)) ≤ length (T .current)
-  edit-room-first =
-      append-room T i (currentList T) (T .current) (netNumber-net T edit-is-net .current) edit-there
-      (net-within T edit-is-net .components) (netNumber-sizes T edit-is-net .current)
+  edit-room-first = room (currentList T) (T .current) (netNumber-net T edit-is-net .current) (netNumber-sizes T edit-is-net .current)
 
   pub edit-room : length (appendNew i (standingList T)) ≤ length (T .standing)
-  edit-room =
-      append-room T i (standingList T) (T .standing) (netNumber-net T edit-is-net .standing) edit-there
-      (net-within T edit-is-net .components) (netNumber-sizes T edit-is-net .standing)
+  edit-room = room (standingList T) (T .standing) (netNumber-net T edit-is-net .standing) (netNumber-sizes T edit-is-net .standing)
 
 -- Both tables of ports after a port is set; the lists are left.
 pub portSet-ports : (T : Tables) (i v : ℕ) (s : State)
