@@ -39,7 +39,8 @@
  * of lighting below holds again from the next load on.
  *
  * EVERY CALL takes any bytes, any words and any lengths, ends, and answers a number times 65,536 plus a position: 0 where it is
- * done. The position is a record of the file, from 0, and is 0 in each call but a judgement, a load and a look. (One judgement,
+ * done. The position is a record of the file, from 0, and is 0 in each call but a judgement, a load, a look and a
+ * mending. (One judgement,
  * `berxundar_judge_pair`, has a third number below the position: the other of two records that enter one input.) The same words
  * always give the same answer. A call that is refused writes nothing at all.
  *
@@ -89,6 +90,10 @@ extern "C" {
 /* A record of a drawing file, and the longest file that can be accepted, in bytes. */
 #define BERXUNDAR_RECORD 24
 #define BERXUNDAR_FILE (BERXUNDAR_RECORD * 1024)
+
+/* The longest file that can be mended, one of 1,024 records and a part, and full size of the list of what was dropped. */
+#define BERXUNDAR_DAMAGED (BERXUNDAR_FILE + BERXUNDAR_RECORD - 1)
+#define BERXUNDAR_DROPPED 1025
 
 /* The most inputs, and the most outputs, of one component; the most bits of a value. */
 #define BERXUNDAR_PORTS 64
@@ -295,6 +300,17 @@ uint32_t berxundar_look(const uint8_t *file, size_t file_length,
     const uint16_t *following, size_t following_length, const uint16_t *standing, size_t standing_length, const uint64_t *counts,
     size_t counts_length, const uint32_t *path, size_t path_length, uint64_t *numbers, size_t numbers_length, uint64_t *widths,
     size_t widths_length, uint64_t *found, size_t found_length);
+
+/* Mends a damaged drawing: `file` is read, `mended` written, and in `dropped` stand the positions of the records that were left out,
+ * ascending: 1 to 12, 14, 15. A part record at the end is dropped, its position being the number of whole records before it; and so is
+ * each connection or input map that names a child or a port which is not there, or an input that a record kept before it enters.
+ * All else stands in order with its bytes: a drawing that is accepted comes out as it is. What comes out is judged; if it is still
+ * refused, the answer is that number, with the position in what would have come out, and nothing is written. found[0] is how many
+ * bytes are written, found[1] how many positions. `mended` has as many entries as `file`, or more, `dropped` 1,025 or more, those
+ * past what is written keep what they held, and `found` has 2 entries or more. A file of no whole record, or of more than 1,024, is
+ * refused (1) before all that. No tables are lent. */
+uint32_t berxundar_mend(const uint8_t *file, size_t file_length, uint8_t *mended, size_t mended_length, uint16_t *dropped,
+    size_t dropped_length, uint64_t *found, size_t found_length);
 
 /* Whether the tables are a net: 2, 16. */
 uint32_t berxundar_check(

@@ -5,7 +5,7 @@ use Prim.Native.Nat.{ℕ}
 use mathlib.Core.Bool.{Bool, cond}
 use mathlib.Core.List.{List, [], _∷_}
 use mathlib.Core.Option.{Option, none, some}
-use Rattle.lists.specs.Lists.{from, first}
+use Rattle.lists.specs.Lists.{from, first, overlay}
 use Rattle.kinds.specs.Given.{Given, done, declined, spoken}
 use Rattle.component.specs.declared.Record.{Record}
 use Rattle.component.specs.declared.Verdict.{Verdict}
@@ -42,6 +42,11 @@ verdict file = cond (sized file) (judged (recordCount file) (checks (recordAt fi
 abbrev pub verdictGives : Verdict → List ℕ → Given
 verdictGives Accepted xs = done xs
 verdictGives (Refused r) xs = declined r
+
+-- A lent list after a call of that verdict: xs at its front; a refusal changes none of it.
+abbrev pub listBy : Verdict → List ℕ → List ℕ → List ℕ
+listBy Accepted xs lent = overlay xs lent
+listBy (Refused r) xs lent = lent
 
 -- The promise of the host's first call, which "goes on answering 13".
 abbrev pub Speaks : List ℕ → ℕ → Type 0

@@ -6,7 +6,7 @@ use mathlib.Core.Bool.{cond, not, _&&_, _||_}
 use mathlib.Core.List.{List, [], _∷_, _++_, map}
 use lib.ListN.{length}
 use lib.Dec.{eqb, leb, ltb}
-use Rattle.lists.specs.Lists.{from, overlay, refusal, _if_}
+use Rattle.lists.specs.Lists.{from, refusal, _if_}
 use Rattle.value.specs.declared.Value.{Value}
 use Rattle.kinds.specs.Given.{Given, done, declined, refusedBy}
 use Rattle.component.specs.declared.Record.{Record}
@@ -14,7 +14,7 @@ use Rattle.component.specs.declared.Verdict.{Verdict}
 use Rattle.component.specs.declared.Verdict.the-variants.{Accepted, Refused}
 use Rattle.component.specs.Record.{recordAt, recordCount, inputsOf, outputsOf, sized}
 use Rattle.flatten.specs.Descent.{flat}
-use Rattle.flatten.specs.Verdict.{refused, verdictGives}
+use Rattle.flatten.specs.Verdict.{refused, verdictGives, listBy}
 use Rattle.tables.specs.Tables.{Tables}
 use Rattle.load.specs.Load.{loadVerdict}
 use Rattle.net.specs.Net.{isNet}
@@ -59,11 +59,6 @@ lookVerdict file T path ns ws = andThen (loadsOwn file T ns ws) (lookNumber (rec
 -- The values that it shows.
 abbrev pub valuesShown : List ℕ → Tables → List ℕ → List Value
 valuesShown file T path = shown (recordAt file) (recordCount file) T (lookedAt file path)
-
--- A lent list afterwards: xs at its front; a refusal changes none of it.
-abbrev pub listBy : Verdict → List ℕ → List ℕ → List ℕ
-listBy Accepted xs lent = overlay xs lent
-listBy (Refused r) xs lent = lent
 
 -- What each answer gives: how many inputs and how many outputs are shown.
 abbrev pub lookGives : Looked → Given

@@ -13,7 +13,7 @@ use Rattle.component.specs.Record.{recordAt, inputsOf, outputsOf}
 use Rattle.component.specs.Drawing.{deepest}
 use Rattle.component.proofs.Drawings.{lamp, lampTwice}
 use Rattle.flatten.specs.Descent.{outputBelow, inputsBelow, comesFrom, goesTo}
-use Rattle.flatten.specs.Verdict.{verdict, verdictGives}
+use Rattle.flatten.specs.Verdict.{verdict, verdictGives, listBy}
 use Rattle.meeting.specs.Meeting.{judgement}
 use Rattle.tables.specs.Tables.{Tables, fullSize}
 use Rattle.load.specs.Load.{drawingTables, loadVerdict, loadTables}
@@ -22,7 +22,7 @@ use Rattle.rounds.specs.Round.{leave, evaluated, send, visit, round, roundOf}
 use Rattle.simulator.specs.Edit.{stands, portSet, editedState}
 use Rattle.simulator.specs.Calls.{roundTables, editNumber, editTables}
 use Rattle.boxes.specs.Boxes.{matched, dangling}
-use Rattle.look.specs.Look.{shown, lookNumber, lookVerdict, lookedAt, valuesShown, listBy}
+use Rattle.look.specs.Look.{shown, lookNumber, lookVerdict, lookedAt, valuesShown}
 use Rattle.demands.proofs.Lamp.{lampLoaded, lampSet}
 use Rattle.looked.proofs.Boxes.{boxed, boxedOnce, withInputs}
 

@@ -1,0 +1,2 @@
+pub mod Mend
+pub mod Sifting

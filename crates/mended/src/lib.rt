@@ -1,0 +1,1 @@
+// No code: what a mending owes, said over the definitions of the crates below, and proved.
