@@ -40,7 +40,7 @@ use Rattle.component.specs.Drawing.{isComponent, child, deepest, holds, deeper,
 use Rattle.index.specs.Index.{IsIndex, outCount}
 use Rattle.lists.proofs.TestsLaws.{and-right-false, or-left}
 use Rattle.component.specs.Drawing.{fails3, fails4, fails5, fails6, fails7, fails8, fails9}
-use Rattle.component.specs.Drawing.{fails10, fails12, fails13, fails14, earlierOf}
+use Rattle.component.specs.Drawing.{missing, fails10, fails12, fails13, fails14, earlierOf}
 use Rattle.component.proofs.Says.{the-type}
 use Rattle.component.proofs.RecordLaws.{formBy-tag, no-component, refused-is, taken-is, taken-form, taken-owner, unseen-test, unseen-fields, seen-is}
 use Rattle.component.proofs.ScanLaws.{tested}
@@ -370,28 +370,32 @@ module _ (s : List ℕ) where
         → m ≡ length (outMaps (recordAt s) (length s / 24) p)
     fails14-counted o i f m h d = d ∙ ix .counts p (component-few o i f h)
 
-  -- 12: a refused record; by what a record says
+  -- what is missing, by what a record says
+  module _ (n o : ℕ) (x : Says) where
+    pub missing-component : {i : Id} {f : Fields} → x ≡ Component i f → false ≡ missing (recordAt s) n (apart o x)
+    missing-component k = rw k
+
+    pub missing-connection : (a c : ChildNo) (b d t u : ℕ) (v w : Bool) → x ≡ Connection a b c d
+        → t ≡ child (recordAt s) n o (a .0) → v ≡ ltb b (outputsOf (recordAt s t))
+        → u ≡ child (recordAt s) n o (c .0) → w ≡ ltb d (inputsOf (recordAt s u)) → not (v && w) ≡ missing (recordAt s) n (apart o x)
+    missing-connection a c b d t u v w k et ev eu ew = rw (ev, ew, et, eu, k)
+
+    pub missing-input-map : (c : ChildNo) (a d u : ℕ) (v w : Bool) → x ≡ InputMap a c d
+        → v ≡ ltb a (inputsOf (recordAt s o))
+        → u ≡ child (recordAt s) n o (c .0) → w ≡ ltb d (inputsOf (recordAt s u)) → not (v && w) ≡ missing (recordAt s) n (apart o x)
+    missing-input-map c a d u v w k ev eu ew = rw (ev, ew, eu, k)
+
+    pub missing-output-map : (a : ChildNo) (b t : ℕ) (v : Bool) → x ≡ OutputMap a b
+        → t ≡ child (recordAt s) n o (a .0) → v ≡ ltb b (outputsOf (recordAt s t)) → not v ≡ missing (recordAt s) n (apart o x)
+    missing-output-map a b t v k et ev = rw (ev, et, k)
+
+  -- 12: a refused record; one taken apart
   module _ (n p : ℕ) (r : Reading) (e : said r ≡ recordAt s p) where
     pub fails12-refused : {k : ℕ} → r ≡ Refused k → false ≡ fails12 (recordAt s) n p
     fails12-refused h = rw (refused-is (recordAt s p) r e h)
 
-    module _ (o : ℕ) (x : Says) (h : r ≡ Taken o x) where
-      pub fails12-component : {i : Id} {f : Fields} → x ≡ Component i f → false ≡ fails12 (recordAt s) n p
-      fails12-component k = rw (taken-is (recordAt s p) r e o x h, k)
-
-      pub fails12-connection : (a c : ChildNo) (b d t u : ℕ) (v w : Bool) → x ≡ Connection a b c d
-          → t ≡ child (recordAt s) n o (a .0) → v ≡ ltb b (outputsOf (recordAt s t))
-          → u ≡ child (recordAt s) n o (c .0) → w ≡ ltb d (inputsOf (recordAt s u)) → not (v && w) ≡ fails12 (recordAt s) n p
-      fails12-connection a c b d t u v w k et ev eu ew = rw (ev, ew, et, eu, taken-is (recordAt s p) r e o x h, k)
-
-      pub fails12-input-map : (c : ChildNo) (a d u : ℕ) (v w : Bool) → x ≡ InputMap a c d
-          → v ≡ ltb a (inputsOf (recordAt s o))
-          → u ≡ child (recordAt s) n o (c .0) → w ≡ ltb d (inputsOf (recordAt s u)) → not (v && w) ≡ fails12 (recordAt s) n p
-      fails12-input-map c a d u v w k ev eu ew = rw (ev, ew, eu, taken-is (recordAt s p) r e o x h, k)
-
-      pub fails12-output-map : (a : ChildNo) (b t : ℕ) (v : Bool) → x ≡ OutputMap a b
-          → t ≡ child (recordAt s) n o (a .0) → v ≡ ltb b (outputsOf (recordAt s t)) → not v ≡ fails12 (recordAt s) n p
-      fails12-output-map a b t v k et ev = rw (ev, et, taken-is (recordAt s p) r e o x h, k)
+    pub fails12-taken : (o : ℕ) (x : Says) (b : Bool) → r ≡ Taken o x → b ≡ missing (recordAt s) n (apart o x) → b ≡ fails12 (recordAt s) n p
+    fails12-taken o x b h k = k ∙ ap (missing (recordAt s) n) (sym (taken-is (recordAt s p) r e o x h))
 
 -- The entry of a record: refused; by what it says
 module _ (t : Record) (r : Reading) (e : said r ≡ t) where

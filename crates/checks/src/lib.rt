@@ -9,7 +9,7 @@ ghost use Prim.Native.Nat.{_≤_, _<_};
 ghost use lib.Dec.{eqb, leb, ltb};
 ghost use Rattle.lists.specs.Lists.{from, any};
 ghost use Rattle.component.specs.Record.{recordAt, recordCount};
-ghost use Rattle.component.specs.Reading.{formBy, said, Readable};
+ghost use Rattle.component.specs.Reading.{apart, formBy, said, Readable};
 ghost use Rattle.index.specs.Index.{IsIndex};
 ghost use Rattle.component.specs.Reading.{given};
 ghost use Rattle.checks.specs.Checks.{failsBy};
@@ -18,7 +18,7 @@ ghost use Rattle.component.specs.Reading.{hasId, enters};
 ghost use Rattle.checks.specs.Checks.{EntryAs};
 ghost use Rattle.component.specs.Drawing.{deepest, holds, deeper};
 ghost use Rattle.component.specs.Drawing.{fails3, fails4, fails5, fails6, fails7, fails8, fails9};
-ghost use Rattle.component.specs.Drawing.{fails12, fails14, earlierOf};
+ghost use Rattle.component.specs.Drawing.{missing, fails12, fails14, earlierOf};
 use component::ChildNo;
 use component::Reading;
 use component::Says;
@@ -37,6 +37,7 @@ use kinds::number_of;
 pub use passes::first10;
 pub use passes::first11;
 pub use passes::first13;
+pub use passes::place_mark;
 
 // 3: the record is not taken apart.
 fn check3(file: &[u8], p: usize) -> u32
@@ -122,8 +123,8 @@ fn holds(file: &[u8], f: usize, o: usize, q: usize) -> bool
     false
 }
 
-// Whether a composite stands at a position of the file.
-fn is_composite_at(file: &[u8], p: usize) -> bool
+// Whether a composite stands at a position of the file. Check 3 has passed. `check5` calls it, and crate mend.
+pub fn is_composite_at(file: &[u8], p: usize) -> bool
     requires { ⌜ Readable (now file) ⌝ }
     ensures { λ r. ⌜ r ≡ composite (recordAt (now (file .entry)) p) ⌝ }
 {
@@ -300,17 +301,14 @@ fn has_output(file: &[u8], c: usize, i: u16) -> bool
     i < fields.outputs
 }
 
-// 12: a child or port in kinds 2 to 4 does not exist.
-fn check12(file: &[u8], index: &[u16], p: usize) -> u32
+// Whether a child or port that a record of kind 2 to 4 names does not exist. `check12` calls it, and crate mend with the index of the components alone.
+pub fn is_missing(file: &[u8], index: &[u16], owner: u16, says: Says) -> bool
     requires { ⌜ IsIndex (now file) (now index) ⌝ }
-    ensures { λ r. ⌜ r ≡ given 12 (fails12 (recordAt (now (file .entry))) (recordCount (now (file .entry))) p) ⌝ }
+    ensures { λ r. ⌜ r ≡ missing (recordAt (now (file .entry))) (recordCount (now (file .entry))) (apart owner says) ⌝ }
 {
-    let Reading::Taken { owner, says } = known_at(file, p) else {
-        return 0;
-    };
     let o = owner as usize;
     match says {
-        Says::Component { .. } => 0,
+        Says::Component { .. } => false,
         Says::Connection {
             from,
             output,
@@ -319,27 +317,38 @@ fn check12(file: &[u8], index: &[u16], p: usize) -> u32
         } => {
             let from_there = has_output(file, child_of(file, index, o, from), output);
             let to_there = has_input(file, child_of(file, index, o, to), input);
-            given(12, !(from_there & to_there))
+            !(from_there & to_there)
         }
         Says::InputMap { port, to, input } => {
             let to_there = has_input(file, child_of(file, index, o, to), input);
-            given(12, !(has_input(file, o, port) & to_there))
+            !(has_input(file, o, port) & to_there)
         }
         Says::OutputMap { from, output } => {
             let from_there = has_output(file, child_of(file, index, o, from), output);
-            given(12, !from_there)
+            !from_there
         }
     }
 }
 
+// 12: a child or port in kinds 2 to 4 does not exist.
+fn check12(file: &[u8], index: &[u16], p: usize) -> u32
+    requires { ⌜ IsIndex (now file) (now index) ⌝ }
+    ensures { λ r. ⌜ r ≡ given 12 (fails12 (recordAt (now (file .entry))) (recordCount (now (file .entry))) p) ⌝ }
+{
+    let Reading::Taken { owner, says } = known_at(file, p) else {
+        return 0;
+    };
+    given(12, is_missing(file, index, owner, says))
+}
+
 // A child's input that a record enters, or none.
-enum Entry {
+pub enum Entry {
     Of { owner: u16, to: ChildNo, input: u16 },
     Nothing,
 }
 
 // The child's input that a record enters.
-fn entry_of(r: Reading) -> Entry
+pub fn entry_of(r: Reading) -> Entry
     ensures { λ x. ⌜ EntryAs x (said r) ⌝ }
 {
     let Reading::Taken { owner, says } = r else {

@@ -78,8 +78,9 @@ pub fn first11(file: &[u8]) -> usize
     p
 }
 
-// The mark of input `input` of a child, of 16,384: those that a drawing has which the checks so far have passed have one each.
-fn place_mark(file: &[u8], index: &[u16], owner: u16, to: ChildNo, input: u16) -> usize
+// The mark of input `input` of a child, of 16,384: those that a drawing has which the checks so far have passed have one each. Crate mend calls it
+// likewise, with the index of the components alone.
+pub fn place_mark(file: &[u8], index: &[u16], owner: u16, to: ChildNo, input: u16) -> usize
     requires { ⌜ IsIndex (now file) (now index) ⌝ }
     ensures { λ r. ⌜ (r ≡ placeMark (recordAt (now (file .entry))) (recordCount (now (file .entry))) owner (to .0) input) × (r < 16384) ⌝ }
 {

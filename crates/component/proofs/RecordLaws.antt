@@ -6,18 +6,18 @@ use mathlib.Core.Logic.{_⊎_, inl, inr, ⊎-elim}
 use mathlib.Core.List.{List, [], _∷_}
 use Prim.Native.Nat.{ℕ, _+_, _-_, _*_, _/_, _≤_, _<_}
 use native.Mathlib.Omega.{arith}
-use borrow.Author.Tests.{eqb-true, eqb-false, ne-eqb, lt-ltb, le-ltb, not-true, not-false}
-use lib.Dec.{eqb}
+use borrow.Author.Tests.{eqb-true, eqb-false, ne-eqb, lt-ltb, le-ltb, ltb-true, ltb-false, le-leb, lt-leb, not-true, not-false}
+use lib.Dec.{eqb, leb, ltb}
 use lib.ListN.{length, getD, take, drop}
 use lib.Seq.{getD-take, getD-drop}
 use types.Run.{OneOf}
 use denote.Enum.Declared.{tagOf}
-use Rattle.lists.proofs.TestsLaws.{or-first}
-use Rattle.lists.proofs.TestsLaws.{and-left, and-right}
+use Rattle.lists.specs.Lists.{within}
+use Rattle.lists.proofs.TestsLaws.{and-left, and-right, or-first, or-left, or-right, or-cases}
 use Rattle.kinds.specs.declared.table.Fields.{Fields}
-use Rattle.component.specs.Record.{le16, le32, le64, numbersIn, bare, wellFormed, noRecord, recordAt, fieldsOf}
+use Rattle.component.specs.Record.{le16, le32, le64, numbersIn, bare, wellFormed, noRecord, recordAt, looseAt, fieldsOf}
 use Rattle.component.specs.Reading.{noFields}
-use Rattle.component.specs.Reading.{recordIn}
+use Rattle.component.specs.Reading.{recordIn, bared, saidBy}
 use Rattle.component.specs.Reading.{ownerOf, formOf, apart, formBy, said, number, StandsAs}
 use Rattle.component.specs.Reading.{given, Readable}
 use Rattle.component.specs.Record.{isPrimitive}
@@ -127,12 +127,29 @@ module _ (t : Record) (r : Reading) (e : said r ≡ t) where
   pub sees-component : (o : ℕ) (x : Says) (i : Id) (f : Fields) → r ≡ Taken o x → x ≡ Component i f → StandsAs (StandsComponent o i f) t
   sees-component o x i f h k = taken-is t r e o x h ∙ ap (apart o) k
 
--- Taking a record apart that check 3 passes, by its record kind.
-module _ (r : Record) (w : wellFormed r ≡ true) where
+-- Taking a record apart, by its record kind.
+module _ (r : Record) where
   pub take-component : r .form ≡ 1
       → apart (r .owner) (Component (record { 0 = r .id })
+      (record { kind = r .kind; inputs = r .a; outputs = r .b; width = r .c; parameter = r .parameter })) ≡ bared r
+  take-component e = rw e
+
+  pub take-connection : r .form ≡ 2 → apart (r .owner) (Connection (record { 0 = r .a }) (r .b) (record { 0 = r .c }) (r .d)) ≡ bared r
+  take-connection e = rw e
+
+  pub take-input-map : r .form ≡ 3 → apart (r .owner) (InputMap (r .a) (record { 0 = r .c }) (r .d)) ≡ bared r
+  take-input-map e = rw e
+
+  pub take-output-map : (r .form ≡ 1 → ⊥) → (r .form ≡ 2 → ⊥) → (r .form ≡ 3 → ⊥)
+      → apart (r .owner) (OutputMap (record { 0 = r .a }) (r .b)) ≡ bared r
+  take-output-map x y z = rw (ne-eqb (r .form) 1 x, ne-eqb (r .form) 2 y, ne-eqb (r .form) 3 z)
+
+-- A record that check 3 passes is what it says by its record kind.
+module _ (r : Record) (w : wellFormed r ≡ true) where
+  well-component : r .form ≡ 1
+      → apart (r .owner) (Component (record { 0 = r .id })
       (record { kind = r .kind; inputs = r .a; outputs = r .b; width = r .c; parameter = r .parameter })) ≡ r
-  take-component e =
+  well-component e =
       let v : ((eqb (r .d) 0 || false) || false || false) ≡ true = rw e at w in
       let z = sym (eqb-true (r .d) 0 (or-first _ false refl (or-first _ false refl (or-first _ false refl v)))) in
       let y = sym e in
@@ -172,21 +189,21 @@ module _ (r : Record) (w : wellFormed r ≡ true) where
         parameter = ep j;
       }
 
-  pub take-connection : r .form ≡ 2
+  well-connection : r .form ≡ 2
       → apart (r .owner) (Connection (record { 0 = r .a }) (r .b) (record { 0 = r .c }) (r .d)) ≡ r
-  take-connection e =
+  well-connection e =
       let v : (bare r || false || false) ≡ true = rw e at w in
       line-is 2 (r .b) (r .c) (r .d) e (or-first _ false refl (or-first _ false refl v)) refl refl refl
 
-  pub take-input-map : r .form ≡ 3 → apart (r .owner) (InputMap (r .a) (record { 0 = r .c }) (r .d)) ≡ r
-  take-input-map e =
+  well-input-map : r .form ≡ 3 → apart (r .owner) (InputMap (r .a) (record { 0 = r .c }) (r .d)) ≡ r
+  well-input-map e =
       let v : ((bare r && eqb (r .b) 0) || false) ≡ true = rw e at w in
       let u = or-first _ false refl v in
       line-is 3 0 (r .c) (r .d) e (and-left (bare r) (eqb (r .b) 0) u) (eqb-true (r .b) 0 (and-right (bare r) (eqb (r .b) 0) u)) refl refl
 
-  pub take-output-map : (r .form ≡ 1 → ⊥) → (r .form ≡ 2 → ⊥) → (r .form ≡ 3 → ⊥)
+  well-output-map : (r .form ≡ 1 → ⊥) → (r .form ≡ 2 → ⊥) → (r .form ≡ 3 → ⊥)
       → apart (r .owner) (OutputMap (record { 0 = r .a }) (r .b)) ≡ r
-  take-output-map x y z =
+  well-output-map x y z =
       let v : (eqb (r .form) 4 && bare r && eqb (r .c) 0 && eqb (r .d) 0) ≡ true =
       rw (ne-eqb (r .form) 1 x, ne-eqb (r .form) 2 y, ne-eqb (r .form) 3 z) at w in
       let u = and-left (eqb (r .form) 4 && bare r && eqb (r .c) 0) (eqb (r .d) 0) v in
@@ -195,18 +212,29 @@ module _ (r : Record) (w : wellFormed r ≡ true) where
       (eqb-true (r .c) 0 (and-right (eqb (r .form) 4 && bare r) (eqb (r .c) 0) u))
       (eqb-true (r .d) 0 (and-right (eqb (r .form) 4 && bare r && eqb (r .c) 0) (eqb (r .d) 0) v))
 
+  pub bared-well : bared r ≡ r
+  bared-well = by-kind (eqb (r .form) 1) (eqb (r .form) 2) (eqb (r .form) 3) refl refl refl
+    where
+      by-kind : (a b c : Bool) → eqb (r .form) 1 ≡ a → eqb (r .form) 2 ≡ b → eqb (r .form) 3 ≡ c → bared r ≡ r
+      by-kind true b c x y z = rw x (well-component (eqb-true (r .form) 1 x))
+      by-kind false true c x y z = rw (x, y) (well-connection (eqb-true (r .form) 2 y))
+      by-kind false false true x y z = rw (x, y, z) (well-input-map (eqb-true (r .form) 3 z))
+      by-kind false false false x y z =
+          rw (x, y, z) (well-output-map (eqb-false (r .form) 1 x) (eqb-false (r .form) 2 y) (eqb-false (r .form) 3 z))
+
 -- Reading: refused; taken apart.
 module _ (r : Record) (b : Bool) (e : b ≡ wellFormed r) where
   pub read-refused : not b ≡ true → (said (Refused 3) ≡ recordIn r) × (number (Refused 3) ≡ given 3 (eqb (formOf (recordIn r)) 0))
   read-refused h = (rw (← e, not-true b h), rw (← e, not-true b h))
 
-  pub read-well : not b ≡ false → wellFormed r ≡ true
+  read-well : not b ≡ false → wellFormed r ≡ true
   read-well h = sym e ∙ not-false b h
 
-  pub read-taken : (x : Says) → not b ≡ false → apart (r .owner) x ≡ r
+  pub read-taken : (x : Says) → not b ≡ false → apart (r .owner) x ≡ bared r
       → (said (Taken (r .owner) x) ≡ recordIn r) × (number (Taken (r .owner) x) ≡ given 3 (eqb (formOf (recordIn r)) 0))
-  read-taken x h k =
+  read-taken x h t =
       let w = read-well h in
+      let k = t ∙ bared-well r w in
       let z : recordIn r ≡ r = rw w in
       (k ∙ sym z, sym (ap (λ (t : Record). given 3 (eqb (formOf t) 0)) (z ∙ sym k) ∙ by-kind x))
     where
@@ -215,6 +243,24 @@ module _ (r : Record) (b : Bool) (e : b ≡ wellFormed r) where
       by-kind (Connection a b c d) = refl
       by-kind (InputMap a c d) = refl
       by-kind (OutputMap a b) = refl
+
+-- A record kind is one of 1 to 4, or none.
+kind-none : (k : ℕ) → (eqb k 0 || ltb 4 k) ≡ true → within 1 4 k ≡ false
+kind-none k e = by-case (or-cases (eqb k 0) (ltb 4 k) e)
+  where
+    none : (b : Bool) → (b && false) ≡ false
+    none true = refl
+    none false = refl
+
+    by-case : (eqb k 0 ≡ true) ⊎ (ltb 4 k ≡ true) → within 1 4 k ≡ false
+    by-case (inl x) = rw (eqb-true k 0 x)
+    by-case (inr x) = rw (lt-leb k 4 (ltb-true 4 k x), none (leb 1 k))
+
+kind-some : (k : ℕ) → (eqb k 0 || ltb 4 k) ≡ false → within 1 4 k ≡ true
+kind-some k e =
+    let x = eqb-false k 0 (or-left (eqb k 0) (ltb 4 k) e) in
+    let y = ltb-false 4 k (or-right (eqb k 0) (ltb 4 k) e) in
+    rw (le-leb 1 k (omega (arith, x)), le-leb k 4 (omega (arith, y)))
 
 -- A position in the file, and one past its end.
 module _ (s : List ℕ) (p : ℕ) where
@@ -233,7 +279,7 @@ module _ (s : List ℕ) (p : ℕ) where
         let n : 24 * p + 24 - 24 * p ≡ 24 = omega arith in
         ap recordIn (e ∙ ap (λ (n : ℕ). numbersIn (take n (drop (24 * p) s))) n) ∙ rw (lt-ltb p (length s / 24) h)
 
-    pub known-well : Readable s → wellFormed r ≡ true
+    known-well : Readable s → wellFormed r ≡ true
     known-well k = by-test (wellFormed r) refl
       where
         by-test : (b : Bool) → wellFormed r ≡ b → wellFormed r ≡ true
@@ -245,8 +291,24 @@ module _ (s : List ℕ) (p : ℕ) where
     pub known-is : Readable s → recordAt s p ≡ r
     known-is k = sym known-in ∙ ap (λ (b : Bool). cond b r noRecord) (known-well k)
 
-    pub known-taken : (x : Says) → Readable s → apart (r .owner) x ≡ r → said (Taken (r .owner) x) ≡ recordAt s p
-    known-taken x k a = a ∙ sym (known-is k)
+    pub known-taken : (x : Says) → Readable s → apart (r .owner) x ≡ bared r → said (Taken (r .owner) x) ≡ recordAt s p
+    known-taken x k a = a ∙ bared-well r (known-well k) ∙ sym (known-is k)
+
+    -- of any file, a record kind that is none, and one that is
+    loose-is : looseAt s p ≡ r
+    loose-is =
+        let n : 24 * p + 24 - 24 * p ≡ 24 = omega arith in
+        sym (e ∙ ap (λ (n : ℕ). numbersIn (take n (drop (24 * p) s))) n ∙ rw (lt-ltb p (length s / 24) h))
+
+    pub loose-refused : (eqb (r .form) 0 || ltb 4 (r .form)) ≡ true → said (Refused 3) ≡ saidBy (looseAt s p)
+    loose-refused k = rw (loose-is, kind-none (r .form) k)
+
+    pub loose-taken : (x : Says) → (eqb (r .form) 0 || ltb 4 (r .form)) ≡ false → apart (r .owner) x ≡ bared r
+        → said (Taken (r .owner) x) ≡ saidBy (looseAt s p)
+    loose-taken x k a = a ∙ rw (loose-is, kind-some (r .form) k)
+
+  pub loose-past : length s / 24 ≤ p → said (Refused 3) ≡ saidBy (looseAt s p)
+  loose-past h = rw (le-ltb p (length s / 24) h)
 
   pub recordAt-past : length s / 24 ≤ p → (said (Refused 3) ≡ recordAt s p) × (number (Refused 3) ≡ given 3 (eqb (formOf (recordAt s p)) 0))
   recordAt-past h = (rw (le-ltb p (length s / 24) h), rw (le-ltb p (length s / 24) h))

@@ -5,6 +5,7 @@ use mathlib.Core.Path.{_≡_}
 use Prim.Native.Nat.{ℕ, _<_}
 use mathlib.Core.Bool.{Bool, false, cond, _&&_}
 use mathlib.Core.List.{List}
+use Rattle.lists.specs.Lists.{within}
 use Rattle.kinds.specs.declared.table.Fields.{Fields}
 use Rattle.kinds.specs.Kinds.{noKind}
 use Rattle.component.specs.declared.Record.{Record}
@@ -45,6 +46,20 @@ apart o (Connection a b c d) =
     record { form = 2; kind = 0; owner = o; a = a .0; b = b; c = c .0; d = d; id = 0; parameter = 0 }
 apart o (InputMap a c d) = record { form = 3; kind = 0; owner = o; a = a; b = 0; c = c .0; d = d; id = 0; parameter = 0 }
 apart o (OutputMap a b) = record { form = 4; kind = 0; owner = o; a = a .0; b = b; c = 0; d = 0; id = 0; parameter = 0 }
+
+-- What a record says by its record kind alone: the numbers that the kind leaves at 0 are left out. Of a kind past 3 it is what an output map says.
+abbrev pub bared : Record → Record
+bared r =
+    cond (eqb (r .form) 1)
+    (apart (r .owner) (Component (record { 0 = r .id })
+    (record { kind = r .kind; inputs = r .a; outputs = r .b; width = r .c; parameter = r .parameter })))
+    (cond (eqb (r .form) 2) (apart (r .owner) (Connection (record { 0 = r .a }) (r .b) (record { 0 = r .c }) (r .d)))
+    (cond (eqb (r .form) 3) (apart (r .owner) (InputMap (r .a) (record { 0 = r .c }) (r .d)))
+    (apart (r .owner) (OutputMap (record { 0 = r .a }) (r .b)))))
+
+-- The same, and no record where the kind is none.
+abbrev pub saidBy : Record → Record
+saidBy r = cond (within 1 4 (r .form)) (bared r) noRecord
 
 -- Its record kind.
 abbrev pub formBy : Says → ℕ

@@ -12,6 +12,7 @@ pub use reader::given;
 pub use reader::is_primitive_at;
 pub use reader::is_sized;
 pub use reader::known_at;
+pub use reader::loose_at;
 pub use reader::record_at;
 
 // A child, counted below one owner.

@@ -3,10 +3,9 @@
 ghost use mathlib.Core.Path.{_≡_};
 ghost use Prim.Native.Nat.{_+_, _*_, _≤_, _<_};
 ghost use lib.ListN.{length};
-ghost use mathlib.Core.Bool.{true};
 ghost use lib.Dec.{eqb};
-ghost use Rattle.component.specs.Record.{le16, le32, le64, numbersIn, wellFormed, recordAt, sized};
-ghost use Rattle.component.specs.Reading.{recordIn};
+ghost use Rattle.component.specs.Record.{le16, le32, le64, numbersIn, wellFormed, recordAt, looseAt, sized};
+ghost use Rattle.component.specs.Reading.{recordIn, bared, saidBy};
 ghost use Rattle.component.specs.Record.{fieldsOf, isPrimitive};
 ghost use Rattle.component.specs.Reading.{apart, said, number, given, Readable, StandsAs};
 ghost use Rattle.component.specs.Drawing.{deepest, fails3};
@@ -90,10 +89,9 @@ fn is_well_formed(r: Record) -> bool
         | ((r.form == 4) & bare & (r.c == 0) & (r.d == 0))
 }
 
-// What a record says that check 3 passes.
+// What a record says by its record kind; of a kind past 3 it is what an output map says.
 fn take(r: Record) -> Says
-    requires { ⌜ wellFormed r ≡ true ⌝ }
-    ensures { λ x. ⌜ apart (r .owner) x ≡ r ⌝ }
+    ensures { λ x. ⌜ apart (r .owner) x ≡ bared r ⌝ }
 {
     let form = r.form;
     match form {
@@ -160,6 +158,25 @@ pub fn known_at(file: &[u8], p: usize) -> Reading
         let a = 24 * p;
         let e = a + 24;
         let r = numbers(&file[a..e]);
+        return Reading::Taken {
+            owner: r.owner,
+            says: take(r),
+        };
+    }
+    Reading::Refused(3)
+}
+
+// What stands at a position of the file by its record kind alone, whatever check 3 says of it; refused past the file's end, and where the kind is none.
+pub fn loose_at(file: &[u8], p: usize) -> Reading
+    ensures { λ r. ⌜ said r ≡ saidBy (looseAt (now (file .entry)) p) ⌝ }
+{
+    if p < file.len() / 24 {
+        let a = 24 * p;
+        let e = a + 24;
+        let r = numbers(&file[a..e]);
+        if (r.form == 0) | (4 < r.form) {
+            return Reading::Refused(3);
+        }
         return Reading::Taken {
             owner: r.owner,
             says: take(r),

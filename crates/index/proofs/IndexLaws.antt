@@ -124,6 +124,7 @@ module _ (s xs cs os es : List ℕ) (hr : Readable s) (few : length s / 24 ≤ 1
       readable = hr;
       few = few;
       children = λ q o a b c d e. first-word q (omega arith) ∙ hc .place q o a b c d e;
+      kids = λ o l. first-word (256 + o) (omega arith) ∙ hc .count o l;
       outs = index-outs;
       counts = index-count;
       within = λ c. stretch-within s es v (length s / 24) he third-word c (decLt c 256);

@@ -11,7 +11,7 @@ use native.Mathlib.Decide.{decLt}
 use native.Mathlib.Omega.{arith}
 use borrow.Author.Tests.{eq-eqb, ne-eqb, lt-ltb, le-ltb, eqb-true, not-true, not-false, ltb-true}
 use lib.Dec.{eqb, ltb}
-use lib.ListN.{length, getD, set, length-set, length-append, List·getD-eq-default}
+use lib.ListN.{length, getD, set, length-set, length-append, List·getD-eq-default, List·getD-eq-default}
 use lib.Seq.{getD-set-same, getD-set-other}
 use Rattle.lists.specs.Lists.{from, keep}
 use Rattle.lists.proofs.ListsLaws.{keep-append, keep-snoc-here, keep-snoc-next, length-keep-le}
@@ -259,6 +259,11 @@ owned-within s form o q h e = by-place (decLt q (length s / 24))
         let z : recordAt s q ≡ noRecord = rw (le-ltb q (length s / 24) (omega arith)) in
         let y = eqb-true (formOf (recordAt s q)) form (and-left (eqb (formOf (recordAt s q)) form) (eqb (ownerOf (recordAt s q)) o) e) in
         absurd (omega (arith, ap formOf z, y))
+
+-- Past its owner's last child there is none.
+pub child-none : (s t : List ℕ) → IsIndex s t → (o k : ℕ) → o < 256 → getD t (256 + o) 0 ≤ k → length s / 24 ≡ child (recordAt s) (length s / 24) o k
+child-none s t ix o k h l =
+    sym (List·getD-eq-default (keep (tested s (ownedAs 1 o)) (from 1 (length s / 24 - 1))) (length s / 24) (omega (arith, l, ix .kids o h)))
 
 -- A guess that the record bears out: of a child; of an output map.
 module _ (s t : List ℕ) (ix : IsIndex s t) (o q k : ℕ) (b : Bool) (g : o < 256) where

@@ -78,6 +78,7 @@ pub record IsIndex (s t : List ℕ) : Type 0 where
   pub readable : Readable s
   pub few : recordCount s ≤ 1024
   pub children : (q o : ℕ) → 1 ≤ q → q < recordCount s → q < 256 → o < 256 → ownedAs 1 o (recordAt s q) ≡ true → getD t q 0 ≡ before s 1 1 o q
+  pub kids : (o : ℕ) → o < 256 → getD t (256 + o) 0 ≡ before s 1 1 o (recordCount s)
   pub outs : (q c : ℕ) → q < recordCount s → c < 256 → ownedAs 4 c (recordAt s q) ≡ true → getD t (512 + q) 0 ≡ before s 4 0 c q
   pub counts : (c : ℕ) → c < 256 → outCount t c ≡ length (outMaps (recordAt s) (recordCount s) c)
   pub within : (c : ℕ) → stretchEnd t (recordCount s) c ≤ recordCount s

@@ -272,7 +272,8 @@ fn is_child(file: &[u8], index: &[u16], c: usize, o: usize, k: u16) -> bool
     is_owned(file, c, 1, o) & (index[c] == k)
 }
 
-// Child k of owner o; the number of records where there is none. Crates checks, flatten and laying call it with the index filled.
+// Child k of owner o; the number of records where there is none, which the index knows of each of its owners. Crates checks, flatten and laying call it
+// with the index filled.
 pub fn child_of(file: &[u8], index: &[u16], o: usize, k: ChildNo) -> usize
     requires { ⌜ IsIndex (now file) (now index) ⌝ }
     ensures { λ r. ⌜ r ≡ child (recordAt (now (file .entry))) (recordCount (now (file .entry))) o (k .0) ⌝ }
@@ -285,6 +286,9 @@ pub fn child_of(file: &[u8], index: &[u16], o: usize, k: ChildNo) -> usize
             if is_child(file, index, c, o, k.0) {
                 return c;
             }
+        }
+        if word(index, 256 + o) <= place {
+            return file.len() / 24;
         }
     }
     nth_owned(file, file.len() / 24, 1, 1, o, place)

@@ -1,5 +1,4 @@
 pub mod FlatWires
-pub mod LayingLaws
 pub mod PassesLaws
 pub mod PortsLaws
 pub mod StandingLaws

@@ -32,7 +32,7 @@ use Rattle.laying.specs.declared.rows.Drawn.the-variants.{Primitive, Oth
 use Rattle.laying.specs.declared.rows.Before.{Before}
 use Rattle.laying.specs.Laid.{primitives, primitiveWords}
 use Rattle.laying.specs.Laying.{seenIf, seen, componentBy, rowBy, beforeBy, beforeAt, rowAt}
-use Rattle.laying.proofs.LayingLaws.{joined-keep, Laid, laid-room, laid-step, laid-end}
+use Rattle.lists.proofs.LayingLaws.{joined-keep, Laid, laid-room, laid-step, laid-end}
 use Rattle.tables.specs.Words.{rowPlace}
 
 -- What a record is drawn as: no component; a primitive; a component that is none.

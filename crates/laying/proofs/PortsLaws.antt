@@ -29,7 +29,7 @@ use Rattle.laying.specs.declared.rows.Drawn.{Drawn}
 use Rattle.laying.specs.declared.rows.Drawn.the-variants.{Primitive, Other}
 use Rattle.laying.specs.Laid.{primitives}
 use Rattle.laying.specs.Laying.{seenIf, seen, outputsBy, startingOf, outputsLaid}
-use Rattle.laying.proofs.LayingLaws.{joined-keep, Laid, laid-room, laid-step, laid-end}
+use Rattle.lists.proofs.LayingLaws.{joined-keep, Laid, laid-room, laid-step, laid-end}
 
 -- Laying the outputs of one record: it has none; a Const's; any other primitive's.
 pub outputs-none : (drawn : Drawn) → drawn ≡ Other → (t : List ℕ) (k : ℕ)

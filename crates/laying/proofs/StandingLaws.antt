@@ -31,7 +31,7 @@ use Rattle.laying.specs.declared.rows.Drawn.{Drawn}
 use Rattle.laying.specs.declared.rows.Drawn.the-variants.{Primitive, Other}
 use Rattle.laying.specs.Laid.{primitives, standingAtLoad}
 use Rattle.laying.specs.Laying.{seenIf, seen, standingIf, standingBy, stoodBy, standingAt}
-use Rattle.laying.proofs.LayingLaws.{joined-keep, Laid, laid-room, laid-step, laid-end, laid-count}
+use Rattle.lists.proofs.LayingLaws.{joined-keep, Laid, laid-room, laid-step, laid-end, laid-count}
 use Rattle.laying.proofs.PassesLaws.{primitivesBefore-few}
 
 -- Laying one record into the standing list: a primitive that does not stand; one that does.

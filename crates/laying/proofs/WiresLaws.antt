@@ -43,7 +43,7 @@ use Rattle.tables.specs.Words.{wirePlace}
 use Rattle.laying.specs.Laid.{flatPin, flatWires}
 use Rattle.laying.specs.Laying.{Written, Ready, endBy, leadBy, leadWords, wiresGiven}
 use Rattle.laying.proofs.FlatWires.{flatWire, flatWires-bound}
-use Rattle.laying.proofs.LayingLaws.{Laid, laid-room, laid-step, laid-end, laid-count}
+use Rattle.lists.proofs.LayingLaws.{Laid, laid-room, laid-step, laid-end, laid-count}
 
 -- Lists made of others.
 joined-map : {A B C : Type 0} (f : B → List C) (g : A → B) (xs : List A)

@@ -4,3 +4,4 @@ pub mod MembersLaws
 pub mod NamesLaws
 pub mod OverlayLaws
 pub mod KeysLaws
+pub mod LayingLaws

@@ -156,6 +156,16 @@ module _ {A : Type 0} where
   every-cong f g [] h = refl
   every-cong f g (x ∷ xs) h = let later = every-cong f g xs (λ a u. h a (inr u)) in λ i. h x (inl refl) i && later i
 
+  -- Tests that agree on the members keep the same, and pass the same.
+  pub keep-cong : (f g : A → Bool) (xs : List A) → ((a : A) → In a xs → f a ≡ g a) → keep f xs ≡ keep g xs
+  keep-cong f g [] h = refl
+  keep-cong f g (x ∷ xs) h =
+      let later = keep-cong f g xs (λ a u. h a (inr u)) in λ i. cond (h x (inl refl) i) (x ∷ later i) (later i)
+
+  pub any-cong : (f g : A → Bool) (xs : List A) → ((a : A) → In a xs → f a ≡ g a) → any f xs ≡ any g xs
+  any-cong f g [] h = refl
+  any-cong f g (x ∷ xs) h = let later = any-cong f g xs (λ a u. h a (inr u)) in λ i. h x (inl refl) i || later i
+
   -- Lists without repeats.
 
   abbrev pub Distinct : List A → Type 0

@@ -33,7 +33,7 @@ use Rattle.flatten.proofs.Ends.{IsInput, IsOutput, into-there, from-there}
 use Rattle.tables.specs.declared.End.{End}
 use Rattle.tables.specs.Words.{uncounted, fieldsIn}
 use Rattle.laying.specs.Laying.{IsFlat, endBy}
-use Rattle.laying.proofs.LayingLaws.{sets-next}
+use Rattle.lists.proofs.LayingLaws.{sets-next}
 use Rattle.questions.specs.declared.Side.{Side}
 use Rattle.questions.specs.declared.Side.the-variants.{Inputs, Outputs}
 use Rattle.questions.specs.Questions.{portCount, valueAt}

@@ -13,7 +13,7 @@ use lib.Seq.{drop-cons, append-snoc, getD-set-same, getD-set-other, set-append-s
 use lib.Dec.{eqb}
 use Rattle.lists.proofs.ListsLaws.{replicate-zero}
 use Rattle.lists.specs.Lists.{from, keep, any, overlay}
-use Rattle.lists.proofs.MembersLaws.{any-append, any-map, from-last}
+use Rattle.lists.proofs.MembersLaws.{any-append, any-map, from-last, keep-cong, any-cong}
 use Rattle.lists.proofs.ListsLaws.{keep-append}
 use Rattle.tables.specs.declared.Wire.{Wire}
 use Rattle.tables.specs.Tables.{Tables, wireAt, joins, sources, targets, indexes}
@@ -94,21 +94,13 @@ module _ (marks t u : List ℕ) (listed j : ℕ) (count : listed ≡ length (mar
   list-none e = rw (marked-none marks j e) (count, so-far)
 
 -- Nothing is marked at first.
-keep-cong : (f g : ℕ → Bool) (xs : List ℕ) → ((x : ℕ) → f x ≡ g x) → keep f xs ≡ keep g xs
-keep-cong f g [] e = refl
-keep-cong f g (x ∷ xs) e = rw (e x, keep-cong f g xs e)
-
-any-cong : (f g : ℕ → Bool) (xs : List ℕ) → ((x : ℕ) → f x ≡ g x) → any f xs ≡ any g xs
-any-cong f g [] e = refl
-any-cong f g (x ∷ xs) e = rw (e x, any-cong f g xs e)
-
 -- So what is marked in the end are the components that wires join.
 pub marked-met : (ws marks : List ℕ) (size m : ℕ) (near far : Tip) (i n : ℕ)
     → ((j : ℕ) → getD marks j 0 ≡ cond (meets ws m near far i j) 1 (getD (replicate size 0) j 0))
     → markedBelow marks n ≡ met ws m near far i n
 unfolding met
 marked-met ws marks size m near far i n e =
-    keep-cong (λ j. eqb (getD marks j 0) 1) (meets ws m near far i) (from 0 n) each
+    keep-cong (λ j. eqb (getD marks j 0) 1) (meets ws m near far i) (from 0 n) (λ j h. each j)
   where
     by-test : (b : Bool) → eqb (cond b 1 0) 1 ≡ b
     by-test true = refl
@@ -128,15 +120,15 @@ joins-meets T i j =
 -- The same from the other end.
 meets-back : (ws : List ℕ) (m : ℕ) (near far : Tip) (i j : ℕ) → meets ws m near far i j ≡ meets ws m far near j i
 meets-back ws m near far i j =
-    any-cong _ _ (from 0 m) (λ k. and-comm (eqb (endOf ws k near) i) (eqb (endOf ws k far) j))
+    any-cong _ _ (from 0 m) (λ k h. and-comm (eqb (endOf ws k near) i) (eqb (endOf ws k far) j))
 
 pub sources-met : (T : Tables) (i : ℕ) → sources T i ≡ met (T .wires) (T .counts .wires) Target Source i (T .counts .components)
 unfolding sources met
 sources-met T i =
     keep-cong (λ j. joins T j i) (meets (T .wires) (T .counts .wires) Target Source i) (indexes T)
-    (λ j. joins-meets T j i ∙ meets-back (T .wires) (T .counts .wires) Source Target j i)
+    (λ j h. joins-meets T j i ∙ meets-back (T .wires) (T .counts .wires) Source Target j i)
 
 pub targets-met : (T : Tables) (i : ℕ) → targets T i ≡ met (T .wires) (T .counts .wires) Source Target i (T .counts .components)
 unfolding targets met
 targets-met T i =
-    keep-cong (λ j. joins T i j) (meets (T .wires) (T .counts .wires) Source Target i) (indexes T) (joins-meets T i)
+    keep-cong (λ j. joins T i j) (meets (T .wires) (T .counts .wires) Source Target i) (indexes T) (λ j h. joins-meets T i j)

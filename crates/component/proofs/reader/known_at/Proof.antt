@@ -1,12 +1,9 @@
 -- `known_at`: the part handed on is a record that check 3 passes.
 -- Assumes nothing.
-use Rattle.component.proofs.RecordLaws.{known-well, known-taken, recordAt-past}
+use Rattle.component.proofs.RecordLaws.{known-taken, recordAt-past}
 use borrow.Author.Needs.{needs}
 use Rattle.component.proofs.reader.known_at.Statement.{statement}
 use Rattle.component.proofs.reader.known_at.Tie as tie
-
-take-requires : tie.Need-take-requires
-take-requires c κs = search (known-well)
 
 returns : tie.Need-returns
 returns c = search (known-taken)
@@ -24,6 +21,6 @@ known-at-spec =
     (λ c. search needs)
     (λ c. search needs)
     (λ c κs. search needs)
-    take-requires
+    (λ c κs. search needs)
     returns
     returns-2)

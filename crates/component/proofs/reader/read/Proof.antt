@@ -1,6 +1,6 @@
 -- `read`: check 3 alone decides.
 -- Assumes nothing.
-use Rattle.component.proofs.RecordLaws.{read-refused, read-well, read-taken}
+use Rattle.component.proofs.RecordLaws.{read-refused, read-taken}
 use borrow.Author.Needs.{needs}
 use Rattle.component.proofs.reader.read.Statement.{statement}
 use Rattle.component.proofs.reader.read.Tie as tie
@@ -8,11 +8,8 @@ use Rattle.component.proofs.reader.read.Tie as tie
 returns : tie.Need-returns
 returns c = read-refused (c .before .before .args .r) _ (c .before .is-well-formed .ensures) (c .if1 .taken)
 
-take-requires : tie.Need-take-requires
-take-requires c κs = search (read-well)
-
 returns-2 : tie.Need-returns-2
 returns-2 c = read-taken (c .before .before .before .args .r) _ (c .before .before .is-well-formed .ensures) (c .take .result) (c .before .if1 .left) (c .take .ensures)
 
 pub read-spec : {M : Type 1} → statement M
-read-spec = tie.close (tie.spec (λ c κs. search needs) returns take-requires returns-2)
+read-spec = tie.close (tie.spec (λ c κs. search needs) returns (λ c κs. search needs) returns-2)

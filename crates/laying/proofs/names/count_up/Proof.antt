@@ -6,7 +6,7 @@ use native.Mathlib.Omega.{arith}
 use lib.ListN.{length, length-set}
 use lib.Seq.{sets}
 use Rattle.lists.specs.Lists.{from}
-use Rattle.laying.proofs.LayingLaws.{numbers-step}
+use Rattle.lists.proofs.LayingLaws.{numbers-step}
 use Rattle.laying.proofs.names.count_up.Statement.{statement}
 use Rattle.laying.proofs.names.count_up.Tie as tie
 

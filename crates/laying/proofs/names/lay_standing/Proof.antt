@@ -7,7 +7,7 @@ use native.Mathlib.Omega.{arith}
 use Rattle.component.specs.Record.{recordAt, recordCount}
 use Rattle.flatten.specs.Descent.{flat}
 use Rattle.laying.specs.Laying.{standingAt}
-use Rattle.laying.proofs.LayingLaws.{Laid, laid-start, laid-length}
+use Rattle.lists.proofs.LayingLaws.{Laid, laid-start, laid-length}
 use Rattle.laying.proofs.StandingLaws.{standing-requires, standing-components, standing-step, standing-end}
 use borrow.Author.Needs.{needs}
 use Rattle.laying.proofs.names.lay_standing.Statement.{statement}

@@ -6,7 +6,7 @@ use Prim.Native.Nat.{_-_, _≤_}
 use native.Mathlib.Omega.{arith}
 use Rattle.component.specs.Record.{recordAt, recordCount}
 use Rattle.laying.specs.Laying.{beforeAt, rowAt}
-use Rattle.laying.proofs.LayingLaws.{Laid, laid-start, laid-length}
+use Rattle.lists.proofs.LayingLaws.{Laid, laid-start, laid-length}
 use Rattle.laying.proofs.PassesLaws.{rows-requires, rows-before, rows-step, rows-end}
 use Rattle.tables.specs.Words.{rowPlace}
 use borrow.Author.Needs.{needs}

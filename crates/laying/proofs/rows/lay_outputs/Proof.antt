@@ -5,7 +5,7 @@ use Prim.Native.Nat.{_-_, _≤_}
 use native.Mathlib.Omega.{arith}
 use Rattle.component.specs.Record.{recordAt, recordCount}
 use Rattle.laying.specs.Laying.{outputsLaid}
-use Rattle.laying.proofs.LayingLaws.{Laid, laid-start, laid-length}
+use Rattle.lists.proofs.LayingLaws.{Laid, laid-start, laid-length}
 use Rattle.laying.proofs.PortsLaws.{outputs-requires, outputs-step, outputs-end}
 use borrow.Author.Needs.{needs}
 use Rattle.laying.proofs.rows.lay_outputs.Statement.{statement}

@@ -5,7 +5,7 @@ use Prim.Native.Nat.{_-_, _≤_}
 use native.Mathlib.Omega.{arith}
 use lib.ListN.{length, replicate, length-set}
 use lib.Seq.{sets}
-use Rattle.laying.proofs.LayingLaws.{zeros-step}
+use Rattle.lists.proofs.LayingLaws.{zeros-step}
 use Rattle.laying.proofs.rows.zeros.Statement.{statement}
 use Rattle.laying.proofs.rows.zeros.Tie as tie
 

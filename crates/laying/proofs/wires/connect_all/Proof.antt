@@ -7,7 +7,7 @@ use native.Mathlib.Omega.{arith}
 use lib.ListN.{length}
 use Rattle.component.specs.Record.{recordAt}
 use Rattle.laying.specs.Laying.{wiresGiven}
-use Rattle.laying.proofs.LayingLaws.{Laid, laid-start, laid-length}
+use Rattle.lists.proofs.LayingLaws.{Laid, laid-start, laid-length}
 use Rattle.laying.proofs.WiresLaws.{wires-requires, wires-step, wires-end}
 use Rattle.laying.proofs.wires.connect_all.Statement.{statement}
 use Rattle.tables.specs.Words.{wirePlace}
