@@ -1,3 +1,4 @@
 pub mod RecordLaws
+pub mod EnteringLaws
 pub mod ScanLaws
 pub mod Drawings
