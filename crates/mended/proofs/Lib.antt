@@ -1,2 +1,5 @@
 pub mod KeepLaws
+pub mod Parts
+pub mod MakesUpHolds
+pub mod AcceptedHolds
 pub mod Cases
