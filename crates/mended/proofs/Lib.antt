@@ -2,4 +2,5 @@ pub mod KeepLaws
 pub mod Parts
 pub mod MakesUpHolds
 pub mod AcceptedHolds
+pub mod Numbered
 pub mod Cases
