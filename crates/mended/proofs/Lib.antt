@@ -3,4 +3,5 @@ pub mod Parts
 pub mod MakesUpHolds
 pub mod AcceptedHolds
 pub mod Numbered
+pub mod IdenticalHolds
 pub mod Cases
