@@ -1,4 +1,5 @@
 pub mod RecordLaws
 pub mod LooseLaws
+pub mod EnteringLaws
 pub mod ScanLaws
 pub mod Drawings

@@ -25,6 +25,7 @@ use Rattle.component.specs.declared.Verdict.the-variants.{Accepted, Refused}
 use Rattle.component.specs.Record.{recordAt, recordCount, toOf, inputOf, entering, enteringAs, sized}
 use Rattle.component.specs.Reading.{formOf, ownerOf}
 use Rattle.component.specs.Drawing.{fails13, earlierOf}
+use Rattle.component.proofs.EnteringLaws.{enters-sound, enters-both}
 use Rattle.flatten.specs.Verdict.{orLater, judged, checks, refused, verdict}
 use Rattle.flatten.specs.Searches.{PassedBefore}
 use Rattle.flatten.proofs.Accepted.{Check, noCheck, not-accepted, passed-check}
@@ -134,37 +135,6 @@ verdict-13 file p e = by-size (sized file) e
         → Thirteen (recordAt file) (recordCount file) p
     by-size true u = judged-13 (recordAt file) (recordCount file) p u
     by-size false u = absurd (omega (arith, ap numberIn u))
-
--- Two records that enter the input of a third enter each other's.
-record Enters (s r : Record) : Type 0 where
-  enters : entering r ≡ true
-  owner : ownerOf r ≡ ownerOf s
-  to : toOf r ≡ toOf s
-  input : inputOf r ≡ inputOf s
-
-enters-sound : (s r : Record) → enteringAs s r ≡ true → Enters s r
-enters-sound s r e =
-    let o = entering r && eqb (ownerOf r) (ownerOf s) in
-    let t = o && eqb (toOf r) (toOf s) in
-    let a = and-left t (eqb (inputOf r) (inputOf s)) e in
-    let b = and-left o (eqb (toOf r) (toOf s)) a in
-    record {
-      enters = and-left (entering r) (eqb (ownerOf r) (ownerOf s)) b;
-      owner = eqb-true (ownerOf r) (ownerOf s) (and-right (entering r) (eqb (ownerOf r) (ownerOf s)) b);
-      to = eqb-true (toOf r) (toOf s) (and-right o (eqb (toOf r) (toOf s)) a);
-      input = eqb-true (inputOf r) (inputOf s) (and-right t (eqb (inputOf r) (inputOf s)) e);
-    }
-
-enters-both : (s q r : Record) → enteringAs s q ≡ true → enteringAs s r ≡ true → enteringAs q r ≡ true
-enters-both s q r e f =
-    let a = enters-sound s q e in
-    let b = enters-sound s r f in
-    rw (
-      b .enters,
-      eq-eqb (ownerOf r) (ownerOf q) (b .owner ∙ sym (a .owner)),
-      eq-eqb (toOf r) (toOf q) (b .to ∙ sym (a .to)),
-      eq-eqb (inputOf r) (inputOf q) (b .input ∙ sym (a .input)),
-    )
 
 module _ (at : ℕ → Record) (n p : ℕ) (k : Thirteen at n p) where
   here : FirstAt (fails13 at) 0 n p

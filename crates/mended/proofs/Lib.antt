@@ -1,0 +1,7 @@
+pub mod KeepLaws
+pub mod Parts
+pub mod MakesUpHolds
+pub mod AcceptedHolds
+pub mod Numbered
+pub mod IdenticalHolds
+pub mod Cases

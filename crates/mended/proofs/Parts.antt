@@ -1,0 +1,82 @@
+-- The records of what is mended are those that are kept: how many they are, and the bytes of each.
+--   kept-at file i   the position that the record at i of what is mended had in the file
+-- Assumes nothing.
+use mathlib.Core.Path.{_≡_, refl, sym, ap, _∙_}
+use mathlib.Core.Bool.{Bool, true, false, cond, not}
+use mathlib.Core.List.{List}
+use Prim.Native.Nat.{ℕ, _+_, _*_, _/_, _≤_, _<_}
+use native.Mathlib.Decide.{decLt}
+use native.Mathlib.Omega.{arith}
+use borrow.Author.Tests.{lt-ltb, le-ltb}
+use lib.Dec.{eqb, ltb}
+use lib.ListN.{length, getD, drop, length-drop, List·getD-eq-default}
+use lib.Seq.{length-take-le}
+use Rattle.lists.specs.Lists.{from, keep}
+use Rattle.lists.proofs.MembersLaws.{In, keep-sound, in-getD, from0-sound}
+use Rattle.component.specs.declared.Record.{Record}
+use Rattle.component.specs.Record.{numbersIn, wellFormed, noRecord, partAt, recordCount, recordAt, looseAt}
+use Rattle.mend.specs.Mend.{kept, mended}
+use Rattle.mend.specs.Sifting.{dropsPlainly}
+use Rattle.mend.proofs.KeptLaws.{kept-records}
+use Rattle.mended.proofs.KeepLaws.{getD-there, joined-room, joined-list}
+
+-- A position of a whole record: its part has 24 bytes.
+part-length : (file : List ℕ) (p : ℕ) → p < recordCount file → length (partAt file p) ≡ 24
+part-length file p h = length-take-le 24 (drop (24 * p) file) (omega (arith, length-drop (24 * p) file, h))
+
+-- Behind the last record there is none.
+pub loose-past : (file : List ℕ) (p : ℕ) → recordCount file ≤ p → looseAt file p ≡ noRecord
+loose-past file p h = rw (le-ltb p (recordCount file) h)
+
+pub record-past : (file : List ℕ) (p : ℕ) → recordCount file ≤ p → recordAt file p ≡ noRecord
+record-past file p h = rw (le-ltb p (recordCount file) h)
+
+-- A record that check 3 passes stands there by its byte 0 too.
+pub loose-strict : (file : List ℕ) (p : ℕ) → eqb (recordAt file p .form) 0 ≡ false → looseAt file p ≡ recordAt file p
+loose-strict file p e = by-tests (ltb p (recordCount file)) (wellFormed (numbersIn (partAt file p))) e
+  where
+    by-tests : (b c : Bool) → eqb (cond b (cond c (numbersIn (partAt file p)) noRecord) noRecord .form) 0 ≡ false
+        → cond b (numbersIn (partAt file p)) noRecord ≡ cond b (cond c (numbersIn (partAt file p)) noRecord) noRecord
+    by-tests true true u = refl
+    by-tests true false u = absurd (let z : _≡_ {A = ℕ} 0 1 = cc in omega arith)
+    by-tests false c u = refl
+
+module _ (file : List ℕ) where
+  -- What is kept stands in the file and is not dropped.
+  pub kept-sound : (p : ℕ) → In p (kept file) → (not (dropsPlainly (looseAt file) (recordCount file) p) ≡ true) × (p < recordCount file)
+  kept-sound p h =
+      let z = keep-sound (λ q. not (dropsPlainly (looseAt file) (recordCount file) q)) p (from 0 (recordCount file))
+      (rw (kept-records (looseAt file) (recordCount file)) at h) in
+      (z .0, from0-sound (recordCount file) p (z .1))
+
+  kept-parts : (p : ℕ) → In p (kept file) → length (partAt file p) ≡ 24
+  kept-parts p h = part-length file p (kept-sound p h .1)
+
+  pub mended-length : length (mended file) ≡ 24 * length (kept file)
+  unfolding mended
+  mended-length = joined-room (partAt file) 24 (kept file) kept-parts
+
+  pub mended-count : recordCount (mended file) ≡ length (kept file)
+  mended-count = omega (arith, mended-length)
+
+  pub mended-part : (k d : ℕ) → k < length (kept file) → partAt (mended file) k ≡ partAt file (getD (kept file) k d)
+  unfolding mended
+  mended-part k d h = joined-list (partAt file) 24 (kept file) kept-parts k d h
+
+  abbrev pub keptAt : ℕ → ℕ
+  keptAt i = getD (kept file) i (recordCount file)
+
+  -- What stands at i of what is mended, by its byte 0.
+  pub mended-loose : (i : ℕ) → looseAt (mended file) i ≡ looseAt file (keptAt i)
+  mended-loose i = by-place (decLt i (length (kept file)))
+    where
+      by-place : Dec (i < length (kept file)) → looseAt (mended file) i ≡ looseAt file (keptAt i)
+      by-place (yes h) =
+          let below : i < recordCount (mended file) = omega (arith, h, mended-count) in
+          let inside = kept-sound (keptAt i) (in-getD (kept file) i (recordCount file) h) .1 in
+          rw (lt-ltb i (recordCount (mended file)) below, lt-ltb (keptAt i) (recordCount file) inside)
+          (ap numbersIn (mended-part i (recordCount file) h))
+      by-place (no h) =
+          loose-past (mended file) i (omega (arith, h, mended-count))
+          ∙ sym (loose-past file (keptAt i)
+          (omega (arith, List·getD-eq-default (kept file) (recordCount file) {n = i} (omega (arith, h)))))
