@@ -1,14 +1,23 @@
--- Laws of two records that enter one input.
+-- Laws of records that enter an input, and of two that enter the same.
 --   Enters s r   what it says that r enters the input that s enters
 -- Assumes nothing.
 use mathlib.Core.Path.{_≡_, sym, _∙_}
+use mathlib.Core.Logic.{_⊎_, inl, inr}
 use mathlib.Core.Bool.{true, _&&_}
 use borrow.Author.Tests.{eqb-true, eq-eqb}
 use lib.Dec.{eqb}
-use Rattle.lists.proofs.TestsLaws.{and-left, and-right}
+use Rattle.lists.proofs.TestsLaws.{and-left, and-right, or-cases}
 use Rattle.component.specs.declared.Record.{Record}
 use Rattle.component.specs.Record.{toOf, inputOf, entering, enteringAs}
-use Rattle.component.specs.Reading.{ownerOf}
+use Rattle.component.specs.Reading.{formOf, ownerOf}
+
+-- A record that enters is a connection or a map.
+pub enters-as : (r : Record) → entering r ≡ true → (formOf r ≡ 2) ⊎ (formOf r ≡ 3)
+enters-as r e = by-form (or-cases (eqb (formOf r) 2) (eqb (formOf r) 3) e)
+  where
+    by-form : (eqb (formOf r) 2 ≡ true) ⊎ (eqb (formOf r) 3 ≡ true) → (formOf r ≡ 2) ⊎ (formOf r ≡ 3)
+    by-form (inl x) = inl (eqb-true (formOf r) 2 x)
+    by-form (inr x) = inr (eqb-true (formOf r) 3 x)
 
 pub record Enters (s r : Record) : Type 0 where
   pub enters : entering r ≡ true

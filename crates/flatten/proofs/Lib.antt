@@ -2,6 +2,7 @@ pub mod DescentLaws
 pub mod TargetsLaws
 pub mod Accepted
 pub mod JudgementLaws
+pub mod Refusals
 pub mod Components
 pub mod DescentLeads
 pub mod Wires

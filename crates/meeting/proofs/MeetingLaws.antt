@@ -1,15 +1,16 @@
 -- Laws of specs/Meeting.antt: the ways out of the functions of src/lib.rt; what a judgement is where the verdict is known, and its bounds.
 -- Assumes nothing.
 use mathlib.Core.Path.{_≡_, refl, sym, ap, _∙_}
-use mathlib.Core.Bool.{Bool, true, false, cond, _&&_}
+use mathlib.Core.Bool.{Bool, true, false, cond, _&&_, true≢false}
 use mathlib.Core.List.{List, []}
 use Prim.Native.Nat.{ℕ, _≤_, _<_}
 use native.Mathlib.Omega.{arith}
-use borrow.Author.Tests.{eq-eqb, ne-eqb}
+use borrow.Author.Tests.{eqb-true, eqb-false, eq-eqb, ne-eqb}
 use lib.Dec.{eqb}
 use Rattle.kinds.specs.declared.Id.{Id}
 use Rattle.kinds.specs.declared.table.Fields.{Fields}
 use Rattle.kinds.specs.declared.answers.Refusal.{Refusal}
+use Rattle.kinds.specs.Given.{tellsOfTwo}
 use Rattle.component.specs.declared.Record.{Record}
 use Rattle.component.specs.declared.ChildNo.{ChildNo}
 use Rattle.component.specs.declared.Says.{Says}
@@ -22,8 +23,9 @@ use Rattle.component.specs.Record.{recordAt}
 use Rattle.component.specs.Reading.{formOf, formBy, said}
 use Rattle.component.specs.Drawing.{earlierOf}
 use Rattle.component.proofs.RecordLaws.{refused-is, taken-form}
-use Rattle.flatten.specs.Verdict.{verdict, verdictGives}
+use Rattle.flatten.specs.Verdict.{refused, verdict, verdictGives}
 use Rattle.flatten.proofs.Accepted.{not-accepted}
+use Rattle.flatten.proofs.Refusals.{numberIn, positionIn}
 use Rattle.flatten.proofs.JudgementLaws.{verdictGives-is, verdict-bound}
 use Rattle.checks.proofs.ChecksLaws.{earlier-most}
 use Rattle.meeting.specs.Meeting.{metAs, meeting, against, judgement, Judges}
@@ -135,3 +137,53 @@ against-small at (Refused u) r h e = by-number (eqb (u .number) 13) e
 pub judgement-small : (s : List ℕ) (r : Refusal) → judgement s ≡ Refused r → Small r
 unfolding judgement
 judgement-small s r e = against-small (recordAt s) (verdict s) r (λ u d. verdict-bound s u d) e
+
+-- Where two records are told, the verdict is 13 at the later.
+told-only : (at : ℕ → Record) (v : Verdict) (r : Refusal)
+    → ((u : Refusal) → v ≡ Refused u → (u .number < 16) × (u .position < 1024) × (u .earlier ≡ 0))
+    → against at v ≡ Refused r → tellsOfTwo (r .number) ≡ true → v ≡ refused 13 (r .position)
+told-only at Accepted r h e t = absurd (not-accepted r (sym e))
+told-only at (Refused u) r h e t = by-number (eqb (u .number) 13) refl e
+  where
+    by-number : (b : Bool) → eqb (u .number) 13 ≡ b → Refused (cond b (meeting at (u .position)) u) ≡ Refused r
+        → Refused u ≡ refused 13 (r .position)
+    by-number true y d =
+        let n = eqb-true (u .number) 13 y in
+        let p : u .position ≡ r .position = ap positionIn d in
+        let q = h u refl .2 in
+        λ j. Refused (record { number = n j; position = p j; earlier = q j })
+    by-number false y d =
+        let k : u .number ≡ r .number = ap numberIn d in
+        let few = h u refl .0 in
+        let ne = eqb-false (u .number) 13 y in
+        absurd
+        (true≢false
+        (sym t
+        ∙ rw (ne-eqb (r .number) 13 (λ z. ne (k ∙ z)), ne-eqb (r .number) 22 (λ z. omega (arith, k, z, few)), ne-eqb (r .number) 23 (λ z. omega (arith, k, z, few)))))
+
+pub judgement-told : (s : List ℕ) (r : Refusal) → judgement s ≡ Refused r → tellsOfTwo (r .number) ≡ true → verdict s ≡ refused 13 (r .position)
+unfolding judgement
+judgement-told s r e t = told-only (recordAt s) (verdict s) r (λ u d. verdict-bound s u d) e t
+
+-- Where none are, the judgement is the verdict.
+untold-same : (at : ℕ → Record) (v : Verdict) (r : Refusal) → against at v ≡ Refused r → tellsOfTwo (r .number) ≡ false → v ≡ Refused r
+untold-same at Accepted r e t = absurd (not-accepted r (sym e))
+untold-same at (Refused u) r e t = by-number (eqb (u .number) 13) e
+  where
+    met-told : (b c : Bool) → tellsOfTwo (cond b 13 (cond c 23 22)) ≡ true
+    met-told true c = refl
+    met-told false true = refl
+    met-told false false = refl
+
+    by-number : (b : Bool) → Refused (cond b (meeting at (u .position)) u) ≡ Refused r → Refused u ≡ Refused r
+    by-number true d =
+        let q = earlierOf at (u .position) in
+        absurd
+        (true≢false
+        (sym (met-told (eqb (at q .form) 2 && eqb (at (u .position) .form) 2) (eqb (at q .form) 3 && eqb (at (u .position) .form) 3))
+        ∙ ap (λ (v : Verdict). tellsOfTwo (numberIn v)) d ∙ t))
+    by-number false d = d
+
+pub judgement-untold : (s : List ℕ) (r : Refusal) → judgement s ≡ Refused r → tellsOfTwo (r .number) ≡ false → verdict s ≡ Refused r
+unfolding judgement
+judgement-untold s r e t = untold-same (recordAt s) (verdict s) r e t

@@ -23,6 +23,7 @@ use Rattle.component.specs.declared.Verdict.the-variants.{Accepted}
 use Rattle.component.specs.Record.{recordAt, looseAt, recordCount, partAt, sized, composite, entering, enteringAs}
 use Rattle.component.specs.Reading.{formOf, ownerOf}
 use Rattle.component.specs.Drawing.{missing}
+use Rattle.component.proofs.EnteringLaws.{enters-as}
 use Rattle.flatten.specs.Verdict.{verdict, verdictGives, listBy, refused}
 use Rattle.flatten.proofs.Accepted.{accepted-check, accepted-passed, accepted-sized, accepted-readable}
 use Rattle.flatten.proofs.Components.{components-first, owner-composite}
@@ -46,14 +47,6 @@ parts-from file q (suc k) h =
     ap (λ (l : List ℕ). partAt file q ++ l)
     (parts-from file (suc q) k (omega (arith, h)) ∙ ap (λ (j : ℕ). drop j file) (sym e) ∙ sym (drop-drop 24 (24 * q) file))
     ∙ take-append-drop 24 (drop (24 * q) file)
-
--- A record that enters is of kind 2 or more.
-enters-late : (r : Record) → entering r ≡ true → 2 ≤ formOf r
-enters-late r e = by-form (or-cases (eqb (formOf r) 2) (eqb (formOf r) 3) e)
-  where
-    by-form : (eqb (formOf r) 2 ≡ true) ⊎ (eqb (formOf r) 3 ≡ true) → 2 ≤ formOf r
-    by-form (inl x) = omega (arith, eqb-true (formOf r) 2 x)
-    by-form (inr x) = omega (arith, eqb-true (formOf r) 3 x)
 
 module _ (file : List ℕ) (accepted : verdict file ≡ Accepted) where
   abbrev n : ℕ
@@ -91,10 +84,14 @@ module _ (file : List ℕ) (accepted : verdict file ≡ Accepted) where
 
   -- No record is dropped.
   module _ (p : ℕ) (h : p < n) where
+    late : (formOf (at p) ≡ 2) ⊎ (formOf (at p) ≡ 3) → 2 ≤ formOf (at p)
+    late (inl x) = omega (arith, x)
+    late (inr x) = omega (arith, x)
+
     passes12 : entering (at p) ≡ true → refused12 at n (at p) ≡ false
     passes12 e =
         refused12-same at n (record-past file) (components-first at n (accepted-passed file accepted)) (at p)
-        ∙ rw (owner-composite at n (accepted-passed file accepted) p h (enters-late (at p) e)) (accepted-check file accepted 12 p h)
+        ∙ rw (owner-composite at n (accepted-passed file accepted) p h (late (enters-as (at p) e))) (accepted-check file accepted 12 p h)
 
     passes13 : entering (at p) ≡ true → any (λ q. enteringAs (at p) (at q) && not (refused12 at n (at q))) (from 0 p) ≡ false
     passes13 e =

@@ -4,4 +4,5 @@ pub mod MakesUpHolds
 pub mod AcceptedHolds
 pub mod Numbered
 pub mod IdenticalHolds
+pub mod NeverHolds
 pub mod Cases
