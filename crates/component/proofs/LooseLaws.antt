@@ -3,14 +3,17 @@
 use mathlib.Core.Path.{_≡_, refl, sym, ap, _∙_}
 use mathlib.Core.Bool.{Bool, true, false, cond, not, _&&_, true≢false}
 use mathlib.Core.List.{List}
-use Prim.Native.Nat.{ℕ, _-_}
-use borrow.Author.Tests.{eqb-true}
+use Prim.Native.Nat.{ℕ, _-_, _*_, _≤_, _<_}
+use native.Mathlib.Omega.{arith}
+use borrow.Author.Tests.{eqb-true, le-ltb}
 use lib.Dec.{eqb, ltb}
-use lib.ListN.{getD}
+use lib.ListN.{length, getD, drop, length-drop}
+use lib.Seq.{length-take-le}
 use Rattle.lists.specs.Lists.{within, from}
 use Rattle.lists.proofs.MembersLaws.{keep-cong}
 use Rattle.kinds.specs.declared.table.Fields.{Fields}
 use Rattle.component.specs.declared.Record.{Record}
+use Rattle.component.specs.Record.{numbersIn, wellFormed, noRecord, partAt, recordCount, recordAt, looseAt}
 use Rattle.component.specs.Record.{fieldsOf, composite, ownedAs, entering, enteringAs, fromOf, outputOf, toOf, inputOf, portOf}
 use Rattle.component.specs.Reading.{formOf, ownerOf, saidBy}
 use Rattle.component.specs.Drawing.{child, fromThere, toThere, missing}
@@ -127,3 +130,24 @@ module _ (at of : ℕ → Record) (n : ℕ) (h : (c : ℕ) → Alike (at c) (of 
 
   pub composite-alike : (o : ℕ) → composite (at o) ≡ composite (of o)
   composite-alike o = rw (h o .fields)
+
+-- A position of a whole record: its part has 24 bytes.
+pub part-length : (file : List ℕ) (p : ℕ) → p < recordCount file → length (partAt file p) ≡ 24
+part-length file p h = length-take-le 24 (drop (24 * p) file) (omega (arith, length-drop (24 * p) file, h))
+
+-- Behind the last record there is none.
+pub loose-none : (file : List ℕ) (p : ℕ) → recordCount file ≤ p → looseAt file p ≡ noRecord
+loose-none file p h = rw (le-ltb p (recordCount file) h)
+
+pub record-none : (file : List ℕ) (p : ℕ) → recordCount file ≤ p → recordAt file p ≡ noRecord
+record-none file p h = rw (le-ltb p (recordCount file) h)
+
+-- A record that check 3 passes stands there by its byte 0 too.
+pub loose-strict : (file : List ℕ) (p : ℕ) → eqb (recordAt file p .form) 0 ≡ false → looseAt file p ≡ recordAt file p
+loose-strict file p e = by-tests (ltb p (recordCount file)) (wellFormed (numbersIn (partAt file p))) e
+  where
+    by-tests : (b c : Bool) → eqb (cond b (cond c (numbersIn (partAt file p)) noRecord) noRecord .form) 0 ≡ false
+        → cond b (numbersIn (partAt file p)) noRecord ≡ cond b (cond c (numbersIn (partAt file p)) noRecord) noRecord
+    by-tests true true u = refl
+    by-tests true false u = absurd (let z : _≡_ {A = ℕ} 0 1 = cc in omega arith)
+    by-tests false c u = refl

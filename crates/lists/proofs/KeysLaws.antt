@@ -21,33 +21,37 @@ module _ (size : ℕ) (of : ℕ → Bool) (mark : ℕ → ℕ) where
     pub unmarked-none : (x j : ℕ) → getD marks x 0 ≡ 0 → a ≤ j → j < b → of j ≡ true → mark j ≡ x → ⊥
     unmarked-none x j z l h p e = so-far .marked j l h p (ap (λ (k : ℕ). getD marks k 0) e ∙ z)
 
-    -- Setting a mark keeps those that are set.
-    set-kept : (x j : ℕ) → x < size → (getD marks (mark j) 0 ≡ 0 → ⊥) → getD (set marks x 1) (mark j) 0 ≡ 0 → ⊥
-    set-kept x j l kept = by-test (eqb x (mark j)) refl
-      where
-        by-test : (c : Bool) → eqb x (mark j) ≡ c → getD (set marks x 1) (mark j) 0 ≡ 0 → ⊥
-        by-test true e z =
-            let w : getD (set marks x 1) (mark j) 0 ≡ 1 =
-            ap (λ (k : ℕ). getD (set marks x 1) k 0) (sym (eqb-true x (mark j) e))
-            ∙ getD-set-same marks x 1 0 (omega (arith, so-far .whole, l)) in
-            omega (arith, w, z)
-        by-test false e z =
-            kept (sym (getD-set-other marks x (mark j) 1 0 (λ y. eqb-false x (mark j) e (sym y))) ∙ z)
+    -- Setting a mark, to any number but 0, keeps those that are set.
+    module _ (y : ℕ) (set-so : y ≡ 0 → ⊥) where
+      set-kept : (x j : ℕ) → x < size → (getD marks (mark j) 0 ≡ 0 → ⊥) → getD (set marks x y) (mark j) 0 ≡ 0 → ⊥
+      set-kept x j l kept = by-test (eqb x (mark j)) refl
+        where
+          by-test : (c : Bool) → eqb x (mark j) ≡ c → getD (set marks x y) (mark j) 0 ≡ 0 → ⊥
+          by-test true e z =
+              let w : getD (set marks x y) (mark j) 0 ≡ y =
+              ap (λ (k : ℕ). getD (set marks x y) k 0) (sym (eqb-true x (mark j) e))
+              ∙ getD-set-same marks x y 0 (omega (arith, so-far .whole, l)) in
+              set-so (sym w ∙ z)
+          by-test false e z =
+              kept (sym (getD-set-other marks x (mark j) y 0 (λ i. eqb-false x (mark j) e (sym i))) ∙ z)
 
-    -- The mark that is set.
-    set-here : (x j : ℕ) → x < size → x ≡ mark j → getD (set marks x 1) (mark j) 0 ≡ 0 → ⊥
-    set-here x j l e z =
-        let w : getD (set marks x 1) (mark j) 0 ≡ 1 =
-        ap (λ (k : ℕ). getD (set marks x 1) k 0) (sym e) ∙ getD-set-same marks x 1 0 (omega (arith, so-far .whole, l)) in
-        omega (arith, w, z)
+      -- The mark that is set.
+      set-here : (x j : ℕ) → x < size → x ≡ mark j → getD (set marks x y) (mark j) 0 ≡ 0 → ⊥
+      set-here x j l e z =
+          let w : getD (set marks x y) (mark j) 0 ≡ y =
+          ap (λ (k : ℕ). getD (set marks x y) k 0) (sym e) ∙ getD-set-same marks x y 0 (omega (arith, so-far .whole, l)) in
+          set-so (sym w ∙ z)
 
-    -- The next is marked.
+      -- The next is marked.
+      pub marks-with : (x : ℕ) → x < size → x ≡ mark b → IsMarked size of mark a (b + 1) (set marks x y)
+      marks-with x l e = record { whole = simp length-set (so-far .whole); marked = λ j h k p. by-place j h k p (decLt j b) }
+        where
+          by-place : (j : ℕ) → a ≤ j → j < b + 1 → of j ≡ true → Dec (j < b) → getD (set marks x y) (mark j) 0 ≡ 0 → ⊥
+          by-place j h k p (yes i) = set-kept x j l (so-far .marked j h i p)
+          by-place j h k p (no i) = let same : b ≡ j = omega arith in set-here x j l (e ∙ ap mark same)
+
     pub marks-up : (x : ℕ) → x < size → x ≡ mark b → IsMarked size of mark a (b + 1) (set marks x 1)
-    marks-up x l e = record { whole = simp length-set (so-far .whole); marked = λ j h k p. by-place j h k p (decLt j b) }
-      where
-        by-place : (j : ℕ) → a ≤ j → j < b + 1 → of j ≡ true → Dec (j < b) → getD (set marks x 1) (mark j) 0 ≡ 0 → ⊥
-        by-place j h k p (yes y) = set-kept x j l (so-far .marked j h y p)
-        by-place j h k p (no y) = let same : b ≡ j = omega arith in set-here x j l (e ∙ ap mark same)
+    marks-up = marks-with 1 (λ e. omega (arith, e))
 
     -- The next is not picked.
     pub marks-skip : of b ≡ false → IsMarked size of mark a (b + 1) marks

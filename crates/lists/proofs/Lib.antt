@@ -5,3 +5,4 @@ pub mod NamesLaws
 pub mod OverlayLaws
 pub mod KeysLaws
 pub mod LayingLaws
+pub mod KeepLaws

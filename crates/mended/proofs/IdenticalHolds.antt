@@ -35,8 +35,8 @@ use Rattle.mend.specs.Mend.{refused12, keptRecords, kept, mended, dropped, mend
 use Rattle.mend.specs.Sifting.{dropsPlainly}
 use Rattle.mend.proofs.KeptLaws.{kept-records}
 use Rattle.mended.specs.Owed.{MendIdentical}
-use Rattle.mended.proofs.KeepLaws.{keep-all, keep-no, any-no}
-use Rattle.mended.proofs.Parts.{loose-past, record-past, loose-strict}
+use Rattle.lists.proofs.KeepLaws.{keep-all, keep-no, any-no}
+use Rattle.component.proofs.LooseLaws.{loose-none, record-none, loose-strict}
 use Rattle.mended.proofs.Numbered.{refused12-same}
 
 -- The parts of a file of whole records, one after the other, are the file.
@@ -80,7 +80,7 @@ module _ (file : List ℕ) (accepted : verdict file ≡ Accepted) where
     where
       by-place : Dec (p < n) → looseAt file p ≡ recordAt file p
       by-place (yes h) = loose-strict file p (accepted-readable file accepted p h)
-      by-place (no h) = loose-past file p (omega (arith, h)) ∙ sym (record-past file p (omega (arith, h)))
+      by-place (no h) = loose-none file p (omega (arith, h)) ∙ sym (record-none file p (omega (arith, h)))
 
   -- No record is dropped.
   module _ (p : ℕ) (h : p < n) where
@@ -90,7 +90,7 @@ module _ (file : List ℕ) (accepted : verdict file ≡ Accepted) where
 
     passes12 : entering (at p) ≡ true → refused12 at n (at p) ≡ false
     passes12 e =
-        refused12-same at n (record-past file) (components-first at n (accepted-passed file accepted)) (at p)
+        refused12-same at n (record-none file) (components-first at n (accepted-passed file accepted)) (at p)
         ∙ rw (owner-composite at n (accepted-passed file accepted) p h (late (enters-as (at p) e))) (accepted-check file accepted 12 p h)
 
     passes13 : entering (at p) ≡ true → any (λ q. enteringAs (at p) (at q) && not (refused12 at n (at q))) (from 0 p) ≡ false

@@ -16,7 +16,8 @@ use Rattle.mend.specs.Mend.{kept, mended, dropped}
 use Rattle.mend.specs.Sifting.{dropsPlainly}
 use Rattle.mend.proofs.KeptLaws.{kept-records}
 use Rattle.mended.specs.Owed.{MakesUp, MendMakesUp, MendPlain, MendRoom}
-use Rattle.mended.proofs.KeepLaws.{keep-cong, keep-lengths, has-keep}
+use Rattle.lists.proofs.MembersLaws.{keep-cong}
+use Rattle.lists.proofs.KeepLaws.{keep-lengths, has-keep}
 use Rattle.mended.proofs.Parts.{mended-length, mended-count, mended-part}
 
 pub mend-plain : MendPlain

@@ -34,8 +34,10 @@ use Rattle.mend.specs.Mend.{components, numbered, refused12, kept, mended}
 use Rattle.mend.specs.Sifting.{dropsPlainly}
 use Rattle.mend.proofs.KeptLaws.{kept-records}
 use Rattle.mended.specs.Owed.{MendNever}
-use Rattle.mended.proofs.KeepLaws.{keep-cong, keep-keep, keep-map, keep-rises}
-use Rattle.mended.proofs.Parts.{loose-past, record-past, loose-strict, kept-sound, keptAt, mended-count, mended-loose}
+use Rattle.lists.proofs.MembersLaws.{keep-cong}
+use Rattle.lists.proofs.KeepLaws.{keep-keep, keep-map, keep-rises}
+use Rattle.component.proofs.LooseLaws.{loose-none, record-none, loose-strict}
+use Rattle.mended.proofs.Parts.{kept-sound, keptAt, mended-count, mended-loose}
 use Rattle.mended.proofs.Numbered.{refused12-same}
 
 -- A record that enters is one by its byte 0 too.
@@ -154,14 +156,14 @@ module _ (file : List ℕ) where
       where
         by-place : Dec (p < recordCount g) → looseAt g p ≡ recordAt g p
         by-place (yes h) = loose-strict g p (passed-check (recordAt g) (recordCount g) 12 3 p passed (omega arith) h)
-        by-place (no h) = loose-past g p (omega (arith, h)) ∙ sym (record-past g p (omega (arith, h)))
+        by-place (no h) = loose-none g p (omega (arith, h)) ∙ sym (record-none g p (omega (arith, h)))
 
     first-ones : (c q : ℕ) → formOf (recordAt g c) ≡ 1 → q ≤ c → formOf (recordAt g q) ≡ 1
     first-ones c q e l = by-place (decLt c (recordCount g))
       where
         by-place : Dec (c < recordCount g) → formOf (recordAt g q) ≡ 1
         by-place (yes h) = forms-first (recordAt g) (recordCount g) 12 passed (omega arith) c q h e l
-        by-place (no h) = absurd (omega (arith, ap formOf (record-past g c (omega (arith, h))), e))
+        by-place (no h) = absurd (omega (arith, ap formOf (record-none g c (omega (arith, h))), e))
 
     enters-there : (p : ℕ) → p < recordCount g → entering (recordAt g p) ≡ true
         → missing (recordAt g) (recordCount g) (recordAt g p) ≡ false
@@ -170,7 +172,7 @@ module _ (file : List ℕ) where
         let strict : looseAt g ≡ recordAt g = λ j q. same q j in
         let passes12 = or-left (refused12 lo n (lo (keptAt file p))) _ (stayed p h (rw a e)) in
         or-right (not (composite (recordAt g (recordAt g p .owner)))) (missing (recordAt g) (recordCount g) (recordAt g p))
-        (sym (refused12-same (recordAt g) (recordCount g) (record-past g) first-ones (recordAt g p))
+        (sym (refused12-same (recordAt g) (recordCount g) (record-none g) first-ones (recordAt g p))
         ∙ ap (λ (f : ℕ → Record). refused12 f (recordCount g) (recordAt g p)) (sym strict)
         ∙ sym (refused12-mended (recordAt g p))
         ∙ ap (refused12 lo n) (sym a)

@@ -25,7 +25,8 @@ use Rattle.component.specs.Reading.{formOf, ownerOf, noFields}
 use Rattle.component.specs.Drawing.{isComponent, child, missing}
 use Rattle.component.proofs.RecordLaws.{fields-cases}
 use Rattle.mend.specs.Mend.{components, numbered, refused12}
-use Rattle.mended.proofs.KeepLaws.{keep-no, keep-cong, keep-first-ones, getD-there}
+use Rattle.lists.proofs.MembersLaws.{keep-cong}
+use Rattle.lists.proofs.KeepLaws.{keep-no, keep-first-ones, getD-there}
 
 -- Entry i of numbers that follow one another.
 from-at : (q k i d : ℕ) → i < k → getD (from q k) i d ≡ q + i

@@ -14,32 +14,12 @@ use lib.Seq.{length-take-le}
 use Rattle.lists.specs.Lists.{from, keep}
 use Rattle.lists.proofs.MembersLaws.{In, keep-sound, in-getD, from0-sound}
 use Rattle.component.specs.declared.Record.{Record}
-use Rattle.component.specs.Record.{numbersIn, wellFormed, noRecord, partAt, recordCount, recordAt, looseAt}
+use Rattle.component.specs.Record.{numbersIn, partAt, recordCount, looseAt}
+use Rattle.component.proofs.LooseLaws.{part-length, loose-none}
 use Rattle.mend.specs.Mend.{kept, mended}
 use Rattle.mend.specs.Sifting.{dropsPlainly}
 use Rattle.mend.proofs.KeptLaws.{kept-records}
-use Rattle.mended.proofs.KeepLaws.{getD-there, joined-room, joined-list}
-
--- A position of a whole record: its part has 24 bytes.
-part-length : (file : List ℕ) (p : ℕ) → p < recordCount file → length (partAt file p) ≡ 24
-part-length file p h = length-take-le 24 (drop (24 * p) file) (omega (arith, length-drop (24 * p) file, h))
-
--- Behind the last record there is none.
-pub loose-past : (file : List ℕ) (p : ℕ) → recordCount file ≤ p → looseAt file p ≡ noRecord
-loose-past file p h = rw (le-ltb p (recordCount file) h)
-
-pub record-past : (file : List ℕ) (p : ℕ) → recordCount file ≤ p → recordAt file p ≡ noRecord
-record-past file p h = rw (le-ltb p (recordCount file) h)
-
--- A record that check 3 passes stands there by its byte 0 too.
-pub loose-strict : (file : List ℕ) (p : ℕ) → eqb (recordAt file p .form) 0 ≡ false → looseAt file p ≡ recordAt file p
-loose-strict file p e = by-tests (ltb p (recordCount file)) (wellFormed (numbersIn (partAt file p))) e
-  where
-    by-tests : (b c : Bool) → eqb (cond b (cond c (numbersIn (partAt file p)) noRecord) noRecord .form) 0 ≡ false
-        → cond b (numbersIn (partAt file p)) noRecord ≡ cond b (cond c (numbersIn (partAt file p)) noRecord) noRecord
-    by-tests true true u = refl
-    by-tests true false u = absurd (let z : _≡_ {A = ℕ} 0 1 = cc in omega arith)
-    by-tests false c u = refl
+use Rattle.lists.proofs.KeepLaws.{getD-there, joined-room, joined-list}
 
 module _ (file : List ℕ) where
   -- What is kept stands in the file and is not dropped.
@@ -77,6 +57,6 @@ module _ (file : List ℕ) where
           rw (lt-ltb i (recordCount (mended file)) below, lt-ltb (keptAt i) (recordCount file) inside)
           (ap numbersIn (mended-part i (recordCount file) h))
       by-place (no h) =
-          loose-past (mended file) i (omega (arith, h, mended-count))
-          ∙ sym (loose-past file (keptAt i)
+          loose-none (mended file) i (omega (arith, h, mended-count))
+          ∙ sym (loose-none file (keptAt i)
           (omega (arith, List·getD-eq-default (kept file) (recordCount file) {n = i} (omega (arith, h)))))

@@ -1,20 +1,30 @@
+-- `copy_record`: the bytes passed so far are copied.
+-- Assumes nothing.
+use mathlib.Core.Path.{_≡_, refl, sym, _∙_}
+use Prim.Native.Nat.{_+_, _-_, _*_, _≤_}
+use native.Mathlib.Omega.{arith}
+use lib.ListN.{length, take, length-set}
+use lib.Seq.{sets}
+use Rattle.component.specs.Record.{partAt}
+use Rattle.component.proofs.RecordLaws.{part-at}
+use Rattle.component.proofs.LooseLaws.{part-length}
+use Rattle.mend.proofs.CopyLaws.{copy-step, copy-whole}
 use borrow.Author.Needs.{needs}
 use Rattle.mend.proofs.copying.copy_record.Statement.{statement}
 use Rattle.mend.proofs.copying.copy_record.Tie as tie
-use Rattle.mend.proofs.copying.copy_record.Reads as reads
-use Rattle.mend.proofs.copying.copy_record.Lts as lts
 
 abbrev Inv-loop : tie.InvT-loop
-Inv-loop file p buffer₀ at first i₀ buffer i = ?
+Inv-loop file p buffer₀ at first i₀ buffer i =
+    (i ≤ 24) × (first ≡ 24 * p) × (buffer ≡ sets buffer₀ at (take i (partAt file p))) × (length buffer ≡ length buffer₀)
 
 abbrev μ-loop : tie.MeasureT-loop
-μ-loop file p buffer₀ at first i₀ buffer i = ?
+μ-loop file p buffer₀ at first i₀ buffer i = 24 - i
 
 mul-first : tie.Need-mul-first Inv-loop μ-loop
 mul-first c = search needs
 
 loop-holds : tie.Need-loop-holds Inv-loop μ-loop
-loop-holds c = search needs
+loop-holds c = (omega arith, refl, refl, refl)
 
 add-buffer : tie.Need-add-buffer Inv-loop μ-loop
 add-buffer c = search needs
@@ -35,13 +45,25 @@ loop-less : tie.Need-loop-less Inv-loop μ-loop
 loop-less c = search needs
 
 loop-again : tie.Need-loop-again Inv-loop μ-loop
-loop-again c = search needs
+loop-again c =
+    let l = c .before .before .loop in
+    let s = c .before .before .before in
+    let h = part-length (s .args .file .now) (s .args .p) (s .pre .0) in (
+      omega arith,
+      refl,
+      copy-step (s .args .buffer .now) (l .buffer) (partAt (s .args .file .now) (s .args .p)) (s .args .at) (l .i) _ (l .inv .2) (omega (arith, h))
+          (sym (part-at (s .args .file .now) (s .args .p) (l .i) (omega arith))),
+      length-set (l .buffer) (s .args .at + l .i) _ ∙ l .inv .3,
+    )
 
 same-length : tie.Need-same-length Inv-loop μ-loop
-same-length c = search needs
+same-length c = c .before .loop .inv .3
 
 returns : tie.Need-returns Inv-loop μ-loop
-returns c = search needs
+returns c =
+    let l = c .before .loop in
+    let s = c .before .before in
+    copy-whole (s .args .buffer .now) (l .buffer) (s .args .file .now) (s .args .at) (s .args .p) (l .i) (s .pre .0) (omega arith) (l .inv .2)
 
 pub copy-record-spec : {M : Type 1} → statement M
 copy-record-spec =

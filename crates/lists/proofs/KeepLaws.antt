@@ -1,5 +1,5 @@
 -- Laws of those of a list that pass a test.
---   all or none pass; tests that agree; a test and its negation; one test behind another; those given by others
+--   all or none pass; a test and its negation; one test behind another; those given by others
 --   of numbers that follow one another: those that pass ascend, and are the first ones where the test never holds behind one that it fails
 --   whether a number is among them
 --   lists of one length one after the other, by members
@@ -7,16 +7,16 @@
 -- Assumes nothing.
 use mathlib.Core.Path.{_≡_, refl, sym, ap, _∙_}
 use mathlib.Core.Logic.{inl, inr}
-use mathlib.Core.Bool.{Bool, true, false, cond, not, _&&_, false≢true}
+use mathlib.Core.Bool.{Bool, true, false, cond, not, _&&_, _||_, false≢true}
 use mathlib.Core.List.{List, [], _∷_, _++_, map}
 use Prim.Native.Nat.{ℕ, zero, suc, _+_, _*_, _≤_, _<_}
 use native.Mathlib.Nat.{mul-zero, mul-suc}
 use native.Mathlib.Omega.{arith}
 use lib.ListN.{length, getD, take, drop, length-append}
 use lib.Seq.{take-at, drop-append-add}
 use Rattle.lists.specs.Lists.{from, keep, any, joined, has}
 use Rattle.lists.proofs.TestsLaws.{tests-equal}
 use Rattle.lists.proofs.MembersLaws.{In, keep-sound, keep-complete, keep-first, in-getD, from-sound, from0-complete, has-sound, has-complete}
 
 module _ {A : Type 0} where
   pub keep-all : (f : A → Bool) (xs : List A) → ((a : A) → In a xs → f a ≡ true) → keep f xs ≡ xs
@@ -26,11 +26,6 @@ module _ {A : Type 0} where
   pub keep-no : (f : A → Bool) (xs : List A) → ((a : A) → In a xs → f a ≡ false) → keep f xs ≡ []
   keep-no f [] h = refl
   keep-no f (x ∷ xs) h = rw (h x (inl refl)) (keep-no f xs (λ a u. h a (inr u)))
-
-  pub keep-cong : (f g : A → Bool) (xs : List A) → ((a : A) → In a xs → f a ≡ g a) → keep f xs ≡ keep g xs
-  keep-cong f g [] h = refl
-  keep-cong f g (x ∷ xs) h =
-      let later = keep-cong f g xs (λ a u. h a (inr u)) in λ i. cond (h x (inl refl) i) (x ∷ later i) (later i)
 
   pub any-no : (f : A → Bool) (d : A) (xs : List A) → ((a : A) → In a xs → f a ≡ true → ⊥) → any f xs ≡ false
   any-no f d xs h = by-test (any f xs) refl
@@ -74,6 +69,16 @@ module _ {A : Type 0} where
   getD-there [] j d e h = absurd (omega (arith, h))
   getD-there (x ∷ xs) zero d e h = refl
   getD-there (x ∷ xs) (suc j) d e h = getD-there xs j d e (omega (arith, h))
+
+-- One of those that pass a test passes another.
+pub any-keep : {A : Type 0} (f g : A → Bool) (xs : List A) → any f (keep g xs) ≡ any (λ x. g x && f x) xs
+any-keep f g [] = refl
+any-keep f g (x ∷ xs) = by-test (g x) (any-keep f g xs)
+  where
+    by-test : (b : Bool) → any f (keep g xs) ≡ any (λ x. g x && f x) xs
+        → any f (cond b (x ∷ keep g xs) (keep g xs)) ≡ ((b && f x) || any (λ x. g x && f x) xs)
+    by-test true e = ap (λ (c : Bool). f x || c) e
+    by-test false e = e
 
 module _ (f : ℕ → Bool) where
   pub keep-rises : (q k i j d : ℕ) → i < j → j < length (keep f (from q k))
