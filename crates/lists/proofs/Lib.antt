@@ -1,6 +1,7 @@
 pub mod TestsLaws
 pub mod ListsLaws
 pub mod MembersLaws
+pub mod KeepLaws
 pub mod NamesLaws
 pub mod OverlayLaws
 pub mod KeysLaws

@@ -1,4 +1,3 @@
-pub mod KeepLaws
 pub mod Parts
 pub mod MakesUpHolds
 pub mod AcceptedHolds

@@ -4,21 +4,20 @@
 use mathlib.Core.Path.{_≡_, refl, sym, ap, _∙_}
 use mathlib.Core.Bool.{Bool, true, false, cond, not}
 use mathlib.Core.List.{List}
-use Prim.Native.Nat.{ℕ, _+_, _*_, _/_, _≤_, _<_}
+use Prim.Native.Nat.{ℕ, _*_, _≤_, _<_}
 use native.Mathlib.Decide.{decLt}
 use native.Mathlib.Omega.{arith}
 use borrow.Author.Tests.{lt-ltb, le-ltb}
 use lib.Dec.{eqb, ltb}
 use lib.ListN.{length, getD, drop, length-drop, List·getD-eq-default}
 use lib.Seq.{length-take-le}
-use Rattle.lists.specs.Lists.{from, keep}
+use Rattle.lists.specs.Lists.{from}
 use Rattle.lists.proofs.MembersLaws.{In, keep-sound, in-getD, from0-sound}
-use Rattle.component.specs.declared.Record.{Record}
+use Rattle.lists.proofs.KeepLaws.{joined-room, joined-list}
 use Rattle.component.specs.Record.{numbersIn, wellFormed, noRecord, partAt, recordCount, recordAt, looseAt}
 use Rattle.mend.specs.Mend.{kept, mended}
 use Rattle.mend.specs.Sifting.{dropsPlainly}
 use Rattle.mend.proofs.KeptLaws.{kept-records}
-use Rattle.mended.proofs.KeepLaws.{getD-there, joined-room, joined-list}
 
 -- A position of a whole record: its part has 24 bytes.
 part-length : (file : List ℕ) (p : ℕ) → p < recordCount file → length (partAt file p) ≡ 24
@@ -27,9 +26,6 @@ part-length file p h = length-take-le 24 (drop (24 * p) file) (omega (arith, len
 -- Behind the last record there is none.
 pub loose-past : (file : List ℕ) (p : ℕ) → recordCount file ≤ p → looseAt file p ≡ noRecord
 loose-past file p h = rw (le-ltb p (recordCount file) h)
-
-pub record-past : (file : List ℕ) (p : ℕ) → recordCount file ≤ p → recordAt file p ≡ noRecord
-record-past file p h = rw (le-ltb p (recordCount file) h)
 
 -- A record that check 3 passes stands there by its byte 0 too.
 pub loose-strict : (file : List ℕ) (p : ℕ) → eqb (recordAt file p .form) 0 ≡ false → looseAt file p ≡ recordAt file p

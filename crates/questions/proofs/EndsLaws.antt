@@ -15,6 +15,7 @@ use Rattle.lists.proofs.ListsLaws.{replicate-zero}
 use Rattle.lists.specs.Lists.{from, keep, any, overlay}
 use Rattle.lists.proofs.MembersLaws.{any-append, any-map, from-last}
 use Rattle.lists.proofs.ListsLaws.{keep-append}
+use Rattle.lists.proofs.KeepLaws.{keep-cong}
 use Rattle.tables.specs.declared.Wire.{Wire}
 use Rattle.tables.specs.Tables.{Tables, wireAt, joins, sources, targets, indexes}
 use Rattle.questions.specs.declared.Tip.{Tip}
@@ -94,10 +95,6 @@ module _ (marks t u : List ℕ) (listed j : ℕ) (count : listed ≡ length (mar
   list-none e = rw (marked-none marks j e) (count, so-far)
 
 -- Nothing is marked at first.
-keep-cong : (f g : ℕ → Bool) (xs : List ℕ) → ((x : ℕ) → f x ≡ g x) → keep f xs ≡ keep g xs
-keep-cong f g [] e = refl
-keep-cong f g (x ∷ xs) e = rw (e x, keep-cong f g xs e)
-
 any-cong : (f g : ℕ → Bool) (xs : List ℕ) → ((x : ℕ) → f x ≡ g x) → any f xs ≡ any g xs
 any-cong f g [] e = refl
 any-cong f g (x ∷ xs) e = rw (e x, any-cong f g xs e)
@@ -108,7 +105,7 @@ pub marked-met : (ws marks : List ℕ) (size m : ℕ) (near far : Tip) (i n : �
     → markedBelow marks n ≡ met ws m near far i n
 unfolding met
 marked-met ws marks size m near far i n e =
-    keep-cong (λ j. eqb (getD marks j 0) 1) (meets ws m near far i) (from 0 n) each
+    keep-cong (λ j. eqb (getD marks j 0) 1) (meets ws m near far i) (from 0 n) (λ j u. each j)
   where
     by-test : (b : Bool) → eqb (cond b 1 0) 1 ≡ b
     by-test true = refl
