@@ -131,9 +131,9 @@ pub sources-met : (T : Tables) (i : ℕ) → sources T i ≡ met (T .wires) (T .
 unfolding sources met
 sources-met T i =
     keep-cong (λ j. joins T j i) (meets (T .wires) (T .counts .wires) Target Source i) (indexes T)
-    (λ j. joins-meets T j i ∙ meets-back (T .wires) (T .counts .wires) Source Target j i)
+    (λ j u. joins-meets T j i ∙ meets-back (T .wires) (T .counts .wires) Source Target j i)
 
 pub targets-met : (T : Tables) (i : ℕ) → targets T i ≡ met (T .wires) (T .counts .wires) Source Target i (T .counts .components)
 unfolding targets met
 targets-met T i =
-    keep-cong (λ j. joins T i j) (meets (T .wires) (T .counts .wires) Source Target i) (indexes T) (joins-meets T i)
+    keep-cong (λ j. joins T i j) (meets (T .wires) (T .counts .wires) Source Target i) (indexes T) (λ j u. joins-meets T i j)
