@@ -1,5 +1,5 @@
 -- The records of what is mended are those that are kept: how many they are, and the bytes of each.
---   kept-at file i   the position that the record at i of what is mended had in the file
+--   keptAt file i   the position that the record at i of what is mended had in the file
 -- Assumes nothing.
 use mathlib.Core.Path.{_≡_, refl, sym, ap, _∙_}
 use mathlib.Core.Bool.{Bool, true, false, cond, not}
