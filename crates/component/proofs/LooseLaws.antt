@@ -139,9 +139,6 @@ part-length file p h = length-take-le 24 (drop (24 * p) file) (omega (arith, len
 pub loose-none : (file : List ℕ) (p : ℕ) → recordCount file ≤ p → looseAt file p ≡ noRecord
 loose-none file p h = rw (le-ltb p (recordCount file) h)
 
-pub record-none : (file : List ℕ) (p : ℕ) → recordCount file ≤ p → recordAt file p ≡ noRecord
-record-none file p h = rw (le-ltb p (recordCount file) h)
-
 -- A record that check 3 passes stands there by its byte 0 too.
 pub loose-strict : (file : List ℕ) (p : ℕ) → eqb (recordAt file p .form) 0 ≡ false → looseAt file p ≡ recordAt file p
 loose-strict file p e = by-tests (ltb p (recordCount file)) (wellFormed (numbersIn (partAt file p))) e

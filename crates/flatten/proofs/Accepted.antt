@@ -74,7 +74,8 @@ pub record Passed (at : ℕ → Record) (n : ℕ) : Type 0 where
   pub past : (p : ℕ) → n ≤ p → at p ≡ noRecord
   pub passes : (k : ℕ) → ltb k 15 ≡ true → (p : ℕ) → p < n → checkNumbered at n k .1 p ≡ false
 
-recordAt-past : (file : List ℕ) (p : ℕ) → recordCount file ≤ p → recordAt file p ≡ noRecord
+-- Behind the last record there is none.
+pub recordAt-past : (file : List ℕ) (p : ℕ) → recordCount file ≤ p → recordAt file p ≡ noRecord
 recordAt-past file p h = rw (le-ltb p (recordCount file) h)
 
 -- No record fails a check whose place is before that of m, where the checks before m have passed.

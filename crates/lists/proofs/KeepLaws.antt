@@ -11,6 +11,7 @@ use mathlib.Core.Bool.{Bool, true, false, cond, not, _&&_, _||_, false≢true}
 use mathlib.Core.List.{List, [], _∷_, _++_, map}
 use Prim.Native.Nat.{ℕ, zero, suc, _+_, _*_, _≤_, _<_}
 use native.Mathlib.Nat.{mul-zero, mul-suc}
+use native.Mathlib.Decide.{decLt}
 use native.Mathlib.Omega.{arith}
 use lib.ListN.{length, getD, take, drop, length-append}
 use lib.Seq.{take-at, drop-append-add}
@@ -27,12 +28,17 @@ module _ {A : Type 0} where
   keep-no f [] h = refl
   keep-no f (x ∷ xs) h = rw (h x (inl refl)) (keep-no f xs (λ a u. h a (inr u)))
 
-  pub any-no : (f : A → Bool) (d : A) (xs : List A) → ((a : A) → In a xs → f a ≡ true → ⊥) → any f xs ≡ false
-  any-no f d xs h = by-test (any f xs) refl
+  pub any-sound : (f : A → Bool) (d : A) (xs : List A) → any f xs ≡ true
+      → (f (getD (keep f xs) 0 d) ≡ true) × In (getD (keep f xs) 0 d) xs
+  any-sound f d xs e = keep-sound f (getD (keep f xs) 0 d) xs (keep-first f xs d e)
+
+  pub any-no : (f : A → Bool) (xs : List A) → ((a : A) → In a xs → f a ≡ true → ⊥) → any f xs ≡ false
+  any-no f [] h = refl
+  any-no f (x ∷ xs) h = by-test (f x) refl (any-no f xs (λ a u. h a (inr u)))
     where
-      by-test : (b : Bool) → any f xs ≡ b → b ≡ false
-      by-test true e = let z = keep-sound f _ xs (keep-first f xs d e) in absurd (h _ (z .1) (z .0))
-      by-test false e = refl
+      by-test : (b : Bool) → f x ≡ b → any f xs ≡ false → (b || any f xs) ≡ false
+      by-test true e later = absurd (h x (inl refl) e)
+      by-test false e later = later
 
   -- Those that pass and those that do not are all.
   pub keep-lengths : (f : A → Bool) (xs : List A) → length (keep f xs) + length (keep (λ x. not (f x)) xs) ≡ length xs
@@ -98,6 +104,20 @@ module _ (f : ℕ → Bool) where
       by-test true (suc i) (suc j) h l later = later i j d (omega (arith, h)) (omega (arith, l))
       by-test false i j h l later = later i j d h l
 
+  -- The first that passes is the least.
+  pub keep-least : (q k r d : ℕ) → q ≤ r → r < q + k → f r ≡ true → getD (keep f (from q k)) 0 d ≤ r
+  keep-least q zero r d h l e = absurd (omega (arith, h, l))
+  keep-least q (suc k) r d h l e = by-test (f q) refl (λ g. keep-least (suc q) k r d g (omega (arith, l)) e)
+    where
+      by-test : (b : Bool) → f q ≡ b → (suc q ≤ r → getD (keep f (from (suc q) k)) 0 d ≤ r)
+          → getD (cond b (q ∷ keep f (from (suc q) k)) (keep f (from (suc q) k))) 0 d ≤ r
+      by-test true u later = h
+      by-test false u later = by-place (decLt q r)
+        where
+          by-place : Dec (q < r) → getD (keep f (from (suc q) k)) 0 d ≤ r
+          by-place (yes g) = later g
+          by-place (no g) = let z : r ≡ q = omega (arith, h, g) in absurd (false≢true (sym u ∙ ap f (sym z) ∙ e))
+
   pub keep-first-ones : (q k : ℕ) → ((p r : ℕ) → f r ≡ true → p ≤ r → f p ≡ true) → keep f (from q k) ≡ from q (length (keep f (from q k)))
   keep-first-ones q zero h = refl
   keep-first-ones q (suc k) h = by-test (f q) refl (keep-first-ones (suc q) k h)
@@ -120,6 +140,12 @@ module _ (f : ℕ → Bool) where
       tests-equal (has p (keep f (from 0 n))) (f p)
       (λ e. keep-sound f p (from 0 n) (has-sound p (keep f (from 0 n)) e) .0)
       (λ e. has-complete p (keep f (from 0 n)) (keep-complete f p (from 0 n) e (from0-complete n p h)))
+
+-- Entry i of numbers that follow one another.
+pub from-at : (q k i d : ℕ) → i < k → getD (from q k) i d ≡ q + i
+from-at q zero i d h = absurd (omega (arith, h))
+from-at q (suc k) zero d h = omega arith
+from-at q (suc k) (suc i) d h = omega (arith, from-at (suc q) k i d (omega (arith, h)))
 
 -- Lists of w entries one after the other: w times as many entries, and list i stands behind w * i of them.
 module _ {A B : Type 0} (f : A → List B) (w : ℕ) where

@@ -1,4 +1,5 @@
--- Laws of specs/Meeting.antt: the ways out of the functions of src/lib.rt; what a judgement is where the verdict is known, and its bounds.
+-- Laws of specs/Meeting.antt: the ways out of the functions of src/lib.rt; what a judgement is where the verdict is known, its bounds,
+-- and what the verdict is where the judgement is known.
 -- Assumes nothing.
 use mathlib.Core.Path.{_≡_, refl, sym, ap, _∙_}
 use mathlib.Core.Bool.{Bool, true, false, cond, _&&_, true≢false}

@@ -1,6 +1,6 @@
 -- What a mending that is not refused has written is an accepted drawing: `mend-accepted`.
 -- Assumes nothing.
-use mathlib.Core.Path.{_≡_, refl, sym, ap, _∙_}
+use mathlib.Core.Path.{_≡_, refl, ap, _∙_}
 use mathlib.Core.Bool.{Bool, true, false, cond, _&&_}
 use mathlib.Core.List.{List, [], _∷_}
 use Prim.Native.Nat.{ℕ}
@@ -8,7 +8,7 @@ use lib.Dec.{leb}
 use lib.ListN.{length, take}
 use Rattle.lists.specs.Lists.{within, overlay}
 use Rattle.lists.proofs.OverlayLaws.{overlay-front}
-use Rattle.kinds.specs.Given.{done, declined}
+use Rattle.kinds.specs.Given.{done}
 use Rattle.kinds.proofs.GivenLaws.{done-values, done-declined}
 use Rattle.component.specs.declared.Verdict.{Verdict}
 use Rattle.component.specs.declared.Verdict.the-variants.{Accepted, Refused}
@@ -20,9 +20,9 @@ use Rattle.mend.specs.Mend.{mended, dropped, mendVerdict}
 use Rattle.mended.specs.Owed.{MendAccepted}
 
 -- What is done is accepted, and gives what it wrote.
-gives-done : (v : Verdict) (xs ys : List ℕ) → done xs ≡ verdictGives v ys → (v ≡ Accepted) × (xs ≡ ys)
-gives-done Accepted xs ys e = (refl, done-values xs ys e)
-gives-done (Refused r) xs ys e = absurd (done-declined xs r e)
+gives-accepted : (v : Verdict) (xs ys : List ℕ) → done xs ≡ verdictGives v ys → (v ≡ Accepted) × (xs ≡ ys)
+gives-accepted Accepted xs ys e = (refl, done-values xs ys e)
+gives-accepted (Refused r) xs ys e = absurd (done-declined xs r e)
 
 -- A mending that is not refused has judged what it mended.
 verdict-judged : (file out list : List ℕ) → mendVerdict file out list ≡ Accepted → judgement (mended file) ≡ Accepted
@@ -45,7 +45,7 @@ front v xs lent after k a e h =
 pub mend-accepted : MendAccepted
 mend-accepted file out list out′ list′ bytes positions h =
     let v = mendVerdict file out list in
-    let z = gives-done v (bytes ∷ positions ∷ []) (length (mended file) ∷ length (dropped file) ∷ []) (h .0) in
+    let z = gives-accepted v (bytes ∷ positions ∷ []) (length (mended file) ∷ length (dropped file) ∷ []) (h .0) in
     let b : bytes ≡ length (mended file) = cc in
     let p : positions ≡ length (dropped file) = cc in
     let written = front v (mended file) out out′ bytes (z .0) (h .1) b in

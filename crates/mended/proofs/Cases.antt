@@ -73,6 +73,7 @@ pub mendings-hold :
     × (mending (lampWithout 5)
     ≡ record { given = done (240 ∷ 1 ∷ []); list = 7 ∷ 7 ∷ []; front = take 240 (mended (lampWithout 5)) ++ replicate 48 7 })
     × (mended (lampWithout 5) ≡ take 120 lamp ++ take 48 (drop 144 lamp) ++ drop 216 lamp)
+    × (dropped (lampWithout 5) ≡ 7 ∷ [])
     -- Without the Nor its maps go, and the output map is refused where it then stands.
     × (mending (lampWithout 4) ≡ refusedAs 12 8)
     × (dropped (lampWithout 4) ≡ 8 ∷ 9 ∷ [])
@@ -86,8 +87,11 @@ pub mendings-hold :
     -- No whole record; no record left.
     × (mending (take 7 lamp) ≡ refusedAs 1 0)
     × (mending (connectionBytes 0 0 0 0 0) ≡ refusedAs 1 0)
+    -- One record too many, also where the buffer is too short; as many as may be.
+    × (mending (replicate 24600 0) ≡ refusedAs 1 0)
+    × (mending (replicate 24599 0) ≡ refusedAs 2 0)
     -- A buffer and a list one too short.
     × (mendingBy 287 1025 lamp ≡ record { given = declined (record { number = 2; position = 0; earlier = 0 }); list = 7 ∷ 7 ∷ []; front = replicate 287 7 })
     × (mendingBy 400 1024 lamp ≡ refusedAs 2 0)
 unfolding judgement verdict overlay deepest obeys outputBelow inputsBelow comesFrom goesTo refused12 keptRecords mended dropped mendVerdict
-mendings-hold = (refl, refl, refl, refl, refl, refl, refl, refl, refl, refl, refl, refl, refl, refl, refl, refl, refl, refl, refl, refl, refl, refl, refl)
+mendings-hold = (refl, refl, refl, refl, refl, refl, refl, refl, refl, refl, refl, refl, refl, refl, refl, refl, refl, refl, refl, refl, refl, refl, refl, refl, refl, refl)

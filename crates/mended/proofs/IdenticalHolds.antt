@@ -2,30 +2,30 @@
 -- Assumes nothing.
 use mathlib.Core.Path.{_≡_, refl, sym, ap, _∙_}
 use mathlib.Core.Logic.{_⊎_, inl, inr}
-use mathlib.Core.Bool.{Bool, true, false, cond, not, _&&_, _||_, true≢false}
+use mathlib.Core.Bool.{Bool, true, false, not, _&&_, true≢false}
 use mathlib.Core.List.{List, [], _∷_, _++_}
-use Prim.Native.Nat.{ℕ, zero, suc, _+_, _*_, _/_, _%_, _≤_, _<_}
+use Prim.Native.Nat.{ℕ, zero, suc, _+_, _*_, _%_, _≤_, _<_}
 use native.Mathlib.Decide.{decLt}
 use native.Mathlib.Omega.{arith}
-use borrow.Author.Tests.{eqb-true, eqb-false, ltb-true, leb-true, le-leb, not-true}
-use lib.Dec.{eqb, ltb, leb}
-use lib.ListN.{length, take, drop, take-append-drop, drop-of-length-le}
+use borrow.Author.Tests.{eqb-true, eqb-false, leb-true, le-leb, not-true}
+use lib.Dec.{eqb, leb}
+use lib.ListN.{length, drop, take-append-drop, drop-of-length-le}
 use lib.Seq.{drop-drop}
-use Rattle.lists.specs.Lists.{within, from, keep, any, joined, has, overlay}
-use Rattle.lists.proofs.TestsLaws.{and-left, and-right, and-right-false, or-cases}
-use Rattle.lists.proofs.MembersLaws.{In, any-none, any-some, has-complete}
+use Rattle.lists.specs.Lists.{from, any, joined, has, overlay}
+use Rattle.lists.proofs.TestsLaws.{and-left, and-right, and-right-false}
+use Rattle.lists.proofs.MembersLaws.{any-none, has-complete}
 use Rattle.lists.proofs.MembersLaws.{from0-sound}
+use Rattle.lists.proofs.KeepLaws.{keep-all, keep-no, any-no}
 use Rattle.kinds.specs.Given.{done}
 use Rattle.kinds.proofs.GivenLaws.{done-values, done-declined}
 use Rattle.component.specs.declared.Record.{Record}
 use Rattle.component.specs.declared.Verdict.{Verdict}
 use Rattle.component.specs.declared.Verdict.the-variants.{Accepted}
-use Rattle.component.specs.Record.{recordAt, looseAt, recordCount, partAt, sized, composite, entering, enteringAs}
-use Rattle.component.specs.Reading.{formOf, ownerOf}
-use Rattle.component.specs.Drawing.{missing}
+use Rattle.component.specs.Record.{recordAt, looseAt, recordCount, partAt, sized, entering, enteringAs}
+use Rattle.component.specs.Reading.{formOf}
 use Rattle.component.proofs.EnteringLaws.{enters-as}
-use Rattle.flatten.specs.Verdict.{verdict, verdictGives, listBy, refused}
-use Rattle.flatten.proofs.Accepted.{accepted-check, accepted-passed, accepted-sized, accepted-readable}
+use Rattle.flatten.specs.Verdict.{verdict, verdictGives, listBy}
+use Rattle.flatten.proofs.Accepted.{recordAt-past, accepted-check, accepted-passed, accepted-sized, accepted-readable}
 use Rattle.flatten.proofs.Components.{components-first, owner-composite}
 use Rattle.meeting.specs.Meeting.{judgement}
 use Rattle.meeting.proofs.MeetingLaws.{judgement-accepted, accepted-judgement}
@@ -35,8 +35,7 @@ use Rattle.mend.specs.Mend.{refused12, keptRecords, kept, mended, dropped, mend
 use Rattle.mend.specs.Sifting.{dropsPlainly}
 use Rattle.mend.proofs.KeptLaws.{kept-records}
 use Rattle.mended.specs.Owed.{MendIdentical}
-use Rattle.lists.proofs.KeepLaws.{keep-all, keep-no, any-no}
-use Rattle.component.proofs.LooseLaws.{loose-none, record-none, loose-strict}
+use Rattle.component.proofs.LooseLaws.{loose-none, loose-strict}
 use Rattle.mended.proofs.Numbered.{refused12-same}
 
 -- The parts of a file of whole records, one after the other, are the file.
@@ -80,7 +79,7 @@ module _ (file : List ℕ) (accepted : verdict file ≡ Accepted) where
     where
       by-place : Dec (p < n) → looseAt file p ≡ recordAt file p
       by-place (yes h) = loose-strict file p (accepted-readable file accepted p h)
-      by-place (no h) = loose-none file p (omega (arith, h)) ∙ sym (record-none file p (omega (arith, h)))
+      by-place (no h) = loose-none file p (omega (arith, h)) ∙ sym (recordAt-past file p (omega (arith, h)))
 
   -- No record is dropped.
   module _ (p : ℕ) (h : p < n) where
@@ -90,13 +89,13 @@ module _ (file : List ℕ) (accepted : verdict file ≡ Accepted) where
 
     passes12 : entering (at p) ≡ true → refused12 at n (at p) ≡ false
     passes12 e =
-        refused12-same at n (record-none file) (components-first at n (accepted-passed file accepted)) (at p)
+        refused12-same at n (recordAt-past file) (components-first at n (accepted-passed file accepted)) (at p)
         ∙ rw (owner-composite at n (accepted-passed file accepted) p h (late (enters-as (at p) e))) (accepted-check file accepted 12 p h)
 
     passes13 : entering (at p) ≡ true → any (λ q. enteringAs (at p) (at q) && not (refused12 at n (at q))) (from 0 p) ≡ false
     passes13 e =
         let none = and-right-false (entering (at p)) (any (λ q. enteringAs (at p) (at q)) (from 0 p)) (accepted-check file accepted 13 p h) e in
-        any-no (λ q. enteringAs (at p) (at q) && not (refused12 at n (at q))) 0 (from 0 p)
+        any-no (λ q. enteringAs (at p) (at q) && not (refused12 at n (at q))) (from 0 p)
         (λ q u t. true≢false
         (sym (and-left (enteringAs (at p) (at q)) (not (refused12 at n (at q))) t)
         ∙ any-none (λ q. enteringAs (at p) (at q)) q (from 0 p) none u))

@@ -2,22 +2,21 @@
 -- what was kept before: `mend-plain`.
 -- Assumes nothing.
 use mathlib.Core.Path.{_≡_, refl, sym, ap, _∙_}
-use mathlib.Core.Bool.{Bool, true, false, cond, not, _&&_, _||_}
+use mathlib.Core.Bool.{Bool, true, false, cond, not, _&&_, _||_, or-false, and-false, and-true}
 use mathlib.Core.List.{List, [], _∷_}
-use Prim.Native.Nat.{ℕ, _+_, _*_, _%_, _≤_, _<_}
+use Prim.Native.Nat.{ℕ, _+_, _%_, _≤_, _<_}
 use native.Mathlib.Omega.{arith}
 use borrow.Author.Tests.{eq-eqb, ne-eqb}
 use lib.Dec.{eqb}
 use lib.ListN.{length, length-append}
 use Rattle.lists.specs.Lists.{from, keep, has}
-use Rattle.lists.proofs.MembersLaws.{any-append, keep-sound, has-none, from0-sound, from-length}
+use Rattle.lists.proofs.MembersLaws.{any-append, keep-sound, has-none, from0-sound, from-length, keep-cong}
+use Rattle.lists.proofs.KeepLaws.{keep-lengths, has-keep}
 use Rattle.component.specs.Record.{recordCount, looseAt}
 use Rattle.mend.specs.Mend.{kept, mended, dropped}
 use Rattle.mend.specs.Sifting.{dropsPlainly}
 use Rattle.mend.proofs.KeptLaws.{kept-records}
 use Rattle.mended.specs.Owed.{MakesUp, MendMakesUp, MendPlain, MendRoom}
-use Rattle.lists.proofs.MembersLaws.{keep-cong}
-use Rattle.lists.proofs.KeepLaws.{keep-lengths, has-keep}
 use Rattle.mended.proofs.Parts.{mended-length, mended-count, mended-part}
 
 pub mend-plain : MendPlain
@@ -53,34 +52,21 @@ module _ (file : List ℕ) where
   has-rest : (p : ℕ) → has p rest ≡ (not (eqb (length file % 24) 0) && eqb p n)
   has-rest p = by-test (eqb (length file % 24) 0)
     where
-      or-none : (a : Bool) → (a || false) ≡ a
-      or-none true = refl
-      or-none false = refl
-
       by-test : (b : Bool) → has p (cond b [] (n ∷ [])) ≡ (not b && eqb p n)
       by-test true = refl
-      by-test false = or-none (eqb p n)
+      by-test false = or-false (eqb p n)
 
   either : (p : ℕ) → p < n → has p (dropped file) ≡ not (has p (kept file))
   either p h =
       has-dropped p ∙ ap (λ (b : Bool). b || has p rest) (has-keep gone n p h)
-      ∙ ap (λ (b : Bool). gone p || b) (has-rest p) ∙ rw (ne-eqb p n (λ z. omega (arith, z, h))) (plainly (gone p) (eqb (length file % 24) 0))
-    where
-      plainly : (a b : Bool) → (a || (not b && false)) ≡ a
-      plainly true b = refl
-      plainly false true = refl
-      plainly false false = refl
+      ∙ ap (λ (b : Bool). gone p || b) (has-rest p) ∙ rw (ne-eqb p n (λ z. omega (arith, z, h)), and-false (not (eqb (length file % 24) 0))) (or-false (gone p))
 
   part : has n (dropped file) ≡ not (eqb (length file % 24) 0)
   part =
       has-dropped n
       ∙ ap (λ (b : Bool). b || has n rest)
       (has-none n (keep gone (from 0 n)) (λ u. omega (arith, from0-sound n n (keep-sound gone n (from 0 n) u .1))))
-      ∙ has-rest n ∙ rw (eq-eqb n n refl) (plainly (eqb (length file % 24) 0))
-    where
-      plainly : (b : Bool) → (not b && true) ≡ not b
-      plainly true = refl
-      plainly false = refl
+      ∙ has-rest n ∙ rw (eq-eqb n n refl) (and-true (not (eqb (length file % 24) 0)))
 
   rest-length : length rest ≡ cond (eqb (length file % 24) 0) 0 1
   rest-length = by-test (eqb (length file % 24) 0)

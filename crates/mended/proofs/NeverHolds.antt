@@ -3,19 +3,19 @@
 -- Assumes nothing.
 use mathlib.Core.Path.{_≡_, refl, sym, ap, _∙_, subst}
 use mathlib.Core.Logic.{_⊎_, inl, inr}
-use mathlib.Core.Bool.{Bool, true, false, cond, not, _&&_, _||_, true≢false, false≢true}
+use mathlib.Core.Bool.{Bool, true, false, not, _&&_, _||_, and-false, true≢false}
 use mathlib.Core.List.{List, map}
-use Prim.Native.Nat.{ℕ, _-_, _≤_, _<_}
+use Prim.Native.Nat.{ℕ, _≤_, _<_}
 use native.Mathlib.Decide.{decLt}
 use native.Mathlib.Omega.{arith}
-use borrow.Author.Tests.{eqb-true, eqb-false, eq-eqb, ne-eqb, not-true, not-false}
+use borrow.Author.Tests.{eqb-true, ne-eqb, not-true}
 use lib.Dec.{eqb}
 use lib.ListN.{length, getD, length-map, List·getD-map, List·getD-eq-default}
-use Rattle.lists.specs.Lists.{from, keep, any, first}
+use Rattle.lists.specs.Lists.{from, keep, any}
 use Rattle.lists.proofs.TestsLaws.{and-left, and-right, and-both, and-right-false, or-left, or-right}
-use Rattle.lists.proofs.MembersLaws.{In, in-getD, keep-sound, keep-first, any-none, from0-sound, from0-complete}
+use Rattle.lists.proofs.MembersLaws.{in-getD, any-none, from0-sound, from0-complete, keep-cong}
 use Rattle.lists.proofs.OverlayLaws.{map-indexes}
-use Rattle.kinds.specs.declared.answers.Refusal.{Refusal}
+use Rattle.lists.proofs.KeepLaws.{any-sound, keep-keep, keep-map, keep-rises}
 use Rattle.kinds.specs.Given.{tellsOfTwo}
 use Rattle.component.specs.declared.Record.{Record}
 use Rattle.component.specs.declared.Verdict.the-variants.{Refused}
@@ -25,18 +25,15 @@ use Rattle.component.specs.Drawing.{isComponent, missing, fails12, fails13}
 use Rattle.component.proofs.EnteringLaws.{enters-as, enters-sound}
 use Rattle.flatten.specs.Verdict.{verdict, refused}
 use Rattle.flatten.specs.Searches.{PassedBefore}
-use Rattle.flatten.proofs.Accepted.{passed-check}
+use Rattle.flatten.proofs.Accepted.{recordAt-past, passed-check}
 use Rattle.flatten.proofs.JudgementLaws.{verdict-bound}
-use Rattle.flatten.proofs.Refusals.{FirstAt, first-at, FirstFails, verdict-first, forms-first}
-use Rattle.meeting.specs.Meeting.{judgement}
+use Rattle.flatten.proofs.Refusals.{first-at, verdict-first, forms-first}
 use Rattle.meeting.proofs.MeetingLaws.{judgement-told, judgement-untold}
 use Rattle.mend.specs.Mend.{components, numbered, refused12, kept, mended}
 use Rattle.mend.specs.Sifting.{dropsPlainly}
 use Rattle.mend.proofs.KeptLaws.{kept-records}
 use Rattle.mended.specs.Owed.{MendNever}
-use Rattle.lists.proofs.MembersLaws.{keep-cong}
-use Rattle.lists.proofs.KeepLaws.{keep-keep, keep-map, keep-rises}
-use Rattle.component.proofs.LooseLaws.{loose-none, record-none, loose-strict}
+use Rattle.component.proofs.LooseLaws.{loose-none, loose-strict}
 use Rattle.mended.proofs.Parts.{kept-sound, keptAt, mended-count, mended-loose}
 use Rattle.mended.proofs.Numbered.{refused12-same}
 
@@ -90,7 +87,7 @@ module _ (file : List ℕ) where
   never-two p h e =
       let enters : ℕ → Bool = λ q. enteringAs (recordAt g p) (recordAt g q) in
       let q = getD (keep enters (from 0 p)) 0 0 in
-      let z = keep-sound enters q (from 0 p) (keep-first enters (from 0 p) 0 (and-right (entering (recordAt g p)) (any enters (from 0 p)) e)) in
+      let z = any-sound enters 0 (from 0 p) (and-right (entering (recordAt g p)) (any enters (from 0 p)) e) in
       let below : q < p = from0-sound p q (z .1) in
       let inside : q < recordCount g = omega (arith, below, h) in
       let later : entering (recordAt g p) ≡ true = and-left (entering (recordAt g p)) (any enters (from 0 p)) e in
@@ -114,11 +111,7 @@ module _ (file : List ℕ) where
       by-test true e =
           let z = eqb-true (formOf (lo p)) 1 e in
           rw (ne-eqb (formOf (lo p)) 2 (λ u. omega (arith, u, z)), ne-eqb (formOf (lo p)) 3 (λ u. omega (arith, u, z)))
-      by-test false e = and-none (plain p)
-        where
-          and-none : (a : Bool) → (a && false) ≡ false
-          and-none true = refl
-          and-none false = refl
+      by-test false e = and-false (plain p)
 
   components-mended : components lo n ≡ map (keptAt file) (components (looseAt g) (recordCount g))
   components-mended =
@@ -156,14 +149,14 @@ module _ (file : List ℕ) where
       where
         by-place : Dec (p < recordCount g) → looseAt g p ≡ recordAt g p
         by-place (yes h) = loose-strict g p (passed-check (recordAt g) (recordCount g) 12 3 p passed (omega arith) h)
-        by-place (no h) = loose-none g p (omega (arith, h)) ∙ sym (record-none g p (omega (arith, h)))
+        by-place (no h) = loose-none g p (omega (arith, h)) ∙ sym (recordAt-past g p (omega (arith, h)))
 
     first-ones : (c q : ℕ) → formOf (recordAt g c) ≡ 1 → q ≤ c → formOf (recordAt g q) ≡ 1
     first-ones c q e l = by-place (decLt c (recordCount g))
       where
         by-place : Dec (c < recordCount g) → formOf (recordAt g q) ≡ 1
         by-place (yes h) = forms-first (recordAt g) (recordCount g) 12 passed (omega arith) c q h e l
-        by-place (no h) = absurd (omega (arith, ap formOf (record-none g c (omega (arith, h))), e))
+        by-place (no h) = absurd (omega (arith, ap formOf (recordAt-past g c (omega (arith, h))), e))
 
     enters-there : (p : ℕ) → p < recordCount g → entering (recordAt g p) ≡ true
         → missing (recordAt g) (recordCount g) (recordAt g p) ≡ false
@@ -172,7 +165,7 @@ module _ (file : List ℕ) where
         let strict : looseAt g ≡ recordAt g = λ j q. same q j in
         let passes12 = or-left (refused12 lo n (lo (keptAt file p))) _ (stayed p h (rw a e)) in
         or-right (not (composite (recordAt g (recordAt g p .owner)))) (missing (recordAt g) (recordCount g) (recordAt g p))
-        (sym (refused12-same (recordAt g) (recordCount g) (record-none g) first-ones (recordAt g p))
+        (sym (refused12-same (recordAt g) (recordCount g) (recordAt-past g) first-ones (recordAt g p))
         ∙ ap (λ (f : ℕ → Record). refused12 f (recordCount g) (recordAt g p)) (sym strict)
         ∙ sym (refused12-mended (recordAt g p))
         ∙ ap (refused12 lo n) (sym a)

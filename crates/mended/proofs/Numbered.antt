@@ -3,36 +3,28 @@
 -- Assumes nothing.
 use mathlib.Core.Path.{_≡_, refl, sym, ap, _∙_}
 use mathlib.Core.Logic.{_⊎_, inl, inr}
-use mathlib.Core.Bool.{Bool, true, false, cond, not, _&&_, _||_, true≢false}
-use mathlib.Core.List.{List, [], _++_, append-nil}
-use Prim.Native.Nat.{ℕ, zero, suc, _+_, _-_, _≤_, _<_}
+use mathlib.Core.Bool.{Bool, true, false, cond, not, _&&_, _||_}
+use mathlib.Core.List.{List, _++_, append-nil}
+use Prim.Native.Nat.{ℕ, _+_, _-_, _≤_, _<_}
 use native.Mathlib.Decide.{decLt}
 use native.Mathlib.Omega.{arith}
-use borrow.Author.Tests.{eqb-true, eq-eqb, ltb-true}
+use borrow.Author.Tests.{eqb-true, eq-eqb}
 use lib.Dec.{eqb, ltb}
 use lib.ListN.{length, getD, List·getD-eq-default}
 use Rattle.lists.specs.Lists.{from, keep}
 use Rattle.lists.proofs.TestsLaws.{and-left}
-use Rattle.lists.proofs.MembersLaws.{In, in-getD, keep-sound, keep-complete, from-sound, from0-sound, from0-complete, from-length, from-append, keep-length}
+use Rattle.lists.proofs.MembersLaws.{in-getD, keep-sound, keep-complete, from-sound, from0-sound, from0-complete, from-length, from-append, keep-length, keep-cong}
 use Rattle.lists.proofs.ListsLaws.{keep-append}
-use Rattle.lists.proofs.OverlayLaws.{map-at}
+use Rattle.lists.proofs.KeepLaws.{keep-no, keep-first-ones, getD-there, from-at}
 use Rattle.kinds.specs.declared.table.Fields.{Fields}
 use Rattle.kinds.specs.declared.Kind.the-variants.{Composite}
 use Rattle.kinds.specs.Kinds.{is}
 use Rattle.component.specs.declared.Record.{Record}
 use Rattle.component.specs.Record.{noRecord, fieldsOf, inputsOf, outputsOf, inputOf, outputOf, fromOf, toOf, portOf, composite, ownedAs}
-use Rattle.component.specs.Reading.{formOf, ownerOf, noFields}
+use Rattle.component.specs.Reading.{formOf, noFields}
 use Rattle.component.specs.Drawing.{isComponent, child, missing}
 use Rattle.component.proofs.RecordLaws.{fields-cases}
 use Rattle.mend.specs.Mend.{components, numbered, refused12}
-use Rattle.lists.proofs.MembersLaws.{keep-cong}
-use Rattle.lists.proofs.KeepLaws.{keep-no, keep-first-ones, getD-there}
-
--- Entry i of numbers that follow one another.
-from-at : (q k i d : ℕ) → i < k → getD (from q k) i d ≡ q + i
-from-at q zero i d h = absurd (omega (arith, h))
-from-at q (suc k) zero d h = omega arith
-from-at q (suc k) (suc i) d h = omega (arith, from-at (suc q) k i d (omega (arith, h)))
 
 module _ (at : ℕ → Record) (n : ℕ) (past : (p : ℕ) → n ≤ p → at p ≡ noRecord)
     (first : (c q : ℕ) → formOf (at c) ≡ 1 → q ≤ c → formOf (at q) ≡ 1) where

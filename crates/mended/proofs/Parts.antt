@@ -1,25 +1,22 @@
 -- The records of what is mended are those that are kept: how many they are, and the bytes of each.
---   kept-at file i   the position that the record at i of what is mended had in the file
+--   keptAt file i   the position that the record at i of what is mended had in the file
 -- Assumes nothing.
-use mathlib.Core.Path.{_≡_, refl, sym, ap, _∙_}
-use mathlib.Core.Bool.{Bool, true, false, cond, not}
+use mathlib.Core.Path.{_≡_, sym, ap, _∙_}
+use mathlib.Core.Bool.{true, not}
 use mathlib.Core.List.{List}
-use Prim.Native.Nat.{ℕ, _+_, _*_, _/_, _≤_, _<_}
+use Prim.Native.Nat.{ℕ, _*_, _<_}
 use native.Mathlib.Decide.{decLt}
 use native.Mathlib.Omega.{arith}
-use borrow.Author.Tests.{lt-ltb, le-ltb}
-use lib.Dec.{eqb, ltb}
-use lib.ListN.{length, getD, drop, length-drop, List·getD-eq-default}
-use lib.Seq.{length-take-le}
-use Rattle.lists.specs.Lists.{from, keep}
+use borrow.Author.Tests.{lt-ltb}
+use lib.ListN.{length, getD, List·getD-eq-default}
+use Rattle.lists.specs.Lists.{from}
 use Rattle.lists.proofs.MembersLaws.{In, keep-sound, in-getD, from0-sound}
-use Rattle.component.specs.declared.Record.{Record}
+use Rattle.lists.proofs.KeepLaws.{joined-room, joined-list}
 use Rattle.component.specs.Record.{numbersIn, partAt, recordCount, looseAt}
 use Rattle.component.proofs.LooseLaws.{part-length, loose-none}
 use Rattle.mend.specs.Mend.{kept, mended}
 use Rattle.mend.specs.Sifting.{dropsPlainly}
 use Rattle.mend.proofs.KeptLaws.{kept-records}
-use Rattle.lists.proofs.KeepLaws.{getD-there, joined-room, joined-list}
 
 module _ (file : List ℕ) where
   -- What is kept stands in the file and is not dropped.

@@ -9,7 +9,6 @@ use Prim.Native.Nat.{ℕ, _≤_, _<_}
 use native.Mathlib.Omega.{arith}
 use native.Mathlib.Decide.{decLt}
 use mathlib.Core.Bool.{Bool, true, cond, _&&_, true≢false}
-use mathlib.Core.List.{List}
 use borrow.Author.Tests.{ne-eqb}
 use lib.ListN.{getD}
 use lib.Dec.{eqb}
@@ -22,7 +21,6 @@ use Rattle.component.specs.Record.{recordAt, recordCount, entering, enteringAs}
 use Rattle.component.specs.Reading.{formOf}
 use Rattle.component.specs.Drawing.{fails13, earlierOf}
 use Rattle.component.proofs.EnteringLaws.{enters-as, enters-sound, enters-both}
-use Rattle.flatten.specs.Verdict.{verdict}
 use Rattle.flatten.proofs.Refusals.{FirstAt, first-at, FirstFails, verdict-first, forms-rise}
 use Rattle.meeting.specs.Meeting.{meeting, against, judgement}
 use Rattle.meeting.proofs.MeetingLaws.{judgement-accepted, accepted-judgement, judgement-told}

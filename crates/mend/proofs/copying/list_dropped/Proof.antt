@@ -47,7 +47,7 @@ loop-less c = search needs
 loop-again : tie.Need-loop-again Inv-loop μ-loop
 loop-again c =
     let l = c .before .before .before .loop in
-    let s = c .before .before .before .before .before .before in
+    let s = c .before .before .before .before in
     let f = s .args .file .now in
     let below : l .p < recordCount f = omega arith in
     ⊎-elim
@@ -82,16 +82,24 @@ add-count-2 : tie.Need-add-count-2 Inv-loop μ-loop
 add-count-2 c = search needs
 
 same-length : tie.Need-same-length Inv-loop μ-loop
-same-length c = ?
+same-length c =
+    let l = c .before .before .loop in
+    length-set (l .list) (l .count) (l .p) ∙ l .inv .3
 
 returns : tie.Need-returns Inv-loop μ-loop
-returns c = ?
+returns c =
+    let l = c .before .before .loop in
+    let s = c .before .before .before in
+    dropped-part (s .args .file .now) (s .args .list .now) (l .list) (l .p) (l .count) (l .inv .2) (omega arith) (omega arith) (c .if2 .taken)
 
 same-length-2 : tie.Need-same-length-2 Inv-loop μ-loop
-same-length-2 c = ?
+same-length-2 c = c .before .before .loop .inv .3
 
 returns-2 : tie.Need-returns-2 Inv-loop μ-loop
-returns-2 c = ?
+returns-2 c =
+    let l = c .before .before .loop in
+    let s = c .before .before .before in
+    dropped-laid (s .args .file .now) (s .args .list .now) (l .list) (l .p) (l .count) (l .inv .2) (omega arith) (omega arith) (c .if2 .left)
 
 pub list-dropped-spec : {M : Type 1} → statement M
 list-dropped-spec =
