@@ -1,3 +1,4 @@
 pub mod KeptLaws
 pub mod CopyLaws
 pub mod CopiesLaws
+pub mod PartsLaws
