@@ -2,3 +2,4 @@ pub mod KeptLaws
 pub mod CopyLaws
 pub mod CopiesLaws
 pub mod PartsLaws
+pub mod SiftLaws

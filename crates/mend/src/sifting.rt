@@ -3,7 +3,7 @@
 ghost use mathlib.Core.Path.{_≡_};
 ghost use mathlib.Core.Bool.{true, not, _&&_, _||_};
 ghost use Prim.Native.Nat.{_+_, _≤_, _<_};
-ghost use lib.ListN.{length};
+ghost use lib.ListN.{length, getD};
 ghost use Rattle.lists.specs.Lists.{from, any};
 ghost use Rattle.lists.specs.Marks.{IsMarked};
 ghost use Rattle.component.specs.Record.{recordAt, looseAt, recordCount, composite, entering};
@@ -76,6 +76,14 @@ fn entered_before(
     false
 }
 
+// The mark at a place: 0 where it is not set.
+fn mark_at(marks: &[u16], place: usize) -> usize
+    requires { ⌜ place < length (now marks) ⌝ }
+    ensures { λ r. ⌜ r ≡ getD (now (marks .entry)) place 0 ⌝ }
+{
+    marks[place] as usize
+}
+
 // Whether the record at p is kept, those before it being sifted: a connection or an input map that check 12 refuses is not, nor one whose input
 // an earlier kept one has entered. What it enters is marked where it is kept.
 fn is_kept(
@@ -83,7 +91,7 @@ fn is_kept(
     parts: &[u8],
     index: &[u16],
     kept: &[u8],
-    marks: &mut [u16; 16384],
+    marks: &mut [u16],
     p: usize,
 ) -> bool
     requires { ⌜ (now parts ≡ partsOf (now file)) × IsIndex (now parts) (now index) × IsSifted (now file) p (now kept) × (p < 1024)
@@ -100,7 +108,7 @@ fn is_kept(
         return false;
     }
     let place = place_mark(parts, index, owner, to, input);
-    let mark = marks[place] as usize;
+    let mark = mark_at(marks, place);
     if mark != 0 {
         if entered_before(file, kept, p, mark - 1, owner, to, input) {
             return false;
