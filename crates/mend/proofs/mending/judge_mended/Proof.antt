@@ -1,0 +1,70 @@
+use borrow.Author.Needs.{needs}
+use Rattle.mend.proofs.mending.judge_mended.Statement.{statement}
+use Rattle.mend.proofs.mending.judge_mended.Tie as tie
+use Rattle.mend.proofs.mending.judge_mended.Reads as reads
+use Rattle.mend.proofs.mending.judge_mended.Lts as lts
+use Rattle.meeting.proofs.judge.Reads as judge-reads
+use Rattle.mend.proofs.copying.copy_components.Reads as copy-components-reads
+use Rattle.mend.proofs.copying.copy_kept.Reads as copy-kept-reads
+use Rattle.mend.proofs.sifting.sift.Reads as sift-reads
+
+slice-aggregate-copy-components : tie.Need-slice-aggregate-copy-components
+slice-aggregate-copy-components c = search needs
+
+copy-components-requires : tie.Need-copy-components-requires
+copy-components-requires c κs = search needs
+
+sub-sift : tie.Need-sub-sift
+sub-sift c = search needs
+
+part-sift-start : tie.Need-part-sift-start
+part-sift-start c = search needs
+
+part-sift-end : tie.Need-part-sift-end
+part-sift-end c = search needs
+
+sift-requires : tie.Need-sift-requires
+sift-requires c κs = search needs
+
+slice-aggregate-copy-kept : tie.Need-slice-aggregate-copy-kept
+slice-aggregate-copy-kept c = search needs
+
+copy-kept-requires : tie.Need-copy-kept-requires
+copy-kept-requires c κs = search needs
+
+sub-judge : tie.Need-sub-judge
+sub-judge c = search needs
+
+part-judge-start : tie.Need-part-judge-start
+part-judge-start c = search needs
+
+part-judge-end : tie.Need-part-judge-end
+part-judge-end c = search needs
+
+judge-requires : tie.Need-judge-requires
+judge-requires c κs = search needs
+
+same-length : tie.Need-same-length
+same-length c = search needs
+
+returns : tie.Need-returns
+returns c = search needs
+
+pub judge-mended-spec : {M : Type 1} → statement M
+judge-mended-spec =
+    tie.close
+    (tie.spec
+    slice-aggregate-copy-components
+    copy-components-requires
+    sub-sift
+    part-sift-start
+    part-sift-end
+    sift-requires
+    slice-aggregate-copy-kept
+    copy-kept-requires
+    sub-judge
+    part-judge-start
+    part-judge-end
+    judge-requires
+    same-length
+    returns)

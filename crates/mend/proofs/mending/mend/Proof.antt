@@ -1,0 +1,78 @@
+use borrow.Author.Needs.{needs}
+use Rattle.mend.proofs.mending.mend.Statement.{statement}
+use Rattle.mend.proofs.mending.mend.Tie as tie
+use Rattle.mend.proofs.mending.mend.Reads as reads
+use Rattle.mend.proofs.mending.mend.Lts as lts
+use Rattle.kinds.proofs.refused_by.Reads as refused-by-reads
+use Rattle.mend.proofs.copying.copy_kept.Reads as copy-kept-reads
+use Rattle.mend.proofs.copying.list_dropped.Reads as list-dropped-reads
+use Rattle.mend.proofs.mending.judge_mended.Reads as judge-mended-reads
+
+refused-by-requires : tie.Need-refused-by-requires
+refused-by-requires c κs = search needs
+
+returns : tie.Need-returns
+returns c = search needs
+
+refused-by-requires-2 : tie.Need-refused-by-requires-2
+refused-by-requires-2 c κs = search needs
+
+returns-2 : tie.Need-returns-2
+returns-2 c = search needs
+
+slice-aggregate-judge-mended : tie.Need-slice-aggregate-judge-mended
+slice-aggregate-judge-mended c = search needs
+
+judge-mended-requires : tie.Need-judge-mended-requires
+judge-mended-requires c κs = search needs
+
+enum-known-refusal : tie.Need-enum-known-refusal
+enum-known-refusal c = search needs
+
+returns-3 : tie.Need-returns-3
+returns-3 c = search needs
+
+enum-told : tie.Need-enum-told
+enum-told c = search needs
+
+slice-aggregate-copy-kept : tie.Need-slice-aggregate-copy-kept
+slice-aggregate-copy-kept c = search needs
+
+copy-kept-requires : tie.Need-copy-kept-requires
+copy-kept-requires c κs = search needs
+
+slice-aggregate-list-dropped : tie.Need-slice-aggregate-list-dropped
+slice-aggregate-list-dropped c = search needs
+
+list-dropped-requires : tie.Need-list-dropped-requires
+list-dropped-requires c κs = search needs
+
+same-length : tie.Need-same-length
+same-length c = search needs
+
+same-length-2 : tie.Need-same-length-2
+same-length-2 c = search needs
+
+returns-4 : tie.Need-returns-4
+returns-4 c = search needs
+
+pub mend-spec : {M : Type 1} → statement M
+mend-spec =
+    tie.close
+    (tie.spec
+    refused-by-requires
+    returns
+    refused-by-requires-2
+    returns-2
+    slice-aggregate-judge-mended
+    judge-mended-requires
+    enum-known-refusal
+    returns-3
+    enum-told
+    slice-aggregate-copy-kept
+    copy-kept-requires
+    slice-aggregate-list-dropped
+    list-dropped-requires
+    same-length
+    same-length-2
+    returns-4)
