@@ -43,7 +43,7 @@ module _ (file : List ℕ) where
   unfolding partsOf
   parts-joined = picked-joined (isComponent (looseAt file)) componentPart 24 n (plain-length file)
 
-  pub parts-room : length (joined laysComponents (from 0 n)) ≤ 24 * n
+  parts-room : length (joined laysComponents (from 0 n)) ≤ 24 * n
   parts-room = picked-room (isComponent (looseAt file)) componentPart 24 n (plain-length file) n (omega arith)
 
   pub parts-laid : (t u : List ℕ) (p k : ℕ) → Laid laysComponents p t u k → p ≡ n → 24 * n ≤ length t
@@ -52,6 +52,9 @@ module _ (file : List ℕ) where
     laid-end laysComponents t p u k h n e (omega (arith, parts-room, room)) ∙ ap (λ (xs : List ℕ). overlay xs t) (sym parts-joined),
     laid-count laysComponents t p u k h n e ∙ ap length (sym parts-joined),
   )
+
+  pub parts-most : length (partsOf file) ≤ 24 * n
+  parts-most = omega (arith, ap length parts-joined, parts-room)
 
   -- The records that are kept.
   abbrev pub stays : ℕ → Bool
@@ -67,6 +70,9 @@ module _ (file : List ℕ) where
 
   kept-room : length (joined laysKept (from 0 n)) ≤ 24 * n
   kept-room = picked-room stays (partAt file) 24 n (part-length file) n (omega arith)
+
+  pub mended-most : length (mended file) ≤ 24 * n
+  mended-most = omega (arith, ap length mended-joined, kept-room)
 
   pub kept-laid : (t u : List ℕ) (p k : ℕ) → Laid laysKept p t u k → p ≡ n → 24 * n ≤ length t
       → (u ≡ overlay (mended file) t) × (k ≡ length (mended file))

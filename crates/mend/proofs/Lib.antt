@@ -3,3 +3,4 @@ pub mod CopyLaws
 pub mod CopiesLaws
 pub mod PartsLaws
 pub mod SiftLaws
+pub mod MendLaws
