@@ -1,3 +1,4 @@
 pub mod NumbersLaws
 pub mod HostLaws
 pub mod LookedLaws
+pub mod MendedLaws

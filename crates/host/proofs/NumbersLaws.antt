@@ -40,10 +40,10 @@ evaluate-plain f xs vs ys ws g bs e =
 abbrev pub spokenOf : Verdict → ℕ
 spokenOf v = spoken (verdictGives v [])
 
--- A load's number and position fit the answer.
-spoken-small : (file : List ℕ) (v : Verdict) → judgement file ≡ v → spokenOf v < 4294967296
-spoken-small file Accepted e = omega arith
-spoken-small file (Judged r) e = let b = judgement-small file r e in omega (arith, b .number, b .position)
+-- A judgement's number and position fit the answer, and so do a load's.
+pub judged-small : (file : List ℕ) (v : Verdict) → judgement file ≡ v → spokenOf v < 4294967296
+judged-small file Accepted e = omega arith
+judged-small file (Judged r) e = let b = judgement-small file r e in omega (arith, b .number, b .position)
 
 pub cond-small : (b : Bool) (x y : Verdict) → spokenOf x < 4294967296 → spokenOf y < 4294967296 → spokenOf (cond b x y) < 4294967296
 cond-small true x y h k = h
@@ -53,7 +53,7 @@ pub load-verdict-small : (file : List ℕ) (T : Tables) → spokenOf (loadVerdic
 unfolding loadVerdict
 load-verdict-small file T =
     cond-small (sized file) (cond (fullSize T) (judgement file) (refused 2 0)) (refused 1 0)
-    (cond-small (fullSize T) (judgement file) (refused 2 0) (spoken-small file (judgement file) refl) (omega arith)) (omega arith)
+    (cond-small (fullSize T) (judgement file) (refused 2 0) (judged-small file (judgement file) refl) (omega arith)) (omega arith)
 
 pub by-verdict : (v : Verdict) (xs : List ℕ) → spoken (verdictGives v xs) ≡ spokenOf v
 by-verdict Accepted xs = refl

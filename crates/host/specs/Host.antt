@@ -1,11 +1,11 @@
--- What evaluating one component and looking at a box promise, called from C. docs/SPECIFICATION.md, "Rounds" (the host's call), "Numbers given back" and
--- "Looking at a box". Each promise is the engine's own, by name. (`berxundar_judge` promises `Speaks`, `berxundar_load` `CallChanges`.)
+-- What evaluating one component, looking at a box and mending a drawing promise, called from C. docs/SPECIFICATION.md, "Rounds" (the host's call),
+-- "Numbers given back", "Looking at a box" and "Mending a drawing". Each promise is the engine's own, by name. (`berxundar_judge` promises `Speaks`, `berxundar_load` `CallChanges`.)
 -- Assumes nothing.
 use Prim.Native.Nat.{ℕ}
 use mathlib.Core.Path.{_≡_}
-use mathlib.Core.Bool.{Bool, true, false}
+use mathlib.Core.Bool.{Bool, true, false, _&&_}
 use mathlib.Core.List.{List}
-use Rattle.lists.specs.Lists.{overlay}
+use Rattle.lists.specs.Lists.{within, overlay}
 use Rattle.kinds.specs.declared.table.Fields.{Fields}
 use Rattle.primitive.specs.declared.Evaluated.{Evaluated}
 use Rattle.kinds.specs.Given.{spoken}
@@ -14,6 +14,9 @@ use Rattle.tables.specs.declared.Counts.{Counts}
 use Rattle.tables.specs.Tables.{Tables}
 use Rattle.look.specs.declared.Looked.{Looked}
 use Rattle.look.specs.Look.{lookGives}
+use Rattle.component.specs.Record.{recordCount}
+use Rattle.mend.specs.declared.Mended.{Mended}
+use Rattle.mend.specs.Mend.{mendGives, Mends}
 use Rattle.words.specs.Words.{countsIn, valuesIn}
 use Rattle.words.specs.Said.{short, saysShort}
 
@@ -35,3 +38,11 @@ pub data CallLooks (P : Tables → List ℕ → List ℕ → Looked → List ℕ
   fewToLook : few ≡ true → r ≡ saysShort → ns′ ≡ ns → wd′ ≡ wd → fs′ ≡ fs → CallLooks P few ws ns ns′ wd wd′ fs fs′ lent r
   looked : (a : Looked) → few ≡ false → P (lent (countsIn ws)) ns wd a ns′ wd′ → r ≡ spoken (lookGives a)
       → fs′ ≡ overlay (valuesIn (lookGives a)) fs → CallLooks P few ws ns ns′ wd wd′ fs fs′ lent r
+
+-- A mending, where out and out′, ds and ds′ are the buffer and the list of dropped positions before and after: how many bytes and how many positions are
+-- written is laid over fs. "1 for no whole record or over 1,024" comes before 2 for a word too few.
+pub data CallMends (file out out′ ds ds′ fs fs′ : List ℕ) (r : ℕ) : Type 0 where
+  fewToMend : (within 1 1024 (recordCount file) && short fs 2) ≡ true → r ≡ saysShort → out′ ≡ out → ds′ ≡ ds → fs′ ≡ fs
+      → CallMends file out out′ ds ds′ fs fs′ r
+  mendedBy : (a : Mended) → (within 1 1024 (recordCount file) && short fs 2) ≡ false → Mends file out ds a out′ ds′ → r ≡ spoken (mendGives a)
+      → fs′ ≡ overlay (valuesIn (mendGives a)) fs → CallMends file out out′ ds ds′ fs fs′ r

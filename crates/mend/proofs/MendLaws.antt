@@ -35,14 +35,14 @@ and-false : (b : Bool) → (b && false) ≡ false
 and-false true = refl
 and-false false = refl
 
-outside : (a b x : ℕ) → (ltb x a || ltb b x) ≡ true → within a b x ≡ false
+pub outside : (a b x : ℕ) → (ltb x a || ltb b x) ≡ true → within a b x ≡ false
 outside a b x e = by-case (or-cases (ltb x a) (ltb b x) e)
   where
     by-case : (ltb x a ≡ true) ⊎ (ltb b x ≡ true) → within a b x ≡ false
     by-case (inl h) = ap (λ (t : Bool). t && leb x b) (lt-leb a x (ltb-true x a h))
     by-case (inr h) = ap (λ (t : Bool). leb a x && t) (lt-leb x b (ltb-true b x h)) ∙ and-false (leb a x)
 
-inside : (a b x : ℕ) → (ltb x a || ltb b x) ≡ false → within a b x ≡ true
+pub inside : (a b x : ℕ) → (ltb x a || ltb b x) ≡ false → within a b x ≡ true
 inside a b x e =
     and-both (leb a x) (leb x b) (le-leb a x (ltb-false x a (or-left (ltb x a) (ltb b x) e)))
     (le-leb x b (ltb-false b x (or-right (ltb x a) (ltb b x) e)))
