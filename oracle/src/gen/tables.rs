@@ -142,12 +142,12 @@ pub fn change_values(random: &mut Random, tables: &mut Tables) {
     for entry in entries(tables) {
         for port in 0..entry.fields.inputs {
             let value = random.any() & ((1 << entry.fields.input_width()) - 1);
-            tables.words[INPUTS][(entry.first_input + port) as usize] = value;
+            tables.words_mut(INPUTS)[(entry.first_input + port) as usize] = value;
         }
         for port in 0..entry.fields.outputs {
             let value = random.any() & ((1 << entry.fields.output_width()) - 1);
             if entry.fields.kind != 13 {
-                tables.words[OUTPUTS][(entry.first_output + port) as usize] = value;
+                tables.words_mut(OUTPUTS)[(entry.first_output + port) as usize] = value;
             }
         }
     }

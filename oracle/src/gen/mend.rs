@@ -1,0 +1,472 @@
+//! Files to mend: accepted drawings as they are and damaged in every way, at the limits and
+//! past them; with too little lent, and with words in what is lent.
+//!
+//! A mending that is refused says a number and a position. So in some files stands a mark, a
+//! record of no kind: 3 at its position in the shortened file tells how many before it are kept.
+
+use super::damage::{any_record, damaged, meet, noise, positions};
+use super::drawing::{blank, file_of};
+use super::judge::any_drawing;
+use super::random::Random;
+use super::Stream;
+use crate::command::Command;
+use crate::plain::drawing::{Record, COMPONENT, CONNECTION, INPUT_MAP, OUTPUT_MAP, RECORD_BYTES};
+use crate::plain::judge::{COMPONENTS_MAX, MEETINGS, RECORDS_MAX};
+use crate::plain::mend::sifted;
+use crate::tables::{DROPPED, FULL_WORDS, MENDED, MOVED};
+use std::io::{Result, Write};
+
+/// A damaged file, mended once or more; the tables afterwards, and what came out loaded or
+/// mended again, now and then.
+pub fn one<W: Write>(random: &mut Random, stream: &mut Stream<W>) -> Result<()> {
+    let file = any_file(random);
+    stream.put(Command::Keep(file.clone()))?;
+    match random.below(24) {
+        0..=3 => lent_less(random, stream, &file)?,
+        4 | 5 => written_before(random, stream, &file)?,
+        _ => {}
+    }
+    stream.put(Command::Mend)?;
+    if random.once_in(40) {
+        stream.put(Command::Table { table: MENDED as u8 })?;
+    }
+    if random.once_in(12) {
+        stream.put(Command::Table { table: DROPPED as u8 })?;
+    }
+    match random.below(24) {
+        0 | 1 => stream.put(Command::Load(sifted(&file).bytes)),
+        2 => stream.put_all([Command::Keep(sifted(&file).bytes), Command::Mend]),
+        _ => Ok(()),
+    }
+}
+
+// ---- What is lent.
+
+/// Less of a table is lent, or just enough, or more; then the whole of it again.
+fn lent_less<W: Write>(random: &mut Random, stream: &mut Stream<W>, file: &[u8]) -> Result<()> {
+    let (length, mended) = (file.len() as u16, sifted(file));
+    let (bytes, count) = (mended.bytes.len() as u16, mended.dropped.len() as u16);
+    let (table, words) = match random.below(16) {
+        0..=7 => {
+            let (less, more) = (length.saturating_sub(1), length + 1);
+            (MENDED, random.pick(&[less, less, length, length, more, bytes, 0, 24_576, 29_999, 65_535]))
+        }
+        8..=14 => (DROPPED, random.pick(&[1_024, 1_024, 1_025, 1_026, count, count + 1, 0, 65_535])),
+        // A table that mending is not lent.
+        _ => (random.between(0, MOVED as u64) as usize, 0),
+    };
+    stream.put_all([Command::Lend { table: table as u8, words }, Command::Mend])?;
+    if random.once_in(8) {
+        stream.put(Command::Table { table: random.pick(&[MENDED, DROPPED, DROPPED]) as u8 })?;
+    }
+    stream.put(Command::Lend { table: table as u8, words: 65_535 })
+}
+
+/// Words in both tables, around the places where an answer ends.
+fn written_before<W: Write>(random: &mut Random, stream: &mut Stream<W>, file: &[u8]) -> Result<()> {
+    let mended = sifted(file);
+    for (table, end) in [(MENDED, mended.bytes.len()), (DROPPED, mended.dropped.len())] {
+        let places = [0, end, end.saturating_sub(3), FULL_WORDS[table] - 3, file.len()];
+        let place = random.pick(&places) as u16;
+        let words = (0..random.below(9)).map(|_| random.pick(&[0, 8, 255, 256, 65_535, 65_536])).collect();
+        stream.put(Command::WriteWords { table: table as u8, place, words })?;
+        let word = random.pick(&[9, 254, 255, 256, 65_535, u64::MAX]);
+        stream.put(Command::WriteWord { table: table as u8, place, word })?;
+    }
+    stream.put(Command::Mend)?;
+    let table = random.pick(&[MENDED, DROPPED, DROPPED, DROPPED]) as u8;
+    match random.once_in(4) {
+        true => stream.put(Command::Table { table }),
+        false => Ok(()),
+    }
+}
+
+// ---- Files.
+
+fn any_file(random: &mut Random) -> Vec<u8> {
+    let what = random.below(40);
+    let mut records = match what {
+        0..=2 => return file_of(&any_drawing(random)),
+        3 | 4 => return limit_of_length(random),
+        5 => {
+            let file = noise(random);
+            return with_part(random, file, 2);
+        }
+        6..=8 => {
+            let drawn = any_drawing(random);
+            let file = damaged(random, drawn);
+            return with_part(random, file, 4);
+        }
+        9 => crowd(random),
+        10 | 11 => many_ports(random),
+        _ => any_drawing(random),
+    };
+    for _ in 0..random.pick(&[1, 1, 2, 3, 6]) {
+        match (12..19).contains(&what) && !random.once_in(3) {
+            true => break_something(random, &mut records),
+            false => mendable(random, &mut records),
+        }
+    }
+    if random.once_in(if what < 12 { 2 } else { 10 }) {
+        put_mark(random, &mut records);
+    }
+    records.truncate(RECORDS_MAX);
+    with_part(random, file_of(&records), 3)
+}
+
+/// The file with a part record behind it, once in so many: of its own bytes or any.
+fn with_part(random: &mut Random, mut file: Vec<u8>, times: u64) -> Vec<u8> {
+    if random.once_in(times) {
+        let any = random.between(1, 23) as usize;
+        let length = random.pick(&[1, 12, 22, 23, any, any]);
+        match file.len() >= RECORD_BYTES && random.once_in(2) {
+            true => file.extend_from_within(..length),
+            false => file.extend(bytes(random, length)),
+        }
+    }
+    file
+}
+
+/// So many bytes that may begin records.
+fn bytes(random: &mut Random, length: usize) -> Vec<u8> {
+    (0..length).map(|_| random.pick(&[0, 1, 2, 3, 4, 255])).collect()
+}
+
+/// Files of no record and of too many, of nothing but what is dropped, full with a part or not.
+fn limit_of_length(random: &mut Random) -> Vec<u8> {
+    let part = random.between(1, 23) as usize;
+    let edge = random.pick(&[24, 25, 47, 48, 24_575, 24_576, 24_577, 24_599, 29_999, 30_000]);
+    match random.below(12) {
+        0 => vec![],
+        1 => bytes(random, part),
+        2 => bytes(random, 24_600),
+        3 => bytes(random, 24_600 + part),
+        4 => bytes(random, edge),
+        5..=7 => {
+            let kind = random.pick(&[CONNECTION, INPUT_MAP]);
+            let records = vec![Record { a: part as u16, ..blank(kind) }; random.pick(&[1, 2, 30, 1_024])];
+            with_part(random, file_of(&records), 2)
+        }
+        _ => {
+            let records = full(random);
+            with_part(random, file_of(&records), 2)
+        }
+    }
+}
+
+/// 1,024 records: a drawing with more connections and maps behind its own, few of which are kept.
+fn full(random: &mut Random) -> Vec<Record> {
+    let mut records = any_drawing(random);
+    let entering = positions(&records, enters);
+    let end = entering.last().map_or(records.len(), |last| last + 1);
+    let mut more = vec![];
+    while records.len() + more.len() < RECORDS_MAX {
+        more.push(match entering.is_empty() || random.once_in(3) {
+            true => stray(random, &records),
+            false => records[random.pick(&entering)],
+        });
+    }
+    records.splice(end..end, more);
+    records
+}
+
+/// More components than are accepted, some composites among them with numbers over 255, and
+/// connections and maps below all of them.
+fn crowd(random: &mut Random) -> Vec<Record> {
+    let mut records: Vec<Record> = vec![];
+    let mut owners = vec![];
+    for number in 0..random.between(COMPONENTS_MAX as u64 + 1, 700) {
+        let near = &owners[owners.len().saturating_sub(12)..];
+        let owner = if near.is_empty() { 0 } else { random.pick(near) };
+        let composite = owners.is_empty() || random.once_in(4);
+        let component_kind = if composite { 0 } else { random.pick(&[1, 7]) };
+        if composite {
+            owners.push(number as u16);
+        }
+        let (a, b) = (random.below(4) as u16, random.below(3) as u16);
+        records.push(Record { component_kind, owner, a, b, id: number as u32, ..blank(COMPONENT) });
+    }
+    for _ in 0..random.between(50, 300) {
+        let mut below = |limit| random.below(limit) as u16;
+        let (a, b, c, d) = (below(4), below(2), below(4), below(3));
+        let kind = random.pick(&[CONNECTION, INPUT_MAP]);
+        records.push(Record { owner: random.pick(&owners), a, b, c, d, ..blank(kind) });
+    }
+    records
+}
+
+/// A drawing in which components get more inputs, or outputs, than are accepted, and records
+/// lead there.
+fn many_ports(random: &mut Random) -> Vec<Record> {
+    let mut records = any_drawing(random);
+    let components = positions(&records, |record| record.kind == COMPONENT);
+    for _ in 0..random.pick(&[1, 1, 2]) {
+        let number = random.pick(&components);
+        let ports = random.pick(&[64, 65, 66, 127, 128, 129, 256, 1_000, 65_535]);
+        (records[number].a, records[number].b) = (ports, ports.min(300));
+        let (owner, child) = (records[number].owner, child_number(&records, number));
+        for _ in 0..random.between(1, 8) {
+            let d = random.pick(&[0, 63, 64, 65, 127, 128, ports - 1, ports - 1, ports, 65_535]);
+            let b = random.pick(&[0, 63, 64, 127, ports - 1, ports]);
+            let line = match random.once_in(4) {
+                true => Record { owner, a: child, b, c: child, d, ..blank(CONNECTION) },
+                false => Record { c: child, d, ..from_anywhere(random, &records, owner) },
+            };
+            put_in_order(random, &mut records, line);
+        }
+    }
+    records
+}
+
+// ---- Damage that can be mended, most of it.
+
+/// A connection or an input map: what mending may drop.
+fn enters(record: &Record) -> bool {
+    record.kind == CONNECTION || record.kind == INPUT_MAP
+}
+
+fn mendable(random: &mut Random, records: &mut Vec<Record>) {
+    let entering = positions(records, enters);
+    match random.below(12) {
+        0 | 1 => {
+            let meeting = random.pick(&MEETINGS);
+            meet(random, records, meeting);
+        }
+        2 | 3 => misplace(random, records),
+        4..=6 => delete_component(random, records),
+        7 => enter_before(random, records),
+        8 => {
+            let line = stray(random, records);
+            put_in_order(random, records, line);
+        }
+        9 => {
+            let (line, place) = (stray(random, records), random.between(0, records.len() as u64));
+            records.insert(place as usize, line);
+        }
+        10 => loose_field(random, records),
+        _ if entering.is_empty() => {}
+        _ => {
+            let (from, to) = (random.pick(&entering), random.pick(&entering));
+            let first = if random.once_in(4) { 0 } else { from.min(to) };
+            let copies: Vec<Record> = positions(records, enters)
+                .into_iter()
+                .filter(|at| (first..=from.max(to)).contains(at))
+                .map(|at| records[at])
+                .collect();
+            records.splice(from + 1..from + 1, copies);
+        }
+    }
+}
+
+/// The number of a component among its owner's children.
+fn child_number(records: &[Record], component: usize) -> u16 {
+    let owner = records[component].owner;
+    let before = &records[..component];
+    before.iter().skip(1).filter(|record| record.kind == COMPONENT && record.owner == owner).count() as u16
+}
+
+/// A connection or an input map of an owner that leads from some child, or input, which is there
+/// or not.
+fn from_anywhere(random: &mut Random, records: &[Record], owner: u16) -> Record {
+    let of_owner = positions(records, |record| enters(record) && record.owner == owner);
+    if !of_owner.is_empty() && !random.once_in(4) {
+        return records[random.pick(&of_owner)];
+    }
+    let kind = random.pick(&[CONNECTION, INPUT_MAP]);
+    Record { owner, a: random.below(4) as u16, ..blank(kind) }
+}
+
+/// A connection or an input map between any places.
+fn stray(random: &mut Random, records: &[Record]) -> Record {
+    let components = positions(records, |record| record.kind == COMPONENT);
+    let composites = positions(records, Record::is_composite);
+    let owner = match random.below(6) {
+        0 => random.pick(&[1, 255, 256, 65_535, records.len(), components.len()]),
+        1 if !components.is_empty() => random.pick(&components),
+        _ if !composites.is_empty() => random.pick(&composites),
+        _ => 0,
+    };
+    let mut any = || random.below(6) as u16;
+    let (a, b, c, d) = (any(), any() / 3, any(), any() / 2);
+    let kind = random.pick(&[CONNECTION, CONNECTION, INPUT_MAP]);
+    let b = if kind == CONNECTION { b } else { 0 };
+    let far = random.pick(&[6, 64, 256, 65_535]);
+    let line = Record { owner: owner as u16, a, b, c, d, ..blank(kind) };
+    match random.below(12) {
+        0 => Record { a: far, ..line },
+        1 => Record { c: far, ..line },
+        2 => Record { d: far, ..line },
+        _ => line,
+    }
+}
+
+/// Puts a record in where check 4 wants it.
+fn put_in_order(random: &mut Random, records: &mut Vec<Record>, line: Record) {
+    let key = |record: &Record| (record.kind, if record.kind == COMPONENT { 0 } else { record.owner });
+    let first = records.iter().position(|record| key(record) >= key(&line)).unwrap_or(records.len());
+    let past = records.iter().position(|record| key(record) > key(&line)).unwrap_or(records.len());
+    let place = random.between(first as u64, past.max(first) as u64);
+    records.insert(place as usize, line);
+}
+
+/// A connection or an input map leads from or to a child or a port that is not there.
+fn misplace(random: &mut Random, records: &mut [Record]) {
+    let entering = positions(records, enters);
+    if entering.is_empty() {
+        return;
+    }
+    let record = &mut records[random.pick(&entering)];
+    let more = random.pick(&[1, 1, 2, 5, 64, 256, 65_535]);
+    let field = match random.below(4) {
+        0 => &mut record.a,
+        1 if record.kind == CONNECTION => &mut record.b,
+        2 => &mut record.c,
+        _ => &mut record.d,
+    };
+    *field = field.saturating_add(more);
+}
+
+/// Before a record that enters an input, another that enters it: from a place that is not
+/// there, so that it enters nothing, or from one that may be; now and then one behind it too.
+fn enter_before(random: &mut Random, records: &mut Vec<Record>) {
+    let entering = positions(records, enters);
+    if entering.is_empty() {
+        return;
+    }
+    let at = random.pick(&entering);
+    let entered = records[at];
+    let a = random.pick(&[entered.a.saturating_add(1), 200, 65_535]);
+    records.insert(at, Record { a, ..entered });
+    if random.once_in(2) {
+        let place = random.between(at as u64, records.len() as u64);
+        records.insert(place as usize, entered);
+    }
+}
+
+/// A field that must be 0 is not, in a connection or an input map, that is dropped or not.
+fn loose_field(random: &mut Random, records: &mut Vec<Record>) {
+    let entering = positions(records, enters);
+    if entering.is_empty() {
+        return;
+    }
+    let at = random.pick(&entering);
+    let mut loose = records[at];
+    match random.below(4) {
+        0 => loose.component_kind = random.pick(&[1, 14, 255]),
+        1 => loose.id = random.pick(&[1, 65_536, u32::MAX]),
+        2 => loose.parameter = 1 << random.below(64),
+        _ if loose.kind == INPUT_MAP => loose.b = random.pick(&[1, 65_535]),
+        _ => loose.id = 1 << random.below(32),
+    }
+    match random.below(6) {
+        0 => records[at] = loose,
+        1 => records.insert(at, loose),
+        2 | 3 => records.insert(at + 1, loose),
+        _ => records.insert(at, Record { c: loose.c.saturating_add(300), ..loose }),
+    }
+}
+
+/// A component goes, with all that it holds; owners are numbered anew. Lines from and to it are
+/// left, and its owner's other children have new numbers in them or not.
+fn delete_component(random: &mut Random, records: &mut Vec<Record>) {
+    let components = positions(records, |record| record.kind == COMPONENT);
+    if components.len() < 2 {
+        return;
+    }
+    let gone = random.between(1, components.len() as u64 - 1) as usize;
+    let (parent, child) = (records[components[gone]].owner, child_number(records, components[gone]));
+    let mut goes = vec![false; components.len()];
+    goes[gone] = true;
+    for number in gone + 1..components.len() {
+        let owner = records[components[number]].owner as usize;
+        goes[number] = owner < number && goes[owner];
+    }
+    let numbered = random.once_in(2);
+    let forgotten = random.pick(&[65_535, gone as u16]);
+    let below = random.once_in(2);
+    let mut number = 0;
+    let mut left = vec![];
+    for record in records.iter() {
+        let owner = record.owner as usize;
+        let held = goes.get(owner).copied().unwrap_or(false);
+        if record.kind == COMPONENT {
+            number += 1;
+            if goes[number - 1] {
+                continue;
+            }
+        } else if held && below {
+            continue;
+        }
+        let mut record = *record;
+        if record.kind != COMPONENT && numbered && record.owner == parent {
+            renumber(&mut record, child);
+        }
+        record.owner = match held {
+            true => forgotten,
+            false => (owner - goes.iter().take(owner).filter(|goes| **goes).count()) as u16,
+        };
+        left.push(record);
+    }
+    *records = left;
+}
+
+/// Children behind the one that is gone have numbers one less; the one that is gone has none.
+fn renumber(line: &mut Record, gone: u16) {
+    let new = |child: u16| match child.cmp(&gone) {
+        std::cmp::Ordering::Less => child,
+        std::cmp::Ordering::Equal => 65_535,
+        std::cmp::Ordering::Greater => child - 1,
+    };
+    if line.kind == CONNECTION || line.kind == OUTPUT_MAP {
+        line.a = new(line.a);
+    }
+    if enters(line) {
+        line.c = new(line.c);
+    }
+}
+
+// ---- Damage that stays, most of it.
+
+fn break_something(random: &mut Random, records: &mut Vec<Record>) {
+    let length = records.len() as u64;
+    let (one, other) = (random.below(length) as usize, random.below(length) as usize);
+    let components = positions(records, |record| record.kind == COMPONENT);
+    let output_maps = positions(records, |record| record.kind == OUTPUT_MAP);
+    match random.below(12) {
+        0 if length > 1 => drop(records.remove(one)),
+        1 => records.insert(other, records[one]),
+        2 => records.swap(one, other),
+        3 => any_record(random, records).kind = random.pick(&[0, 1, 2, 3, 4, 5, 255]),
+        4 => any_record(random, records).owner = random.pick(&[0, 1, 2, 255, 256, 65_535]),
+        5 if !components.is_empty() => records[random.pick(&components)].d = random.pick(&[1, 256]),
+        6 if components.len() > 1 => {
+            let component = records.remove(random.pick(&components));
+            records.insert(random.between(0, length - 1) as usize, component);
+        }
+        7 if components.len() > 1 => drop(records.remove(random.pick(&components))),
+        8 if !output_maps.is_empty() => {
+            let map = &mut records[random.pick(&output_maps)];
+            map.b = map.b.saturating_add(random.pick(&[0, 1, 1, 300]));
+            map.a = map.a.saturating_add(random.pick(&[0, 1, 300]));
+        }
+        9 if !components.is_empty() => {
+            let component = &mut records[random.pick(&components)];
+            component.component_kind = random.pick(&[0, 0, 1, 3, 7, 14, 16]);
+        }
+        10 if !components.is_empty() => {
+            let component = &mut records[random.pick(&components)];
+            component.a = component.a.saturating_add(random.pick(&[1, 2, 64]));
+        }
+        _ => mendable(random, records),
+    }
+}
+
+/// A record of no kind, at the end or anywhere.
+fn put_mark(random: &mut Random, records: &mut Vec<Record>) {
+    records.truncate(RECORDS_MAX - 1);
+    let last = records.len() as u64;
+    let first = positions(records, enters).first().map_or(last, |first| *first as u64);
+    let anywhere = random.between(0, last);
+    let place = random.pick(&[last, last, first.midpoint(last), anywhere]);
+    records.insert(place as usize, blank(random.pick(&[0, 5, 6, 255])));
+}
