@@ -21,9 +21,11 @@ use std::io::{Result, Write};
 pub fn one<W: Write>(random: &mut Random, stream: &mut Stream<W>) -> Result<()> {
     let file = any_file(random);
     stream.put(Command::Keep(file.clone()))?;
+    let no_size = !(RECORD_BYTES..RECORD_BYTES * (RECORDS_MAX + 1)).contains(&file.len());
     match random.below(24) {
         0..=3 => lent_less(random, stream, &file)?,
         4 | 5 => written_before(random, stream, &file)?,
+        6..=15 if no_size => lent_less(random, stream, &file)?,
         _ => {}
     }
     stream.put(Command::Mend)?;
@@ -170,27 +172,39 @@ fn full(random: &mut Random) -> Vec<Record> {
     records
 }
 
-/// More components than are accepted, some composites among them with numbers over 255, and
-/// connections and maps below all of them.
+/// More components than are accepted, in boxes or most of them in the root: numbers of owners or
+/// of children go over 255. Connections and maps below all of them, some of them again with a
+/// number that has the same low byte.
 fn crowd(random: &mut Random) -> Vec<Record> {
     let mut records: Vec<Record> = vec![];
-    let mut owners = vec![];
-    for number in 0..random.between(COMPONENTS_MAX as u64 + 1, 700) {
+    let mut owners = vec![0];
+    let flat = random.once_in(2);
+    for number in 0..random.between(COMPONENTS_MAX as u64 + 1, 700) as usize {
         let near = &owners[owners.len().saturating_sub(12)..];
-        let owner = if near.is_empty() { 0 } else { random.pick(near) };
-        let composite = owners.is_empty() || random.once_in(4);
-        let component_kind = if composite { 0 } else { random.pick(&[1, 7]) };
-        if composite {
+        let owner = if flat && !random.once_in(8) { 0 } else { random.pick(near) };
+        let again = number >= 256 && records[number - 256].is_composite();
+        let composite = number == 0 || again || random.once_in(if flat { 40 } else { 4 });
+        if composite && number > 0 {
             owners.push(number as u16);
         }
+        let component_kind = if composite { 0 } else { random.pick(&[1, 7]) };
         let (a, b) = (random.below(4) as u16, random.below(3) as u16);
         records.push(Record { component_kind, owner, a, b, id: number as u32, ..blank(COMPONENT) });
     }
-    for _ in 0..random.between(50, 300) {
+    let children = if flat { records.len() as u64 } else { 4 };
+    let more = random.pick(&[0, 256, 256, 512]);
+    for _ in 0..random.between(50, 150) {
+        let owner = if flat { 0 } else { random.pick(&owners) };
         let mut below = |limit| random.below(limit) as u16;
-        let (a, b, c, d) = (below(4), below(2), below(4), below(3));
+        let (a, b, c, d) = (below(children), below(2), below(children), below(3));
         let kind = random.pick(&[CONNECTION, INPUT_MAP]);
-        records.push(Record { owner: random.pick(&owners), a, b, c, d, ..blank(kind) });
+        let line = Record { owner, a, b, c, d, ..blank(kind) };
+        records.push(line);
+        match random.below(4) {
+            0 => records.push(Record { owner: owner + more, ..line }),
+            1 => records.push(Record { c: c + more, ..line }),
+            _ => {}
+        }
     }
     records
 }
@@ -213,6 +227,9 @@ fn many_ports(random: &mut Random) -> Vec<Record> {
                 false => Record { c: child, d, ..from_anywhere(random, &records, owner) },
             };
             put_in_order(random, &mut records, line);
+            if random.once_in(4) {
+                put_in_order(random, &mut records, Record { d: d ^ 256, ..line });
+            }
         }
     }
     records
@@ -432,7 +449,7 @@ fn break_something(random: &mut Random, records: &mut Vec<Record>) {
     let (one, other) = (random.below(length) as usize, random.below(length) as usize);
     let components = positions(records, |record| record.kind == COMPONENT);
     let output_maps = positions(records, |record| record.kind == OUTPUT_MAP);
-    match random.below(12) {
+    match random.below(13) {
         0 if length > 1 => drop(records.remove(one)),
         1 => records.insert(other, records[one]),
         2 => records.swap(one, other),
@@ -453,11 +470,25 @@ fn break_something(random: &mut Random, records: &mut Vec<Record>) {
             let component = &mut records[random.pick(&components)];
             component.component_kind = random.pick(&[0, 0, 1, 3, 7, 14, 16]);
         }
-        10 if !components.is_empty() => {
+        10 => lines_first(random, records),
+        11 if !components.is_empty() => {
             let component = &mut records[random.pick(&components)];
             component.a = component.a.saturating_add(random.pick(&[1, 2, 64]));
         }
         _ => mendable(random, records),
+    }
+}
+
+/// Components stand behind all else, most often one of them with a D: 3 at its position tells
+/// how many lines are kept. Components have the numbers that they had.
+fn lines_first(random: &mut Random, records: &mut [Record]) {
+    records.sort_by_key(|record| record.kind == COMPONENT);
+    let components = positions(records, |record| record.kind == COMPONENT);
+    let composites = positions(records, Record::is_composite);
+    match random.below(4) {
+        0 if !components.is_empty() => records[random.pick(&components)].d = 1,
+        1 | 2 if !composites.is_empty() => records[random.pick(&composites)].d = 1,
+        _ => {}
     }
 }
 
