@@ -85,7 +85,8 @@ fn written_before<W: Write>(random: &mut Random, stream: &mut Stream<W>, file: &
 
 // ---- Files.
 
-fn any_file(random: &mut Random) -> Vec<u8> {
+/// A file to mend.
+pub fn any_file(random: &mut Random) -> Vec<u8> {
     let what = random.below(40);
     let mut records = match what {
         0..=2 => return file_of(&any_drawing(random)),
