@@ -341,7 +341,7 @@ fn what_a_mending_must_be() {
         let left: Vec<Record> = (0..all.len()).filter(|at| gone(*at).is_none()).map(|at| all[at]).collect();
         assert_eq!(file_of(&left), sifted.bytes);
         assert!(sifted.dropped.windows(2).all(|pair| pair[0].0 < pair[1].0), "ascending");
-        assert_eq!(gone(all.len()).is_some(), file.len() % 24 != 0);
+        assert_eq!(gone(all.len()).is_some(), !file.len().is_multiple_of(24));
         let input = |at: usize| (all[at].owner, all[at].c, all[at].d);
         for (at, record) in all.iter().enumerate() {
             match (matches!(record.kind, 2 | 3), gone(at)) {
