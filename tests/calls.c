@@ -346,10 +346,10 @@ static uint32_t mend(const uint8_t *file, size_t length, size_t bytes, size_t po
 }
 
 /*
- * A root, a Not in it that enters itself three times, the first time from an output that is not there, and a byte: the first and
- * the third connection go, and the byte. With too little room it is 2, before that 1 for no whole record; with an output map too
- * many it is 14, at the root; a record of no kind is 3, at its place in what would have come out; a connection alone is 1, as
- * nothing is left. What is refused writes nothing, and what is done no word more.
+ * A root, a Not in it that enters itself three times, the first time from an output that is not there, and a byte: the first
+ * and the third connection go, and the byte. With too little room it is 2, before that 1 for no whole record; with an output
+ * map too many it is 14, at the root; a record of no kind is 3, at its place in what would have come out; a connection alone is
+ * 1, as nothing is left. What is refused writes nothing, and what is done no word more.
  */
 static int mended_up(void)
 {
