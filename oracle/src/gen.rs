@@ -14,10 +14,12 @@ pub mod mend;
 pub mod random;
 pub mod rounds;
 pub mod tables;
+mod torn;
 mod votes;
 
 use crate::command::Command;
 use crate::plain::drawing::RECORD_BYTES;
+use crate::plain::judge::RECORDS_MAX;
 use crate::plain::mend::sifted;
 use crate::plain::net::broken;
 use crate::program::Program;
@@ -78,7 +80,9 @@ impl<W: Write> Stream<W> {
             reasons.sort();
             reasons.dedup();
             counted.push(format!("mend 0, dropped [{}]", reasons.join(" ")));
-        } else if mended.bytes.is_empty() && self.program.kept.len() >= RECORD_BYTES {
+        } else if mended.bytes.is_empty()
+            && (1..=RECORDS_MAX).contains(&(self.program.kept.len() / RECORD_BYTES))
+        {
             counted.push("mend 1, no record left".to_string());
         }
         for one in counted {
