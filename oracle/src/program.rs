@@ -2,7 +2,7 @@
 //!
 //! The numbers given back come from `plain`. All else comes from logix, and `plain` works
 //! it out a second time: the program stops where the two differ. Where a component's kind
-//! is none of logix's, `plain` is alone.
+//! is none of logix's, and in mending, `plain` is alone.
 
 use crate::command::{Command, Single, FILE_KEPT};
 use crate::engine::Engine;
