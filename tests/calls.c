@@ -1,11 +1,12 @@
 /*
  * What the header says beside the calls' own rules: NULL with length 0 is an empty file and a table of no words, so that each
- * call answers as for any short table (2), a load and a look as for an empty file (1), and a component without ports is
- * evaluated; a net of zeros is one of no components, the net of a root alone, which is looked at along no path; a sentence
+ * call answers as for any short table (2), a load, a look and a mending as for an empty file (1), and a component without ports
+ * is evaluated; a net of zeros is one of no components, the net of a root alone, which is looked at along no path; a sentence
  * belongs to an answer and to its number; half of the votes are not most of them; of two records that meet the first call says
  * 13, and the others what they are; an edit goes first, or stands, the old way, and both may be mixed; while an edit waits a net
- * is not calm, and not satisfied where it has something to change; a bit is set for each output that an evaluation changes, and too
- * little room for the bits is 2. Leaves with 1 at the first other answer.
+ * is not calm, and not satisfied where it has something to change; a bit is set for each output that an evaluation changes, and
+ * too little room for the bits is 2; a mending writes what comes out and the positions that it drops, and where it is refused
+ * nothing. Leaves with 1 at the first other answer.
  */
 #include "berxundar.h"
 
@@ -335,8 +336,64 @@ static int bits_moved(void)
     return berxundar_net_round(&net, 0, bits) == 0 && bits[0] == 0 && bits[1] == 1;
 }
 
+static uint8_t mended[BERXUNDAR_DAMAGED + 1];
+static uint16_t dropped[BERXUNDAR_DROPPED + 1];
+
+/* Mends a file into `mended` and `dropped`, of whose entries so many are lent. */
+static uint32_t mend(const uint8_t *file, size_t length, size_t bytes, size_t positions, uint64_t *found, size_t words)
+{
+    return berxundar_mend(file, length, mended, bytes, dropped, positions, found, words);
+}
+
+/*
+ * A root, a Not in it that enters itself three times, the first time from an output that is not there, and a byte: the first
+ * and the third connection go, and the byte. With too little room it is 2, before that 1 for no whole record; with an output
+ * map too many it is 14, at the root; a record of no kind is 3, at its place in what would have come out; a connection alone is
+ * 1, as nothing is left. What is refused writes nothing, and what is done no word more.
+ */
+static int mended_up(void)
+{
+    uint8_t file[6 * BERXUNDAR_RECORD + 1] = { 0 };
+    uint64_t found[2] = { 9, 9 };
+    size_t i;
+    for (i = 0; i < sizeof mended; i++)
+        mended[i] = 7;
+    for (i = 0; i <= BERXUNDAR_DROPPED; i++)
+        dropped[i] = 7;
+    record(file, 1, BERXUNDAR_COMPOSITE, 0, 0, 0, 0, 1);
+    record(file + 24, 1, BERXUNDAR_NOT, 0, 1, 1, 0, 2);
+    for (i = 2; i < 5; i++)
+        record(file + 24 * i, 2, 0, 0, 0, i == 2, 0, 0);
+    if (mend(NULL, 0, 0, 0, found, 0) != NUMBER(1) || mend(file, 23, 0, 0, found, 0) != NUMBER(1)
+        || mend(file, 121, 120, 1025, found, 2) != NUMBER(2) || mend(file, 121, 121, 1024, found, 2) != NUMBER(2)
+        || mend(file, 121, 121, 1025, found, 1) != NUMBER(2) || mend(file, 121, 0, 0, NULL, 0) != NUMBER(2)
+        || berxundar_mend(file, 121, NONE, NONE, found, 2) != NUMBER(2))
+        return 0;
+    record(file + 120, 4, 0, 0, 0, 0, 0, 0);
+    if (mend(file, sizeof file, sizeof file, 1025, found, 2) != NUMBER(BERXUNDAR_OUTPUT_MAPS))
+        return 0;
+    file[120] = 9;
+    if (mend(file, 144, 144, 1025, found, 2) != NUMBER(BERXUNDAR_BAD_RECORD) + 3
+        || mend(file + 48, 24, 24, 1025, found, 2) != NUMBER(BERXUNDAR_BAD_SIZE) || found[0] != 9 || found[1] != 9)
+        return 0;
+    for (i = 0; i < sizeof mended; i++)
+        if (mended[i] != 7 || dropped[i % (BERXUNDAR_DROPPED + 1)] != 7)
+            return 0;
+    if (mend(file, 121, 121, 1025, found, 2) != 0 || found[0] != 72 || found[1] != 3 || dropped[0] != 2 || dropped[1] != 4
+        || dropped[2] != 5 || dropped[3] != 7 || berxundar_judge(mended, 72) != 0)
+        return 0;
+    for (i = 0; i < 72; i++)
+        if (mended[i] != file[i < 48 ? i : i + 24])
+            return 0;
+    for (; i < sizeof mended; i++)
+        if (mended[i] != 7)
+            return 0;
+    return mend(file, 48, sizeof mended, 1026, found, 2) == 0 && found[0] == 48 && found[1] == 0 && dropped[0] == 2
+        && mended[48] == 2;
+}
+
 int main(void)
 {
     return !(zeros() && nothing_lent() && looked_at() && joined() && split() && voted() && sentences() && met() && went_first()
-        && waited() && judged() && bits_moved());
+        && waited() && judged() && bits_moved() && mended_up());
 }

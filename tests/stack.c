@@ -19,6 +19,8 @@ static uint16_t list[BERXUNDAR_NAMES];
 static uint64_t found, moved[BERXUNDAR_MOVED];
 static berxundar_single single;
 static berxundar_box box;
+static uint8_t mended[BERXUNDAR_DAMAGED];
+static uint16_t dropped[BERXUNDAR_DROPPED];
 
 static void fill(volatile uint8_t *area)
 {
@@ -83,6 +85,17 @@ static uint32_t look_inside(void)
     return berxundar_net_look(&net, bytes, length, &id, 1, &box);
 }
 
+/* The drawing, which is accepted, as it is, or with a byte behind it. */
+static uint32_t mend_with(size_t more)
+{
+    uint64_t written[2];
+    size_t whole = length / BERXUNDAR_RECORD * BERXUNDAR_RECORD;
+    return berxundar_mend(bytes, whole + more, mended, sizeof mended, dropped, BERXUNDAR_DROPPED, written, 2);
+}
+
+static uint32_t mend(void) { return mend_with(0); }
+static uint32_t mend_damaged(void) { return mend_with(1); }
+
 static uint32_t check(void) { return berxundar_net_check(&net); }
 static uint32_t evaluate(void) { return berxundar_single_evaluate(&single, 0, NULL); }
 
@@ -95,7 +108,8 @@ static const struct {
     { "round, bits unasked", run_round_unasked, 12000 }, { "run until calm", run, 12000 }, { "edit", edit, 8000 },
     { "edit, the old way", edit_standing, 8000 }, { "calm", calm, 8000 }, { "satisfied", satisfied, 8000 },
     { "index", index_of, 8000 }, { "value", value, 8000 }, { "sources", sources, 8000 }, { "targets", targets, 8000 },
-    { "check", check, 8000 }, { "evaluate", evaluate, 8000 } };
+    { "check", check, 8000 }, { "evaluate", evaluate, 8000 }, { "mend", mend, 131072 },
+    { "mend a damaged one", mend_damaged, 131072 } };
 
 int main(void)
 {

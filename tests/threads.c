@@ -1,8 +1,8 @@
 /*
  * Calls on different nets in several threads at once: threads <FILE. Each thread loads the drawing on standard input over and
  * over, sets its first component where that can be set, runs it and looks at that component, which stands right below the root, on
- * a net of its own. Leaves with 1 where a net, what a look showed, or which outputs moved, does not end up with the very words that
- * a single thread's has.
+ * a net of its own, and mends the drawing with a part of a record behind it. Leaves with 1 where a net, what a look showed,
+ * which outputs moved, or what was mended, does not end up with the very words that a single thread's has.
  */
 #include "berxundar.h"
 #include "file.h"
@@ -14,7 +14,7 @@ int pthread_join(unsigned long thread, void **ended);
 #define THREADS 4
 #define TURNS 50
 
-static uint8_t bytes[FILE_ROOM];
+static uint8_t bytes[FILE_ROOM + 1];
 static size_t length;
 
 /* What a thread has of its own. */
@@ -22,13 +22,17 @@ typedef struct {
     berxundar_net net;
     berxundar_box box;
     uint64_t moved[BERXUNDAR_MOVED];
+    uint8_t mended[BERXUNDAR_DAMAGED];
+    uint16_t dropped[BERXUNDAR_DROPPED];
+    uint64_t found[2];
 } own;
 
 static own owns[THREADS + 1];
 
 static void *work(void *argument)
 {
-    berxundar_net *net = &((own *)argument)->net;
+    own *mine = (own *)argument;
+    berxundar_net *net = &mine->net;
     uint32_t first;
     int turn;
     for (turn = 0; turn < TURNS; turn++) {
@@ -36,9 +40,10 @@ static void *work(void *argument)
         berxundar_net_run_until_calm(net, 3, 20, NULL, NULL, NULL);
         berxundar_net_edit(net, 0, (uint64_t)turn % 2);
         berxundar_net_run_until_calm(net, (uint64_t)turn, 20, NULL, NULL, NULL);
-        berxundar_net_round(net, 7, ((own *)argument)->moved);
+        berxundar_net_round(net, 7, mine->moved);
         first = (uint32_t)net->components[BERXUNDAR_WORD_ID];
-        berxundar_net_look(net, bytes, length, &first, 1, &((own *)argument)->box);
+        berxundar_net_look(net, bytes, length, &first, 1, &mine->box);
+        berxundar_mend(bytes, length + 1, mine->mended, sizeof mine->mended, mine->dropped, BERXUNDAR_DROPPED, mine->found, 2);
     }
     return NULL;
 }
@@ -62,5 +67,6 @@ int main(void)
         for (at = 0; at < sizeof owns[i]; at++)
             if (((const uint8_t *)&owns[i])[at] != ((const uint8_t *)&owns[THREADS])[at])
                 return 1;
-    return berxundar_net_check(&owns[0].net) != 0 || owns[0].box.outputs != 1;
+    return berxundar_net_check(&owns[0].net) != 0 || owns[0].box.outputs != 1 || owns[0].found[0] != length
+        || owns[0].found[1] != 1;
 }

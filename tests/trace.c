@@ -11,7 +11,10 @@
 long read(int file, void *to, size_t count);
 long write(int file, const void *from, size_t count);
 
-enum { COMPONENTS, INPUTS, OUTPUTS, WIRES, CURRENT, FOLLOWING, STANDING, TABLES, LIST = TABLES, NUMBERS, WIDTHS, MOVED, LENT };
+enum {
+    COMPONENTS, INPUTS, OUTPUTS, WIRES, CURRENT, FOLLOWING, STANDING, TABLES,
+    LIST = TABLES, NUMBERS, WIDTHS, MOVED, MENDED, DROPPED, LENT
+};
 
 /* Of a file of more bytes, which is read to its end, so many stand for it: they are too many as well. */
 #define LONGEST 30000
@@ -24,7 +27,8 @@ enum { COMPONENTS, INPUTS, OUTPUTS, WIRES, CURRENT, FOLLOWING, STANDING, TABLES,
 #define COMMANDS UINT64_C(4294967296)
 
 static const size_t full_words[LENT] = { BERXUNDAR_COMPONENT_WORDS, BERXUNDAR_INPUTS, BERXUNDAR_OUTPUTS, BERXUNDAR_WIRE_WORDS,
-    BERXUNDAR_NAMES, BERXUNDAR_NAMES, BERXUNDAR_NAMES, BERXUNDAR_NAMES, BERXUNDAR_SHOWN, BERXUNDAR_SHOWN, BERXUNDAR_MOVED };
+    BERXUNDAR_NAMES, BERXUNDAR_NAMES, BERXUNDAR_NAMES, BERXUNDAR_NAMES, BERXUNDAR_SHOWN, BERXUNDAR_SHOWN, BERXUNDAR_MOVED,
+    LONGEST, BERXUNDAR_DROPPED };
 static const size_t full_entries[TABLES] = { BERXUNDAR_COMPONENTS, BERXUNDAR_INPUTS, BERXUNDAR_OUTPUTS, BERXUNDAR_WIRES,
     BERXUNDAR_NAMES, BERXUNDAR_NAMES, BERXUNDAR_NAMES };
 static const char *const table_names[TABLES]
@@ -35,7 +39,8 @@ static uint16_t list[BERXUNDAR_NAMES];
 static berxundar_box box;
 static uint64_t moved[BERXUNDAR_MOVED];
 static uint64_t found[3];
-static uint8_t file[LONGEST], kept[LONGEST];
+static uint8_t file[LONGEST], kept[LONGEST], mended[LONGEST];
+static uint16_t dropped[BERXUNDAR_DROPPED];
 static size_t kept_length;
 static size_t lent[LENT];
 
@@ -172,7 +177,7 @@ int mprotect(void *at, size_t length, int allowed);
 
 #define PAGE 4096
 #define ROOM (8 * PAGE)
-#define PLACES 21
+#define PLACES 23
 
 static uint8_t *places[PLACES];
 
@@ -498,6 +503,38 @@ static int look(void)
     return 1;
 }
 
+/* The kept file is mended; the seven tables are not lent. */
+static int mend(void)
+{
+    uint64_t *words;
+    uint8_t *drawing, *bytes;
+    uint16_t *positions;
+    uint32_t answer;
+    size_t i;
+    found[0] = found[1] = 0;
+    words = (uint64_t *)lend(9, found, 16);
+    drawing = (uint8_t *)lend(17, kept, kept_length);
+    bytes = (uint8_t *)lend(21, mended, lent[MENDED]);
+    positions = (uint16_t *)lend(22, dropped, 2 * lent[DROPPED]);
+    answer = berxundar_mend(drawing, kept_length, bytes, lent[MENDED], positions, lent[DROPPED], words, 2);
+    back(found, words, 16);
+    back(mended, bytes, lent[MENDED]);
+    back(dropped, positions, 2 * lent[DROPPED]);
+    put_words("mend");
+    put_number(berxundar_number(answer));
+    put_number(berxundar_position(answer));
+    put_number(found[0]);
+    put_number(found[1]);
+    put_words("\ndropped");
+    for (i = 0; i < found[1] && i < BERXUNDAR_DROPPED; i++)
+        put_number(dropped[i]);
+    put_words("\nbytes");
+    for (i = 0; i < found[0] && i < LONGEST; i++)
+        put_number(mended[i]);
+    put('\n');
+    return 1;
+}
+
 /* So many values, each a number of 64 bits and a width of 8. */
 static int take_values(size_t *count, uint64_t *numbers, uint64_t *widths)
 {
@@ -615,8 +652,17 @@ static uint16_t *shorts_of(unsigned table)
     case FOLLOWING: return net.following;
     case STANDING: return net.standing;
     case LIST: return list;
+    case DROPPED: return dropped;
     default: return NULL;
     }
+}
+
+/* A word of a table; those of the mended file are bytes. */
+static uint64_t word_of(unsigned table, size_t at)
+{
+    if (longs_of(table))
+        return longs_of(table)[at];
+    return table == MENDED ? mended[at] : shorts_of(table)[at];
 }
 
 static int show_table(void)
@@ -632,7 +678,7 @@ static int show_table(void)
     put_words("table");
     put_number(table);
     for (i = 0; i < full_words[table]; i++)
-        put_number(longs_of(table) ? longs_of(table)[i] : shorts_of(table)[i]);
+        put_number(word_of(table, i));
     put('\n');
     return 1;
 }
@@ -643,7 +689,9 @@ static void write_word(unsigned table, size_t at, uint64_t word)
         return;
     if (longs_of(table))
         longs_of(table)[at] = word;
-    else if (word < 65536)
+    else if (table == MENDED && word < 256)
+        mended[at] = (uint8_t)word;
+    else if (table != MENDED && word < 65536)
         shorts_of(table)[at] = (uint16_t)word;
 }
 
@@ -719,6 +767,7 @@ static int answer_one(uint8_t letter)
     case 'D': return show_table();
     case 'Y': return write_words();
     case 'B': return look();
+    case 'M': return mend();
     default: return 0;
     }
 }

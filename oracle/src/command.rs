@@ -50,6 +50,7 @@ pub enum Command {
     Table { table: u8 },
     WriteWords { table: u8, place: u16, words: Vec<u64> },
     Look { path: Vec<Id> },
+    Mend,
 }
 
 impl Command {
@@ -92,6 +93,7 @@ impl Command {
                 words: read_words(from)?,
             },
             b'B' => Command::Look { path: read_path(from)? },
+            b'M' => Command::Mend,
             _ => return Err(Stop::Bad),
         };
         Ok(command)
@@ -108,6 +110,7 @@ impl Command {
             Command::All => to.push(b'A'),
             Command::Calm => to.push(b'C'),
             Command::Satisfied => to.push(b'Q'),
+            Command::Mend => to.push(b'M'),
             Command::Round { time } => words(to, b'R', &[(*time, 8)]),
             Command::Edit { index, number } => words(to, b'E', &[(*index as u64, 2), (*number, 8)]),
             Command::EditFirst { index, number } => words(to, b'G', &[(*index as u64, 2), (*number, 8)]),

@@ -10,12 +10,17 @@ mod full;
 pub mod judge;
 mod load;
 pub mod look;
+pub mod mend;
 pub mod random;
 pub mod rounds;
 pub mod tables;
+mod torn;
 mod votes;
 
 use crate::command::Command;
+use crate::plain::drawing::RECORD_BYTES;
+use crate::plain::judge::RECORDS_MAX;
+use crate::plain::mend::sifted;
 use crate::plain::net::broken;
 use crate::program::Program;
 use random::Random;
@@ -23,7 +28,7 @@ use std::collections::BTreeMap;
 use std::io::{BufWriter, Error, Result, Write};
 
 const USAGE: &str =
-    "usage: oracle | oracle gen evaluate|judge|load|run|tables|look|votes SEED COUNT [--stats]";
+    "usage: oracle | oracle gen evaluate|judge|load|run|tables|look|votes|mend SEED COUNT [--stats]";
 
 pub fn usage() -> Result<()> {
     Err(Error::other(USAGE))
@@ -34,8 +39,8 @@ pub fn usage() -> Result<()> {
 pub struct Stream<W: Write> {
     output: BufWriter<W>,
     program: Program,
-    /// How often each answer was given, by its line's first two words; and how
-    /// often each clause was the first that the tables broke.
+    /// How often each answer was given, by its line's first two words; how often each
+    /// clause was the first that the tables broke; and what mending dropped.
     answers: BTreeMap<String, u64>,
 }
 
@@ -58,7 +63,31 @@ impl<W: Write> Stream<W> {
             let words: Vec<&str> = first.split(' ').take(2).collect();
             *self.answers.entry(words.join(" ")).or_default() += 1;
         }
+        if lines.starts_with("mend 0 ") || lines.starts_with("mend 1 ") {
+            self.count_dropped(lines.starts_with("mend 0 "));
+        }
         self.output.write_all(&bytes)
+    }
+
+    /// Counts what was dropped in a mending that is done: the files by all reasons in them, and
+    /// the positions by their reason; and a mending that is refused because no record is left.
+    fn count_dropped(&mut self, done: bool) {
+        let mended = sifted(&self.program.kept);
+        let mut reasons: Vec<String> = mended.dropped.iter().map(|(_, why)| format!("{why:?}")).collect();
+        let mut counted = vec![];
+        if done {
+            counted.extend(reasons.iter().map(|reason| format!("positions dropped: {reason}")));
+            reasons.sort();
+            reasons.dedup();
+            counted.push(format!("mend 0, dropped [{}]", reasons.join(" ")));
+        } else if mended.bytes.is_empty()
+            && (1..=RECORDS_MAX).contains(&(self.program.kept.len() / RECORD_BYTES))
+        {
+            counted.push("mend 1, no record left".to_string());
+        }
+        for one in counted {
+            *self.answers.entry(one).or_default() += 1;
+        }
     }
 
     /// Writes several commands.
@@ -99,6 +128,7 @@ pub fn run(words: &[String], output: impl Write) -> Result<()> {
             "tables" => tables::one(&mut random, &mut stream)?,
             "look" => look::one(&mut random, &mut stream)?,
             "votes" => votes::one(&mut random, &mut stream)?,
+            "mend" => mend::one(&mut random, &mut stream)?,
             _ => return usage(),
         }
     }

@@ -11,6 +11,7 @@ pub mod host;
 pub mod judge;
 pub mod kinds;
 pub mod look;
+pub mod mend;
 pub mod net;
 pub mod rules;
 pub mod running;

@@ -2,7 +2,7 @@
 //!
 //! The numbers given back come from `plain`. All else comes from logix, and `plain` works
 //! it out a second time: the program stops where the two differ. Where a component's kind
-//! is none of logix's, `plain` is alone.
+//! is none of logix's, and in mending, `plain` is alone.
 
 use crate::command::{Command, Single, FILE_KEPT};
 use crate::engine::Engine;
@@ -11,15 +11,15 @@ use crate::plain::calls::{edit_number, index_number, load_verdict, neighbours_nu
 use crate::plain::calls::{net_number, round_number, value_number};
 use crate::plain::drawing::{records, Drawing, Id};
 use crate::plain::host::{first_answer, second_answer};
-use crate::plain::judge::{judge, words};
+use crate::plain::judge::{judge, words, Refusal};
 use crate::plain::look::{look, Shown};
+use crate::plain::mend::{mend, Mended};
 use crate::plain::rules::{moved, outputs_after};
 use crate::plain::running::{self, Judged, Way};
 use crate::plain::single::{single_number, PortValue};
 use crate::primitive::{evaluated, in_logix};
-use crate::tables::{
-    Tables, ANSWER, COMPONENTS, CURRENT, FOLLOWING, INPUTS, MOVED, NUMBERS, OUTPUTS, STANDING, WIDTHS, WIRES,
-};
+use crate::tables::{Tables, ANSWER, COMPONENTS, CURRENT, DROPPED, FOLLOWING, INPUTS, MENDED, MOVED};
+use crate::tables::{NUMBERS, OUTPUTS, STANDING, WIDTHS, WIRES};
 use std::fmt::{Debug, Write as _};
 use std::io::{Read, Result, Write};
 
@@ -42,7 +42,7 @@ pub struct Program {
     engine: Option<Engine>,
     /// What calls have made of a load's tables; none where they were changed by hand.
     reached: Option<Reached>,
-    /// The file that looks are handed.
+    /// The file that looks and mending are handed.
     pub kept: Vec<u8>,
 }
 
@@ -122,6 +122,7 @@ impl Program {
                 }
             }
             Command::Look { path } => self.look(path, lines),
+            Command::Mend => self.mend(lines),
         }
     }
 
@@ -320,6 +321,25 @@ impl Program {
         if Engine::has_kinds_of(&drawing) {
             assert_eq!(Engine::look(&drawing, &self.tables, path), *shown, "a look in both codings");
         }
+    }
+
+    /// Three lines; the last two are their word alone where the mending is refused. logix has
+    /// nothing like it: the plain coding is alone.
+    fn mend(&mut self, lines: &mut String) {
+        let (head, bytes, dropped) = match mend(&self.tables, &self.kept) {
+            Ok(Mended { bytes, dropped }) => ([0, 0], bytes, dropped),
+            Err(Refusal { number, position, earlier }) => {
+                assert_eq!(earlier, 0, "after mending no two records meet");
+                ([number, position], vec![], vec![])
+            }
+        };
+        let bytes: Vec<u64> = bytes.into_iter().map(u64::from).collect();
+        let dropped: Vec<u64> = dropped.iter().map(|(position, _)| *position as u64).collect();
+        self.tables.lay(MENDED, &bytes);
+        self.tables.lay(DROPPED, &dropped);
+        line(lines, "mend", head.into_iter().chain([bytes.len() as u64, dropped.len() as u64]));
+        line(lines, "dropped", dropped);
+        line(lines, "bytes", bytes);
     }
 
     fn net(&self, lines: &mut String) {

@@ -1,6 +1,8 @@
 //! The seven lent tables at full size, their counts, the lists lent for answers, and
 //! how much of each is lent.
 
+use std::rc::Rc;
+
 pub const COMPONENTS: usize = 0;
 pub const INPUTS: usize = 1;
 pub const OUTPUTS: usize = 2;
@@ -9,26 +11,31 @@ pub const CURRENT: usize = 4;
 pub const FOLLOWING: usize = 5;
 pub const STANDING: usize = 6;
 /// The lists lent for an answer, which are no tables of the net: of sources and
-/// targets; of a look, its numbers and its widths; of a round, which outputs moved.
+/// targets; of a look, its numbers and its widths; of a round, which outputs moved;
+/// of a mending, the mended file and the positions that were dropped.
 pub const ANSWER: usize = 7;
 pub const NUMBERS: usize = 8;
 pub const WIDTHS: usize = 9;
 pub const MOVED: usize = 10;
+pub const MENDED: usize = 11;
+pub const DROPPED: usize = 12;
 /// How many tables there are in all.
-pub const ALL: usize = 11;
+pub const ALL: usize = 13;
 
 /// Words of an entry.
 pub const ENTRY_WORDS: [usize; 7] = [8, 1, 1, 4, 1, 1, 1];
 /// "Full size: 256 components, 1,024 inputs, 1,024 outputs, 1,024 wires, three lists of 256."
 pub const FULL_ENTRIES: [u64; 7] = [256, 1_024, 1_024, 1_024, 256, 256, 256];
-/// Full size in words; the last four are the lists lent for an answer.
-pub const FULL_WORDS: [usize; ALL] = [2_048, 1_024, 1_024, 4_096, 256, 256, 256, 256, 256, 256, 256];
+/// Full size in words; the last six are the lists lent for an answer.
+pub const FULL_WORDS: [usize; ALL] =
+    [2_048, 1_024, 1_024, 4_096, 256, 256, 256, 256, 256, 256, 256, 30_000, 1_025];
 /// What each word holds at the program's start.
 const FIRST_WORD: u64 = 7;
 
 #[derive(Clone, Debug, PartialEq)]
 pub struct Tables {
-    pub words: [Vec<u64>; ALL],
+    /// Copies of the tables have the words in common until one is written.
+    pub words: [Rc<Vec<u64>>; ALL],
     pub counts: [u64; 7],
     pub lent: [usize; ALL],
 }
@@ -36,7 +43,7 @@ pub struct Tables {
 impl Tables {
     pub fn new() -> Tables {
         Tables {
-            words: std::array::from_fn(|table| vec![FIRST_WORD; FULL_WORDS[table]]),
+            words: std::array::from_fn(|table| Rc::new(vec![FIRST_WORD; FULL_WORDS[table]])),
             counts: [0; 7],
             lent: FULL_WORDS,
         }
@@ -46,14 +53,20 @@ impl Tables {
     fn word_max(table: usize) -> u64 {
         match table {
             COMPONENTS | INPUTS | OUTPUTS | NUMBERS | WIDTHS | MOVED => u64::MAX,
+            MENDED => u8::MAX as u64,
             _ => u16::MAX as u64,
         }
+    }
+
+    /// A table's words, to be written.
+    pub fn words_mut(&mut self, table: usize) -> &mut Vec<u64> {
+        Rc::make_mut(&mut self.words[table])
     }
 
     /// Writes a word. A place past the table or a word that does not fit is left out.
     pub fn write_word(&mut self, table: usize, place: usize, word: u64) {
         if table < ALL && place < FULL_WORDS[table] && word <= Tables::word_max(table) {
-            self.words[table][place] = word;
+            self.words_mut(table)[place] = word;
         }
     }
 
@@ -82,7 +95,7 @@ impl Tables {
 
     /// Lays words over the front of a table; those past them keep what they held.
     pub fn lay(&mut self, table: usize, contents: &[u64]) {
-        self.words[table][..contents.len()].copy_from_slice(contents);
+        self.words_mut(table)[..contents.len()].copy_from_slice(contents);
     }
 
     /// Puts new contents in; entries past the count keep what they held.

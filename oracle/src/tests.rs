@@ -1,4 +1,4 @@
-//! Tests: the lamp drawing, the limits, records that meet, both ways of an edit, outputs that moved, the language,
+//! Tests: the lamp drawing, the limits, records that meet, both ways of an edit, outputs that moved, mending, the language,
 //! and where logix and the plain coding can be laid side by side.
 
 mod agreement;
@@ -10,6 +10,7 @@ mod limits;
 mod look;
 mod marked;
 mod meet;
+mod mend;
 mod moved;
 mod net;
 mod satisfied;

@@ -59,7 +59,7 @@ fn damage_length(random: &mut Random, file: &mut Vec<u8>) {
     }
 }
 
-fn positions(records: &[Record], wanted: impl Fn(&Record) -> bool) -> Vec<usize> {
+pub fn positions(records: &[Record], wanted: impl Fn(&Record) -> bool) -> Vec<usize> {
     (0..records.len()).filter(|at| wanted(&records[*at])).collect()
 }
 
@@ -72,7 +72,7 @@ fn component<'a>(random: &mut Random, records: &'a mut [Record]) -> &'a mut Reco
     &mut records[random.pick(&all)]
 }
 
-fn any_record<'a>(random: &mut Random, records: &'a mut [Record]) -> &'a mut Record {
+pub fn any_record<'a>(random: &mut Random, records: &'a mut [Record]) -> &'a mut Record {
     &mut records[random.below(records.len() as u64) as usize]
 }
 
@@ -246,7 +246,7 @@ fn meetings(random: &mut Random, records: &mut Vec<Record>, aim: u64) {
 }
 
 /// An input that is entered is entered again, now and then twice.
-fn meet(random: &mut Random, records: &mut Vec<Record>, aim: u64) {
+pub fn meet(random: &mut Random, records: &mut Vec<Record>, aim: u64) {
     let (entered, entering) = match (aim, random.below(2)) {
         (TWO_CONNECTIONS, _) => (CONNECTION, CONNECTION),
         (TWO_MAPS, _) => (INPUT_MAP, INPUT_MAP),

@@ -30,7 +30,7 @@ pub fn any_file(random: &mut Random) -> Vec<u8> {
     }
 }
 
-fn any_drawing(random: &mut Random) -> Vec<Record> {
+pub fn any_drawing(random: &mut Random) -> Vec<Record> {
     let profile = any_profile(random);
     let profile = voting(random, 3, profile);
     drawing(random, profile)

@@ -13,8 +13,8 @@ use crate::plain::kinds::PERIOD_MAX;
 use crate::plain::net::{entries, Entry};
 use crate::program::Program;
 use crate::tables::{
-    Tables, ALL, ANSWER, COMPONENTS, CURRENT, ENTRY_WORDS, FULL_ENTRIES, FULL_WORDS, INPUTS, MOVED, NUMBERS,
-    OUTPUTS, STANDING, WIDTHS, WIRES,
+    Tables, ALL, ANSWER, COMPONENTS, CURRENT, DROPPED, ENTRY_WORDS, FULL_ENTRIES, FULL_WORDS, INPUTS, MOVED,
+    NUMBERS, OUTPUTS, STANDING, WIDTHS, WIRES,
 };
 use std::io::{Result, Write};
 
@@ -72,6 +72,7 @@ fn every_call<W: Write>(random: &mut Random, stream: &mut Stream<W>) -> Result<(
         Command::Sources { index },
         Command::Targets { index },
         Command::Look { path: any_path(random, &records(&stream.program.kept)) },
+        Command::Mend,
     ];
     while !calls.is_empty() {
         let at = random.below(calls.len() as u64) as usize;
@@ -81,7 +82,7 @@ fn every_call<W: Write>(random: &mut Random, stream: &mut Stream<W>) -> Result<(
         stream.put_all([Command::Net, Command::State])?;
     }
     stream.put(Command::All)?;
-    stream.put(Command::Table { table: random.pick(&[ANSWER, NUMBERS, WIDTHS, MOVED, MOVED]) as u8 })
+    stream.put(Command::Table { table: random.pick(&[ANSWER, NUMBERS, WIDTHS, MOVED, MOVED, DROPPED]) as u8 })
 }
 
 /// Every table one word short, or empty, or lent past its full size.
@@ -142,12 +143,12 @@ pub fn change_values(random: &mut Random, tables: &mut Tables) {
     for entry in entries(tables) {
         for port in 0..entry.fields.inputs {
             let value = random.any() & ((1 << entry.fields.input_width()) - 1);
-            tables.words[INPUTS][(entry.first_input + port) as usize] = value;
+            tables.words_mut(INPUTS)[(entry.first_input + port) as usize] = value;
         }
         for port in 0..entry.fields.outputs {
             let value = random.any() & ((1 << entry.fields.output_width()) - 1);
             if entry.fields.kind != 13 {
-                tables.words[OUTPUTS][(entry.first_output + port) as usize] = value;
+                tables.words_mut(OUTPUTS)[(entry.first_output + port) as usize] = value;
             }
         }
     }

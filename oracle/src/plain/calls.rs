@@ -1,5 +1,5 @@
 //! The numbers of loads, rounds, edits and questions: "2, 16, 17, 18, 19 in that
-//! order, as far as each applies". Those of looks are in `look`.
+//! order, as far as each applies". Those of looks are in `look`, those of mending in `mend`.
 
 use super::judge::{check_1, judge_records, Refusal, Verdict};
 use super::kinds::fits;

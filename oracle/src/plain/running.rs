@@ -63,7 +63,7 @@ pub fn round(tables: &mut Tables, time: u64) -> Vec<u64> {
 fn evaluate(tables: &mut Tables, index: u64, time: u64) -> u64 {
     let first_output = entry(tables, index).first_output as usize;
     let after = evaluated(tables, index, time);
-    let outputs = &mut tables.words[OUTPUTS][first_output..][..after.len()];
+    let outputs = &mut tables.words_mut(OUTPUTS)[first_output..][..after.len()];
     let bits = moved(outputs, &after);
     outputs.copy_from_slice(&after);
     bits
@@ -81,7 +81,7 @@ fn send(tables: &mut Tables, wire: &[u64; 4], following: &mut Vec<u64>) {
     let output = tables.words[OUTPUTS][(entry(tables, wire[0]).first_output + wire[1]) as usize];
     let place = (entry(tables, wire[2]).first_input + wire[3]) as usize;
     if tables.words[INPUTS][place] != output {
-        tables.words[INPUTS][place] = output;
+        tables.words_mut(INPUTS)[place] = output;
         append(following, wire[2]);
     }
 }
@@ -101,8 +101,8 @@ pub enum Way {
 pub fn edit(tables: &mut Tables, way: Way, index: u64, number: u64) {
     let Entry { fields, first_input, first_output, .. } = entry(tables, index);
     match fields.kind {
-        SWITCH => tables.words[OUTPUTS][first_output as usize] = number,
-        _ => tables.words[INPUTS][first_input as usize] = number,
+        SWITCH => tables.words_mut(OUTPUTS)[first_output as usize] = number,
+        _ => tables.words_mut(INPUTS)[first_input as usize] = number,
     }
     let list = match way {
         Way::First => CURRENT,

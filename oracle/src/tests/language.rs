@@ -139,19 +139,27 @@ fn words_that_do_not_fit_are_left_out() {
     let word = |table, place, word| Command::WriteWord { table, place, word };
     answer(&mut program, word(4, 0, 65_536));
     answer(&mut program, word(4, 256, 1));
-    answer(&mut program, word(11, 0, 1));
+    answer(&mut program, word(13, 0, 1));
     answer(&mut program, word(1, 1, u64::MAX));
     answer(&mut program, word(7, 0, 65_536));
     answer(&mut program, word(8, 255, u64::MAX));
     answer(&mut program, word(9, 256, 1));
     answer(&mut program, word(10, 0, u64::MAX));
     answer(&mut program, word(10, 256, 1));
-    assert_eq!(program.tables.words[4], vec![7; 256]);
+    answer(&mut program, word(11, 0, 255));
+    answer(&mut program, word(11, 1, 256));
+    answer(&mut program, word(11, 30_000, 1));
+    answer(&mut program, word(12, 1_024, 65_535));
+    answer(&mut program, word(12, 1_023, 65_536));
+    answer(&mut program, word(12, 1_025, 1));
+    assert_eq!(*program.tables.words[4], vec![7; 256]);
     assert_eq!(program.tables.words[1][..3], [7, u64::MAX, 7]);
-    assert_eq!(program.tables.words[7], vec![7; 256]);
+    assert_eq!(*program.tables.words[7], vec![7; 256]);
     assert_eq!(program.tables.words[8][254..], [7, u64::MAX]);
-    assert_eq!(program.tables.words[9], vec![7; 256]);
+    assert_eq!(*program.tables.words[9], vec![7; 256]);
     assert_eq!(program.tables.words[10][..2], [u64::MAX, 7]);
+    assert_eq!(program.tables.words[11][..2], [255, 7]);
+    assert_eq!(program.tables.words[12][1_022..], [7, 7, 65_535]);
 }
 
 #[test]
@@ -163,9 +171,11 @@ fn words_are_written_one_after_the_other() {
     answer(&mut program, words(8, 254, &[u64::MAX, 1, 2]));
     assert_eq!(program.tables.words[8][253..], [7, u64::MAX, 1]);
     answer(&mut program, words(4, 65_535, &[1; 3]));
-    answer(&mut program, words(11, 0, &[1; 3]));
+    answer(&mut program, words(13, 0, &[1; 3]));
+    answer(&mut program, words(11, 29_998, &[255, 256, 1]));
+    assert_eq!(program.tables.words[11][29_997..], [7, 255, 7]);
     answer(&mut program, words(4, 0, &[]));
-    assert_eq!(program.tables.words[4], vec![7; 256]);
+    assert_eq!(*program.tables.words[4], vec![7; 256]);
 }
 
 #[test]
@@ -177,7 +187,7 @@ fn a_table_is_shown_whole_whatever_is_lent() {
         let line = format!("table {table}{}\n", " 7".repeat(words));
         assert_eq!(shown(&mut program, table as u8), line);
     }
-    assert_eq!(shown(&mut program, 11), "no table\n");
+    assert_eq!(shown(&mut program, 13), "no table\n");
     assert_eq!(shown(&mut program, 255), "no table\n");
 }
 
@@ -238,6 +248,7 @@ fn commands_are_read_as_written() {
         Command::WriteWords { table: 9, place: 258, words: vec![1, 1 << 40] },
         Command::Look { path: vec![Id(0x0102_0304), Id(5)] },
         Command::Table { table: 77 },
+        Command::Mend,
         Command::Net,
     ];
     for command in &commands {
@@ -245,6 +256,6 @@ fn commands_are_read_as_written() {
     }
     let lines =
         "judge 1 0 0\nhost 65536 4294967296\nround 0 0\nedit 17 0\nfirst 17 0\nrun 0 1 0 0\nindex 17 0\nvalue 17 0 0\n\
-                 look 2 0 0 0 0\nno table\nnet 0 0 0 0\n";
+                 look 2 0 0 0 0\nno table\nmend 3 0 0 0\ndropped\nbytes\nnet 0 0 0 0\n";
     assert_eq!(printed(&bytes), lines);
 }
