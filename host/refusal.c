@@ -514,6 +514,17 @@ static void say_advice(FILE *to, unsigned number)
         fprintf(to, "    to do: %s\n", advice(number));
 }
 
+/* Mending drops some of what is refused; what is mended already has none of that. */
+static void say_mending(const drawing *of, unsigned number, size_t position)
+{
+    unsigned form = record_at(of, position).form;
+    int part = number == BERXUNDAR_BAD_SIZE && of->count && of->length < BERXUNDAR_FILE;
+    int unfit = (number == BERXUNDAR_BAD_OWNER || number == BERXUNDAR_NO_CHILD) && (form == CONNECTION || form == INPUT_MAP);
+    if (part || unfit || refusal_names_earlier(number))
+        fprintf(of->to, "    or: ./berxundar mend FILE OUT drops the %s, and writes the rest to OUT\n",
+            part ? "part of a record at the end" : "record");
+}
+
 static drawing drawing_in(FILE *to, const uint8_t *bytes, size_t length)
 {
     drawing of;
@@ -541,6 +552,7 @@ static void explain(const drawing *of, const char *name, const char *state, unsi
         say_record(of, position);
     explain_in_particular(of, number, position, earlier);
     say_advice(of->to, number);
+    say_mending(of, number, position);
 }
 
 void refusal_explain(FILE *to, const char *name, const uint8_t *bytes, size_t length, unsigned number, unsigned position,
