@@ -467,7 +467,8 @@ typedef struct berxundar_mending {
 static inline uint32_t berxundar_mend_file(berxundar_mending *mending, const uint8_t *bytes, size_t length)
 {
     uint64_t found[2] = { 0, 0 };
-    uint32_t answer = berxundar_mend(bytes, length, mending->bytes, BERXUNDAR_DAMAGED, mending->dropped, BERXUNDAR_DROPPED, found, 2);
+    uint32_t answer = berxundar_mend(bytes, length, mending->bytes, BERXUNDAR_DAMAGED, mending->dropped, BERXUNDAR_DROPPED,
+        found, 2);
     if (answer == 0) {
         mending->length = found[0];
         mending->count = found[1];
