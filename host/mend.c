@@ -3,9 +3,9 @@
  * connections and input maps that cannot stand. A line on standard output says how it went: `FILE: whole, nothing dropped, written
  * to OUT`; `FILE: mended, N records dropped, written to OUT`; or `FILE: refused N at P, OUT not written`, number and position in
  * what would have been left. Which records are dropped and why, and what is still wrong, goes to standard error. What is dropped,
- * written and refused is the engine's to say: `berxundar_mend` does. FILE `-` is standard input. OUT is written whole or not at all,
- * and never where it is the file that is read. Exit status: 0 written; 1 still refused, and nothing is written; 2 FILE cannot be
- * read, OUT not be written, or a word is wrong.
+ * written and refused is the engine's to say: `berxundar_mend` does. FILE `-` is standard input. OUT is written whole or not at
+ * all, and never where it is the file that is read. Exit status: 0 written; 1 still refused, and nothing is written; 2 FILE cannot
+ * be read, OUT not be written, or a word is wrong.
  */
 #include "berxundar.h"
 #include "file.h"

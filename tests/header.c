@@ -12,7 +12,8 @@ static uint32_t changed(const uint8_t *bytes, size_t length)
 {
     uint64_t rounds, evaluations, moved, bits[BERXUNDAR_MOVED];
     return berxundar_judge(bytes, length) + (uint32_t)(berxundar_judge_pair(bytes, length) >> 16)
-        + berxundar_earlier(1, bytes, length) + berxundar_mend_file(&mending, bytes, length) + berxundar_net_load(&net, bytes, length)
+        + berxundar_earlier(1, bytes, length) + berxundar_mend_file(&mending, bytes, length)
+        + berxundar_net_load(&net, bytes, length)
         + berxundar_net_round(&net, 1, bits) + berxundar_net_edit(&net, 0, 1) + berxundar_net_edit_standing(&net, 0, 1)
         + berxundar_net_run_until_calm(&net, 1, 2, &rounds, &evaluations, &moved) + berxundar_single_evaluate(&single, 1, &moved);
 }
