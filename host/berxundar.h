@@ -181,7 +181,7 @@ static inline const char *berxundar_words(uint32_t answer_or_number)
     }
 }
 
-/* ---- The sixteen calls, with every pointer and its length in entries of the pointer's type. What is marked `const` is only
+/* ---- The seventeen calls, with every pointer and its length in entries of the pointer's type. What is marked `const` is only
  * read; the numbers behind a colon are those of the refusals that a call can give. ---- */
 
 /* Judges the bytes of a file as a load would, without tables: 1, 3 to 15. Two records that enter one input are 13 here, whatever
@@ -450,6 +450,28 @@ static inline uint32_t berxundar_net_look(const berxundar_net *net, const uint8_
     if (answer == 0) {
         box->inputs = found[0];
         box->outputs = found[1];
+    }
+    return answer;
+}
+
+/* What a mending gives back: how many bytes are left and how many positions were dropped, the bytes, and the positions in the
+ * damaged file. 26 KiB: let it be static. */
+typedef struct berxundar_mending {
+    uint64_t length;
+    uint64_t count;
+    uint8_t bytes[BERXUNDAR_DAMAGED];
+    uint16_t dropped[BERXUNDAR_DROPPED];
+} berxundar_mending;
+
+/* Mends the bytes of a file, whatever its length: 1, 3 to 12, 14, 15. No net is lent. */
+static inline uint32_t berxundar_mend_file(berxundar_mending *mending, const uint8_t *bytes, size_t length)
+{
+    uint64_t found[2] = { 0, 0 };
+    uint32_t answer = berxundar_mend(bytes, length, mending->bytes, BERXUNDAR_DAMAGED, mending->dropped, BERXUNDAR_DROPPED,
+        found, 2);
+    if (answer == 0) {
+        mending->length = found[0];
+        mending->count = found[1];
     }
     return answer;
 }

@@ -2,7 +2,9 @@
 
 #include <stdio.h>
 
-long file_read(const char *path, uint8_t *bytes)
+long file_read(const char *path, uint8_t *bytes) { return file_read_into(path, bytes, FILE_ROOM); }
+
+long file_read_into(const char *path, uint8_t *bytes, size_t room)
 {
     int standard = path[0] == '-' && path[1] == '\0';
     FILE *file = standard ? stdin : fopen(path, "rb");
@@ -12,7 +14,7 @@ long file_read(const char *path, uint8_t *bytes)
         perror(path);
         return -1;
     }
-    length = fread(bytes, 1, FILE_ROOM, file);
+    length = fread(bytes, 1, room, file);
     broken = ferror(file);
     if (broken)
         perror(path);

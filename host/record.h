@@ -40,4 +40,28 @@ static inline record record_in(const uint8_t *bytes, size_t length, size_t posit
     return r;
 }
 
+/* What a look-up answers where nothing is found. */
+#define RECORD_NOWHERE ((size_t)-1)
+
+/* Component `number`: its position. Components are numbered from 0 in file order, wherever they stand. */
+static inline size_t record_component(const uint8_t *bytes, size_t length, size_t number)
+{
+    size_t position, seen = 0;
+    for (position = 0; position < length / BERXUNDAR_RECORD; position++)
+        if (bytes[BERXUNDAR_RECORD * position] == COMPONENT && seen++ == number)
+            return position;
+    return RECORD_NOWHERE;
+}
+
+/* Child `number` of component `owner`: its position. The root, which is component 0, is nobody's child. */
+static inline size_t record_child(const uint8_t *bytes, size_t length, unsigned owner, unsigned number)
+{
+    size_t position, components = 0, seen = 0;
+    for (position = 0; position < length / BERXUNDAR_RECORD; position++)
+        if (bytes[BERXUNDAR_RECORD * position] == COMPONENT && components++
+            && record_in(bytes, length, position).owner == owner && seen++ == number)
+            return position;
+    return RECORD_NOWHERE;
+}
+
 #endif

@@ -3,7 +3,7 @@
 
 #include "record.h"
 
-#define NOWHERE ((size_t)-1)
+#define NOWHERE RECORD_NOWHERE
 #define DEEPEST 16
 
 /* The kinds by their numbers, and what docs/SPECIFICATION.md's table of kinds allows each; 14 is kept and has no name. */
@@ -33,10 +33,13 @@ const char *refusal_kind_name(uint64_t kind) { return kind < KINDS ? kinds[kind]
 
 /* ---- The records. ---- */
 
+/* A file, and where words about it go. `was` has, for each record of a mended one, its position in the damaged one; else it is a
+ * null pointer. */
 typedef struct {
     FILE *to;
     const uint8_t *bytes;
     size_t length, count;
+    const uint16_t *was;
 } drawing;
 
 /* The record at a position; one of no form where there is none. */
@@ -49,22 +52,21 @@ static int is_composite(const drawing *of, size_t position)
     return is_component(of, position) && record_at(of, position).kind == BERXUNDAR_COMPOSITE;
 }
 
+/* Component `number`, as owners are named: its position. It is the number itself in each file that check 4 passes. */
+static size_t component(const drawing *of, size_t number) { return record_component(of->bytes, of->length, number); }
+
 /* Child `number` of an owner: its position. */
 static size_t child(const drawing *of, size_t owner, unsigned number)
 {
-    size_t position, seen = 0;
-    for (position = 1; position < of->count; position++)
-        if (is_component(of, position) && record_at(of, position).owner == owner && seen++ == number)
-            return position;
-    return NOWHERE;
+    return record_child(of->bytes, of->length, (unsigned)owner, number);
 }
 
 /* How many records of a form before a position have an owner. The root is no child of its own. */
 static size_t owned(const drawing *of, unsigned form, size_t owner, size_t before)
 {
-    size_t position, seen = 0;
-    for (position = form == COMPONENT; position < before && position < of->count; position++)
-        seen += record_at(of, position).form == form && record_at(of, position).owner == owner;
+    size_t position, root = component(of, 0), seen = 0;
+    for (position = 0; position < before && position < of->count; position++)
+        seen += position != root && record_at(of, position).form == form && record_at(of, position).owner == owner;
     return seen;
 }
 
@@ -161,11 +163,12 @@ static void say_component(const drawing *of, size_t position)
 /* The owner of a record, which ought to be a composite. */
 static void say_owner(const drawing *of, size_t position, unsigned owner)
 {
-    if (position == 0 && owner == 0)
+    size_t at = component(of, owner);
+    if (position == component(of, 0) && owner == 0)
         return;
     fprintf(of->to, ", in component %u (", owner);
-    if (is_component(of, owner))
-        say_component(of, owner);
+    if (at != NOWHERE)
+        say_component(of, at);
     else
         fprintf(of->to, "which is not there");
     fprintf(of->to, ")");
@@ -202,7 +205,7 @@ static void say_what(const drawing *of, size_t position, record r)
         say_component(of, position);
         fprintf(of->to, ", with ");
         say_fields(of, r);
-        fprintf(of->to, "%s", position ? "" : ", the root");
+        fprintf(of->to, "%s", position == component(of, 0) ? ", the root" : "");
     } else if (r.form == CONNECTION) {
         fprintf(of->to, "a connection from output %u of ", r.b);
         say_child(of, r.owner, r.a);
@@ -225,12 +228,18 @@ static void say_what(const drawing *of, size_t position, record r)
 static void say_record(const drawing *of, size_t position)
 {
     record r = record_at(of, position);
+    size_t was = position;
     if (of->count <= position) {
         fprintf(of->to, "    record %lu is not in the file, which has %lu\n", (unsigned long)position, (unsigned long)of->count);
         return;
     }
-    fprintf(of->to, "    record %lu (bytes %lu to %lu) is ", (unsigned long)position, (unsigned long)(BERXUNDAR_RECORD * position),
-        (unsigned long)(BERXUNDAR_RECORD * position + BERXUNDAR_RECORD - 1));
+    fprintf(of->to, "    record %lu (", (unsigned long)position);
+    if (of->was) {
+        was = of->was[position];
+        fprintf(of->to, "record %lu of the damaged file, ", (unsigned long)was);
+    }
+    fprintf(of->to, "bytes %lu to %lu) is ", (unsigned long)(BERXUNDAR_RECORD * was),
+        (unsigned long)(BERXUNDAR_RECORD * was + BERXUNDAR_RECORD - 1));
     say_what(of, position, r);
     say_owner(of, position, r.owner);
     fprintf(of->to, "\n");
@@ -241,7 +250,7 @@ static void say_record(const drawing *of, size_t position)
 static void explain_size(const drawing *of)
 {
     if (of->length == 0)
-        fprintf(of->to, "    the file is empty\n");
+        fprintf(of->to, "    %s\n", of->was ? "no record is left" : "the file is empty");
     else if (BERXUNDAR_FILE < of->length)
         fprintf(of->to, "    the file has more than %d bytes\n", BERXUNDAR_FILE);
     else
@@ -284,12 +293,17 @@ static void explain_order(const drawing *of, size_t position)
     say_record(of, position - 1);
 }
 
+static void explain_no_composite(const drawing *of, unsigned owner)
+{
+    fprintf(of->to, "    component %u is no composite of this file, and only a composite holds anything\n", owner);
+}
+
 static void explain_owner(const drawing *of, size_t position, record r)
 {
     if (position == 0)
         fprintf(of->to, "    the root's owner must be 0, and is %u\n", r.owner);
     else if (!is_composite(of, r.owner))
-        fprintf(of->to, "    component %u is no composite of this file, and only a composite holds anything\n", r.owner);
+        explain_no_composite(of, r.owner);
     else if (position <= r.owner)
         fprintf(of->to, "    an owner must stand before what it holds\n");
     else
@@ -356,8 +370,9 @@ static void explain_child(const drawing *of, size_t owner, unsigned number, unsi
 
 static void explain_ends(const drawing *of, record r)
 {
-    if (r.form == INPUT_MAP && record_at(of, r.owner).a <= r.a)
-        fprintf(of->to, "    there is no input %u of the owner: it has %u, numbered from 0\n", r.a, record_at(of, r.owner).a);
+    record owner = record_at(of, component(of, r.owner));
+    if (r.form == INPUT_MAP && owner.a <= r.a)
+        fprintf(of->to, "    there is no input %u of the owner: it has %u, numbered from 0\n", r.a, owner.a);
     if (r.form == CONNECTION || r.form == OUTPUT_MAP)
         explain_child(of, r.owner, r.a, r.b, 1);
     if (r.form == CONNECTION || r.form == INPUT_MAP)
@@ -499,6 +514,17 @@ static void say_advice(FILE *to, unsigned number)
         fprintf(to, "    to do: %s\n", advice(number));
 }
 
+/* Mending drops some of what is refused; what is mended already has none of that. */
+static void say_mending(const drawing *of, unsigned number, size_t position)
+{
+    unsigned form = record_at(of, position).form;
+    int part = number == BERXUNDAR_BAD_SIZE && of->count && of->length < BERXUNDAR_FILE;
+    int unfit = (number == BERXUNDAR_BAD_OWNER || number == BERXUNDAR_NO_CHILD) && (form == CONNECTION || form == INPUT_MAP);
+    if (part || unfit || refusal_names_earlier(number))
+        fprintf(of->to, "    or: ./berxundar mend FILE OUT drops the %s, and writes the rest to OUT\n",
+            part ? "part of a record at the end" : "record");
+}
+
 static drawing drawing_in(FILE *to, const uint8_t *bytes, size_t length)
 {
     drawing of;
@@ -506,6 +532,7 @@ static drawing drawing_in(FILE *to, const uint8_t *bytes, size_t length)
     of.bytes = bytes;
     of.length = length;
     of.count = length / BERXUNDAR_RECORD;
+    of.was = NULL;
     return of;
 }
 
@@ -514,18 +541,49 @@ int refusal_names_earlier(unsigned number)
     return number == BERXUNDAR_ENTERED_TWICE || number == BERXUNDAR_WIRE_AND_MAP || number == BERXUNDAR_TWO_MAPS;
 }
 
+/* All lines of a refusal. `state` stands behind the file's name. */
+static void explain(const drawing *of, const char *name, const char *state, unsigned number, unsigned position, unsigned earlier)
+{
+    fprintf(of->to, "%s%s: refused %u at %u", name, state, number, position);
+    if (refusal_names_earlier(number))
+        fprintf(of->to, " against %u", earlier);
+    fprintf(of->to, ": %s\n", number < 65536 ? berxundar_words(number) : "no number");
+    if ((BERXUNDAR_BAD_RECORD <= number && number <= BERXUNDAR_WIDTHS_DIFFER) || refusal_names_earlier(number))
+        say_record(of, position);
+    explain_in_particular(of, number, position, earlier);
+    say_advice(of->to, number);
+    say_mending(of, number, position);
+}
+
 void refusal_explain(FILE *to, const char *name, const uint8_t *bytes, size_t length, unsigned number, unsigned position,
     unsigned earlier)
 {
     drawing of = drawing_in(to, bytes, length);
-    fprintf(to, "%s: refused %u at %u", name, number, position);
-    if (refusal_names_earlier(number))
-        fprintf(to, " against %u", earlier);
-    fprintf(to, ": %s\n", number < 65536 ? berxundar_words(number) : "no number");
-    if ((BERXUNDAR_BAD_RECORD <= number && number <= BERXUNDAR_WIDTHS_DIFFER) || refusal_names_earlier(number))
-        say_record(&of, position);
-    explain_in_particular(&of, number, position, earlier);
-    say_advice(to, number);
+    explain(&of, name, "", number, position, earlier);
+}
+
+void refusal_explain_mended(FILE *to, const char *name, const uint8_t *bytes, size_t length, const uint16_t *was, unsigned number,
+    unsigned position)
+{
+    drawing of = drawing_in(to, bytes, length);
+    of.was = was;
+    explain(&of, name, ", mended", number, position, 0);
+}
+
+void refusal_say_record(FILE *to, const uint8_t *bytes, size_t length, size_t position)
+{
+    drawing of = drawing_in(to, bytes, length);
+    say_record(&of, position);
+}
+
+void refusal_say_missing(FILE *to, const uint8_t *bytes, size_t length, size_t position)
+{
+    drawing of = drawing_in(to, bytes, length);
+    record r = record_at(&of, position);
+    if (is_composite(&of, component(&of, r.owner)))
+        explain_ends(&of, r);
+    else
+        explain_no_composite(&of, r.owner);
 }
 
 void refusal_explain_look(FILE *to, const char *name, const uint8_t *bytes, size_t length, unsigned number, const uint32_t *path,

@@ -18,6 +18,19 @@
 void refusal_explain(FILE *to, const char *name, const uint8_t *bytes, size_t length, unsigned number, unsigned position,
     unsigned earlier);
 
+/*
+ * The same of a file as a mending leaves it, which is written nowhere where it is refused: `bytes` and `length` are what is left,
+ * and `was` has, for each record of it, its position in the damaged file, which is named beside its own.
+ */
+void refusal_explain_mended(FILE *to, const char *name, const uint8_t *bytes, size_t length, const uint16_t *was, unsigned number,
+    unsigned position);
+
+/* A line on the record at a position: what it is, and everything that it names, by id. */
+void refusal_say_record(FILE *to, const uint8_t *bytes, size_t length, size_t position);
+
+/* A line on each child and port that a record names and that is not there; where its owner is no composite, a line on that. */
+void refusal_say_missing(FILE *to, const uint8_t *bytes, size_t length, size_t position);
+
 /* Whether a number tells of two records that meet, and so names the earlier of them. */
 int refusal_names_earlier(unsigned number);
 

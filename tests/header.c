@@ -8,12 +8,14 @@ static berxundar_net net;
 static uint8_t mended[BERXUNDAR_DAMAGED];
 static uint16_t dropped[BERXUNDAR_DROPPED];
 static berxundar_single single;
+static berxundar_mending mending;
 
 static uint32_t changed(const uint8_t *bytes, size_t length)
 {
     uint64_t rounds, evaluations, moved, bits[BERXUNDAR_MOVED], found[2];
     return berxundar_judge(bytes, length) + (uint32_t)(berxundar_judge_pair(bytes, length) >> 16)
-        + berxundar_earlier(1, bytes, length) + berxundar_net_load(&net, bytes, length)
+        + berxundar_earlier(1, bytes, length) + berxundar_mend_file(&mending, bytes, length)
+        + berxundar_net_load(&net, bytes, length)
         + berxundar_net_round(&net, 1, bits) + berxundar_net_edit(&net, 0, 1) + berxundar_net_edit_standing(&net, 0, 1)
         + berxundar_net_run_until_calm(&net, 1, 2, &rounds, &evaluations, &moved)
         + berxundar_single_evaluate(&single, 1, &moved)
@@ -35,6 +37,7 @@ int main(void)
 {
     uint32_t answer = changed(NULL, 0) + asked(&net);
     return berxundar_number(answer) == BERXUNDAR_TWO_MAPS && berxundar_position(answer) == BERXUNDAR_FILE
+        && mending.length == BERXUNDAR_DAMAGED && mending.count == BERXUNDAR_DROPPED
         && net.components[BERXUNDAR_WORD_FIRST_OUTPUT] == BERXUNDAR_CONST && net.wires[BERXUNDAR_WIRE_TO_INPUT] == BERXUNDAR_BITS
         && net.counts[BERXUNDAR_COUNT_STANDING] == BERXUNDAR_SIDE_OUTPUTS && berxundar_words(answer) == NULL;
 }

@@ -1,14 +1,17 @@
 /*
- * refusal_explain and refusal_explain_look on files that hold anything: drawings whose records name each other at random, noise,
- * lengths that are no multiple of 24, and every number, position and path, right or not. They must end and look at no byte that is
- * not there: each file stands in memory of its own size, for the sanitizers. Prints nothing, and leaves with 0.
+ * refusal_explain, refusal_explain_look, and the words about what a mending drops and leaves, on files that hold anything: drawings
+ * whose records name each other at random, noise, lengths that are no multiple of 24, and every number, position and path, right or
+ * not. They must end and look at no byte that is not there: each file stands in memory of its own size, for the sanitizers. Prints
+ * nothing, and leaves with 0.
  */
 #include "refusal.h"
+#include "sift.h"
 
 void *malloc(size_t bytes);
 void free(void *memory);
 
 static uint32_t state = 1;
+static sifted sieve;
 
 static uint32_t below(uint32_t limit)
 {
@@ -30,6 +33,32 @@ static void draw(uint8_t *record)
     record[16] = (uint8_t)below(4);
 }
 
+/* What is dropped of a file, each position and some that are none; and what is said of the rest, which stands in memory of its own
+ * size as well. */
+static int sift_any(FILE *nowhere, const uint8_t *bytes, size_t length)
+{
+    uint8_t *left;
+    uint16_t *was;
+    size_t i;
+    sift(&sieve, bytes, length);
+    left = (uint8_t *)malloc(sieve.length + !sieve.length);
+    was = (uint16_t *)malloc(sieve.length / 24 * sizeof *was + 1);
+    if (!left || !was)
+        return 0;
+    for (i = 0; i < sieve.length; i++)
+        left[i] = sieve.left[i];
+    for (i = 0; i < sieve.length / 24; i++)
+        was[i] = sieve.was[i];
+    for (i = 0; i < length / 24 + 3; i++)
+        sift_explain(nowhere, "file", bytes, length, &sieve, i, "dropped");
+    sift_explain(nowhere, "file", bytes, length, &sieve, below(65536), "dropped");
+    for (i = 0; i < 26; i++)
+        refusal_explain_mended(nowhere, "file", sieve.length ? left : NULL, sieve.length, was, (unsigned)i, below(40));
+    free(left);
+    free(was);
+    return 1;
+}
+
 int main(void)
 {
     FILE *nowhere = fopen("/dev/null", "w");
@@ -37,7 +66,7 @@ int main(void)
     if (!nowhere)
         return 2;
     for (turn = 0; turn < 2000; turn++) {
-        size_t length = 24 * (size_t)below(40) + (below(4) ? 0 : below(24)), i;
+        size_t length = 24 * (size_t)(turn % 500 ? below(40) : 1000 + below(50)) + (below(4) ? 0 : below(24)), i;
         uint8_t *bytes = (uint8_t *)malloc(length + !length);
         uint32_t number;
         if (!bytes)
@@ -56,6 +85,8 @@ int main(void)
             refusal_explain_look(nowhere, "file", length ? bytes : NULL, length, number, ids ? path : NULL, ids);
         }
         refusal_explain(nowhere, "file", bytes, length, below(1u << 24) << 8, 0, 0);
+        if (!sift_any(nowhere, length ? bytes : NULL, length))
+            return 2;
         free(bytes);
     }
     return fclose(nowhere) == 0 ? 0 : 2;
