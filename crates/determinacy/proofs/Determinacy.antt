@@ -17,6 +17,7 @@ use Rattle.questions.specs.Questions.{whetherGives, indexGives, valueGives, lis
 use Rattle.simulator.proofs.AnswersLaws.{ranGives-is}
 use Rattle.questions.proofs.AnswersLaws.{whetherGives-is, indexGives-is, valueGives-is, listGives-is}
 use Rattle.look.proofs.AnswerLaws.{lookGives-is}
+use Rattle.mend.proofs.AnswerLaws.{mendGives-is}
 use Rattle.determinacy.specs.Determined.{Determinacy, Determined, DeterminedAnswer}
 
 -- What was written is `new`, and the answer gives what `said` says of it.
@@ -32,7 +33,7 @@ module _ {A : Type 0} (gives : A → Given) (is : (a b : A) → gives a ≡ give
 equation : {A : Type 0} (x : A) → DeterminedAnswer (λ (a : A). a ≡ x)
 equation x a a′ p q = p ∙ sym q
 
--- For evaluating one component, a load, a round, an edit of either way, a run until calm, and the questions and looks that write lent lists; then for
+-- For evaluating one component, a load, a round, an edit of either way, a run until calm, and the questions, looks and mendings that write lent lists; then for
 -- judging, also as the host's two calls, check 16, calm, satisfied, the index of an id, a port's value, and a value's methods.
 pub determinacy : Determinacy
 determinacy = (
@@ -53,6 +54,10 @@ determinacy = (
       let n = p .1 ∙ sym (q .1) in
       let w = p .2 ∙ sym (q .2) in
       (lookGives-is a a′ (p .0 ∙ sym (q .0)), λ i. (n i, w i)),
+  λ file out list a a′ b b′ p q.
+      let o = p .1 ∙ sym (q .1) in
+      let l = p .2 ∙ sym (q .2) in
+      (mendGives-is a a′ (p .0 ∙ sym (q .0)), λ i. (o i, l i)),
   λ file r r′ p q. judges-judgement file r p ∙ sym (judges-judgement file r′ q),
   λ file. equation _,
   λ file. equation _,

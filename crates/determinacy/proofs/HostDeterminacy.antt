@@ -1,11 +1,12 @@
 -- Determinacy of the calls from C: too few words decide everything; else the engine's answer is determined, and what is said and laid is a function of it.
 -- Assumes nothing.
 use mathlib.Core.Path.{_≡_, sym, ap, _∙_}
-use mathlib.Core.Bool.{Bool, true, false, true≢false}
+use mathlib.Core.Bool.{Bool, true, false, _&&_, true≢false}
 use mathlib.Core.List.{List, []}
 use Prim.Native.Nat.{ℕ}
 use lib.ListN.{take, drop}
-use Rattle.lists.specs.Lists.{overlay}
+use Rattle.lists.specs.Lists.{within, overlay}
+use Rattle.component.specs.Record.{recordCount}
 use Rattle.kinds.specs.declared.table.Fields.{Fields}
 use Rattle.primitive.specs.declared.Evaluated.{Evaluated}
 use Rattle.kinds.specs.Given.{Given, giving, spoken}
@@ -23,7 +24,9 @@ use Rattle.words.specs.Words.{countsIn, valuesIn}
 use Rattle.words.specs.Said.{short, CallChanges, fewCounts, changed}
 use Rattle.changing.specs.Changing.{CallRuns, fewToRun, ran}
 use Rattle.asking.specs.Asking.{fewToAsk, asked, fewToList, listed}
-use Rattle.host.specs.Host.{CallEvaluates, fewToEvaluate, evaluated, fewToLook, looked}
+use Rattle.mend.specs.declared.Mended.{Mended}
+use Rattle.mend.specs.Mend.{mendGives}
+use Rattle.host.specs.Host.{CallEvaluates, fewToEvaluate, evaluated, fewToLook, looked, CallMends, fewToMend, mendedBy}
 use Rattle.determinacy.specs.Determined.{Determined, DeterminedAnswer}
 use Rattle.determinacy.specs.HostDetermined.{ChangesDetermined, RoundsDetermined, AsksDetermined, ListsDetermined, LooksDetermined, HostDeterminacy}
 use Rattle.determinacy.proofs.Determinacy.{determinacy}
@@ -124,6 +127,21 @@ module _ (few : Bool) (ws fs : List ℕ) (lent : Counts → Tables) where
         λ i. (b i .0, b i .1, v i),
       )
 
+  mends : (file out ds : List ℕ) → Determined (λ (r : ℕ) (c : List ℕ × List ℕ × List ℕ). CallMends file out (c .0) ds (c .1) fs (c .2) r)
+  mends file out ds r s c d (fewToMend e n k w u) (fewToMend e′ n′ k′ w′ u′) =
+      let l = k ∙ sym k′ in
+      let m = w ∙ sym w′ in
+      let v = u ∙ sym u′ in (n ∙ sym n′, λ i. (l i, m i, v i))
+  mends file out ds r s c d (fewToMend e n k w u) (mendedBy x e′ p′ n′ u′) = neither (within 1 1024 (recordCount file) && short fs 2) e e′
+  mends file out ds r s c d (mendedBy x e p n u) (fewToMend e′ n′ k′ w′ u′) = neither (within 1 1024 (recordCount file) && short fs 2) e′ e
+  mends file out ds r s c d (mendedBy x e p n u) (mendedBy y e′ p′ n′ u′) =
+      let q = determinacy .8 file out ds x y (c .0, c .1) (d .0, d .1) p p′ in
+      let b = q .1 in
+      let v = u ∙ ap (λ (z : Mended). overlay (valuesIn (mendGives z)) fs) (q .0) ∙ sym u′ in (
+        n ∙ ap (λ (z : Mended). spoken (mendGives z)) (q .0) ∙ sym n′,
+        λ i. (b i .0, b i .1, v i),
+      )
+
   evaluates : (f : Fields) (xs vs ys us : List ℕ) (t : ℕ)
       → Determined (λ (r : ℕ) (c : List ℕ × List ℕ). CallEvaluates f xs vs ys us t fs r (c .0) (c .1))
   evaluates f xs vs ys us t r s c d (fewToEvaluate e n w u) (fewToEvaluate e′ n′ w′ u′) =
@@ -139,21 +157,22 @@ module _ (few : Bool) (ws fs : List ℕ) (lent : Counts → Tables) where
         λ i. (b i, v i),
       )
 
-  -- Of the engine's calls: evaluate 0, load 1, round 2, edit 3, run 4, sources 5, targets 6, look 7, check 11, calm 12,
-  -- satisfied 13, index 14, value 15.
+  -- Of the engine's calls: evaluate 0, load 1, round 2, edit 3, run 4, sources 5, targets 6, look 7, mend 8, check 12, calm 13,
+  -- satisfied 14, index 15, value 16.
   pub host-determinacy : HostDeterminacy few ws fs lent
   host-determinacy = (
     λ file. changes _ (determinacy .1 file),
     rounds,
     λ way i v. changes _ (determinacy .3 way i v),
     λ t limit. runs (Runs t limit) (determinacy .4 t limit),
-    asks whetherGives _ (determinacy .12),
     asks whetherGives _ (determinacy .13),
-    λ id. asks indexGives _ (λ T. determinacy .14 T id),
-    λ side i port. asks valueGives _ (λ T. determinacy .15 T side i port),
+    asks whetherGives _ (determinacy .14),
+    λ id. asks indexGives _ (λ T. determinacy .15 T id),
+    λ side i port. asks valueGives _ (λ T. determinacy .16 T side i port),
     λ i. lists _ (λ T ls. determinacy .5 T i ls),
     λ i. lists _ (λ T ls. determinacy .6 T i ls),
-    asks (λ (k : ℕ). giving k []) _ (determinacy .11),
+    asks (λ (k : ℕ). giving k []) _ (determinacy .12),
     evaluates,
     λ file path. looks _ (λ T. determinacy .7 file T path),
+    mends,
   )

@@ -18,6 +18,8 @@ use Rattle.simulator.specs.Edit.{Way}
 use Rattle.simulator.specs.Calls.{Rounds, Edits, Runs}
 use Rattle.look.specs.declared.Looked.{Looked}
 use Rattle.look.specs.Look.{Looks}
+use Rattle.mend.specs.declared.Mended.{Mended}
+use Rattle.mend.specs.Mend.{Mends}
 use Rattle.questions.specs.Questions.{AsksCalm, AsksSatisfied, AsksIndex, AsksValue, AsksSources, AsksTargets}
 
 -- Two outcomes that P allows, answer and what was written, are equal.
@@ -41,6 +43,7 @@ Determinacy =
     × ((T : Tables) (i : ℕ) (lent : List ℕ) → Determined (AsksTargets T i lent))
     × ((file : List ℕ) (T : Tables) (path ns ws : List ℕ)
     → Determined (λ (r : Looked) (b : List ℕ × List ℕ). Looks file T path ns ws r (b .0) (b .1)))
+    × ((file out list : List ℕ) → Determined (λ (r : Mended) (b : List ℕ × List ℕ). Mends file out list r (b .0) (b .1)))
     × ((file : List ℕ) → DeterminedAnswer (Judges file))
     × ((file : List ℕ) → DeterminedAnswer (Speaks file))
     × ((file : List ℕ) → DeterminedAnswer (SpeaksPair file))

@@ -24,7 +24,7 @@ use Rattle.words.specs.Words.{countsIn}
 use Rattle.words.specs.Said.{CallChanges}
 use Rattle.changing.specs.Changing.{CallRounds, CallRuns}
 use Rattle.asking.specs.Asking.{CallAsks, CallLists}
-use Rattle.host.specs.Host.{CallEvaluates, CallLooks}
+use Rattle.host.specs.Host.{CallEvaluates, CallLooks, CallMends}
 use Rattle.determinacy.specs.Determined.{Determined}
 
 module _ (few : Bool) (ws fs : List ℕ) (lent : Counts → Tables) where
@@ -72,3 +72,4 @@ module _ (few : Bool) (ws fs : List ℕ) (lent : Counts → Tables) where
       × ((f : Fields) (xs vs ys us : List ℕ) (t : ℕ)
       → Determined (λ (r : ℕ) (c : List ℕ × List ℕ). CallEvaluates f xs vs ys us t fs r (c .0) (c .1)))
       × ((file path : List ℕ) → LooksDetermined (λ T. Looks file T path))
+      × ((file out ds : List ℕ) → Determined (λ (r : ℕ) (c : List ℕ × List ℕ × List ℕ). CallMends file out (c .0) ds (c .1) fs (c .2) r))

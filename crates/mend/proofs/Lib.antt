@@ -4,3 +4,4 @@ pub mod CopiesLaws
 pub mod PartsLaws
 pub mod SiftLaws
 pub mod MendLaws
+pub mod AnswerLaws
