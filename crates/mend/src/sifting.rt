@@ -102,7 +102,7 @@ fn is_kept(
     let reading = loose_at(file, p);
     let refused = refuses12(parts, index, reading);
     let Entry::Of { owner, to, input } = entry_of(reading) else {
-        return true;
+        return true; // no connection and no input map
     };
     if refused {
         return false;
