@@ -39,10 +39,9 @@
  * of lighting below holds again from the next load on.
  *
  * EVERY CALL takes any bytes, any words and any lengths, ends, and answers a number times 65,536 plus a position: 0 where it is
- * done. The position is a record of the file, from 0, and is 0 in each call but a judgement, a load, a look and a
- * mending. (One judgement,
- * `berxundar_judge_pair`, has a third number below the position: the other of two records that enter one input.) The same words
- * always give the same answer. A call that is refused writes nothing at all.
+ * done. The position is a record of the file, from 0, and is 0 in each call but a judgement, a load, a look and a mending. (One
+ * judgement, `berxundar_judge_pair`, has a third number below the position: the other of two records that enter one input.) The
+ * same words always give the same answer. A call that is refused writes nothing at all.
  *
  * A CALLER MUST KEEP TO THIS
  *   - Each pointer is aligned for its type and has so many entries of that type behind it as the length after it says. With a
@@ -50,8 +49,8 @@
  *   - No memory is lent twice in one call: no two tables overlap, and neither do a table and the file or the words for an answer.
  *   - While a call runs, nobody else writes to what it is lent, nor reads what it writes. Apart from that calls may run in any
  *     number of threads at once.
- *   - A call takes at most 48 KiB (49,152 bytes) of stack: a look up to so many, a load or a judgement up to 32,000 bytes, a
- *     round or a run until calm up to 12,000, each other call less than 8,000.
+ *   - A call takes at most 96 KiB (98,304 bytes) of stack: a mending up to so many, a look up to 49,152 bytes, a load or a
+ *     judgement up to 32,000, a round or a run until calm up to 12,000, each other call less than 8,000.
  *
  * WHEN TO LIGHT: once a round has run since the load, and `berxundar_satisfied` or `berxundar_calm` says 1. It is proved, for every
  * drawing that a load accepts and whatever calls came after it and after that round: satisfied says 1 exactly where the whole

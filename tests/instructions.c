@@ -1,7 +1,8 @@
 /*
  * Our side of tests/instructions: instructions FILE makes each call below on a drawing, between two marks for tests/plugin.c, TIMES
  * times over; instructions FILE TIME makes only the round with all listed, at that time, for a drawing with Clocks, whose lists are
- * never empty. oracle/src/count.rs is the Rust's side: the same calls in the same order. Prints what it loaded, and how many rounds it
+ * never empty; instructions FILE mend makes only the mending, of a file that may be damaged, and prints what came of it.
+ * oracle/src/count.rs is the Rust's side: the same calls in the same order. Prints what it loaded, and how many rounds it
  * took to settle (0 with a TIME): both sides must print the same. Leaves with 1 where a call is refused or does not do what its name
  * says.
  */
@@ -26,6 +27,12 @@ static uint64_t at = 5;
 static berxundar_net net, loaded, quiet, one, idle;
 static uint64_t found, moved[BERXUNDAR_MOVED];
 
+/* What a mending writes. */
+static uint8_t mended[FILE_ROOM];
+static uint16_t dropped[BERXUNDAR_DROPPED];
+static uint64_t written[2];
+static uint32_t mends; /* the answer of the last mending */
+
 static uint32_t nothing(void) { return 0; }
 static uint32_t judge(void) { return berxundar_judge(bytes, length); }
 static uint32_t load(void) { return berxundar_net_load(&net, bytes, length); }
@@ -34,6 +41,14 @@ static uint32_t run(void) { return berxundar_net_run_until_calm(&net, at, ROUNDS
 static uint32_t check(void) { return berxundar_net_check(&net); }
 static uint32_t satisfied(void) { return berxundar_net_satisfied(&net, &found); }
 
+/* It may be refused: what it answers is printed. */
+static uint32_t mend(void)
+{
+    mends = berxundar_mend(bytes, length, mended, length, dropped, BERXUNDAR_DROPPED, written, 2);
+    return 0;
+}
+
+
 static const struct {
     const char *name;
     const berxundar_net *from;
@@ -41,7 +56,7 @@ static const struct {
 } calls[] = { { "empty", &loaded, nothing }, { "judge", &loaded, judge }, { "load", &loaded, load },
     { "round, all listed", &loaded, run_round }, { "idle, all listed", &idle, run_round }, { "quiet", &quiet, run_round },
     { "net check", &quiet, check }, { "satisfied, none listed", &quiet, satisfied }, { "satisfied, one listed", &one, satisfied },
-    { "satisfied, all listed", &idle, satisfied }, { "run until calm", &loaded, run } };
+    { "satisfied, all listed", &idle, satisfied }, { "run until calm", &loaded, run }, { "mend", &loaded, mend } };
 
 /* A system call that no kernel has, which the plugin sees. */
 static void mark(long what, long name)
@@ -100,12 +115,12 @@ static int measure(size_t which)
     return 1;
 }
 
-/* Measures all calls, or with a time the round that a load leaves. */
-static int measure_all(int with_time)
+/* Measures all calls, or one of them: the mending, or the round that a load leaves. */
+static int measure_all(uint32_t (*only)(void))
 {
     size_t i;
     for (i = 0; i < sizeof calls / sizeof calls[0]; i++)
-        if (!with_time || calls[i].call == nothing || (calls[i].call == run_round && calls[i].from == &loaded))
+        if (!only || calls[i].call == nothing || (calls[i].call == only && calls[i].from == &loaded))
             if (!measure(i))
                 return 0;
     return 1;
@@ -117,17 +132,23 @@ int main(int argc, char **argv)
     long read = argc == 2 || with_time ? file_read(argv[1], bytes) : -1;
     int rounds = 0;
     if (read < 0) {
-        fprintf(stderr, "usage: instructions FILE [TIME]\n");
+        fprintf(stderr, "usage: instructions FILE [TIME | mend]\n");
         return 1;
     }
     length = (size_t)read;
+    if (with_time && strcmp(argv[2], "mend") == 0) {
+        if (!measure_all(mend))
+            return 1;
+        printf("refused %u bytes %u dropped %u\n", berxundar_number(mends), (unsigned)written[0], (unsigned)written[1]);
+        return 0;
+    }
     if (with_time)
         at = strtoull(argv[2], NULL, 10);
     if (berxundar_net_load(&loaded, bytes, length) != 0 || (!with_time && (rounds = settle()) < 0)) {
         fprintf(stderr, "instructions: %s is refused, or does not settle\n", argv[1]);
         return 1;
     }
-    if (!measure_all(with_time))
+    if (!measure_all(with_time ? run_round : NULL))
         return 1;
     net = idle;
     if (!with_time && (run_round() != 0 || !same_values(&net, &quiet) || net.counts[BERXUNDAR_COUNT_CURRENT])) {

@@ -108,8 +108,8 @@ static const struct {
     { "round, bits unasked", run_round_unasked, 12000 }, { "run until calm", run, 12000 }, { "edit", edit, 8000 },
     { "edit, the old way", edit_standing, 8000 }, { "calm", calm, 8000 }, { "satisfied", satisfied, 8000 },
     { "index", index_of, 8000 }, { "value", value, 8000 }, { "sources", sources, 8000 }, { "targets", targets, 8000 },
-    { "check", check, 8000 }, { "evaluate", evaluate, 8000 }, { "mend", mend, 131072 },
-    { "mend a damaged one", mend_damaged, 131072 } };
+    { "check", check, 8000 }, { "evaluate", evaluate, 8000 }, { "mend", mend, 98304 },
+    { "mend a damaged one", mend_damaged, 98304 } };
 
 int main(void)
 {
