@@ -1,7 +1,7 @@
 -- Laws of a record taken apart: what the else of a `let .. else` knows, by the variant that its pattern names, and what a pattern that fits knows.
 -- Assumes nothing.
 use mathlib.Core.Path.{_≡_, refl, sym, ap, _∙_}
-use mathlib.Core.Bool.{Bool, true, false, cond, not, _&&_, _||_}
+use mathlib.Core.Bool.{and-false, Bool, true, false, cond, not, _&&_, _||_}
 use mathlib.Core.Logic.{_⊎_, inl, inr, ⊎-elim}
 use mathlib.Core.List.{List, [], _∷_}
 use Prim.Native.Nat.{ℕ, _+_, _-_, _*_, _/_, _≤_, _<_}
@@ -248,13 +248,9 @@ module _ (r : Record) (b : Bool) (e : b ≡ wellFormed r) where
 kind-none : (k : ℕ) → (eqb k 0 || ltb 4 k) ≡ true → within 1 4 k ≡ false
 kind-none k e = by-case (or-cases (eqb k 0) (ltb 4 k) e)
   where
-    none : (b : Bool) → (b && false) ≡ false
-    none true = refl
-    none false = refl
-
     by-case : (eqb k 0 ≡ true) ⊎ (ltb 4 k ≡ true) → within 1 4 k ≡ false
     by-case (inl x) = rw (eqb-true k 0 x)
-    by-case (inr x) = rw (lt-leb k 4 (ltb-true 4 k x), none (leb 1 k))
+    by-case (inr x) = rw (lt-leb k 4 (ltb-true 4 k x), and-false (leb 1 k))
 
 kind-some : (k : ℕ) → (eqb k 0 || ltb 4 k) ≡ false → within 1 4 k ≡ true
 kind-some k e =

@@ -1,11 +1,11 @@
 -- Laws of the three loops that copy: which records are picked, and what stands there in the end.
 -- Assumes nothing.
 use mathlib.Core.Path.{_≡_, refl, sym, ap, _∙_}
-use mathlib.Core.Bool.{Bool, true, false, cond, not}
+use mathlib.Core.Bool.{Bool·not-not, Bool, true, false, not}
 use mathlib.Core.List.{List, [], _∷_, _++_, append-nil}
-use Prim.Native.Nat.{ℕ, zero, suc, _+_, _*_, _%_, _≤_, _<_}
+use Prim.Native.Nat.{ℕ, _+_, _*_, _%_, _≤_, _<_}
 use native.Mathlib.Omega.{arith}
-use borrow.Author.Tests.{eq-eqb, ne-eqb, lt-ltb, not-true, not-false}
+use borrow.Author.Tests.{eq-eqb, ne-eqb, lt-ltb}
 use lib.Dec.{eqb}
 use lib.ListN.{length, getD, set, length-append}
 use lib.Seq.{sets}
@@ -14,12 +14,12 @@ use Rattle.lists.proofs.MembersLaws.{from0-sound, keep-cong}
 use Rattle.lists.proofs.KeepLaws.{has-keep}
 use Rattle.lists.proofs.OverlayLaws.{sets-overlay}
 use Rattle.lists.proofs.LayingLaws.{sets-next, Laid, laid-end, laid-count}
-use Rattle.component.specs.Record.{numbersIn, partAt, recordCount, looseAt}
+use Rattle.component.specs.Record.{partAt, recordCount, looseAt}
 use Rattle.component.specs.Drawing.{isComponent}
 use Rattle.component.proofs.RecordLaws.{part-at}
 use Rattle.component.proofs.LooseLaws.{part-length}
-use Rattle.mend.specs.Mend.{components, kept, mended, dropped}
-use Rattle.mend.specs.Sifting.{dropsPlainly, plainPart, partsOf, isMarked, IsSifted}
+use Rattle.mend.specs.Mend.{kept, mended, dropped}
+use Rattle.mend.specs.Sifting.{dropsPlainly, plainPart, partsOf, IsSifted}
 use Rattle.mend.proofs.KeptLaws.{kept-records}
 use Rattle.mend.proofs.CopyLaws.{plain-length, picked, picked-room, picked-joined}
 
@@ -95,15 +95,11 @@ module _ (file : List ℕ) where
   joined-alone [] = refl
   joined-alone (x ∷ xs) = ap (λ (l : List ℕ). x ∷ l) (joined-alone xs)
 
-  not-not : (b : Bool) → not (not b) ≡ b
-  not-not true = refl
-  not-not false = refl
-
   whole-dropped : keep (λ p. not (has p (kept file))) (from 0 n) ≡ joined lists (from 0 n)
   whole-dropped =
       keep-cong (λ p. not (has p (kept file))) goes (from 0 n)
       (λ p i. ap (λ (xs : List ℕ). not (has p xs)) (kept-records (looseAt file) n)
-      ∙ ap not (has-keep stays n p (from0-sound n p i)) ∙ not-not (goes p))
+      ∙ ap not (has-keep stays n p (from0-sound n p i)) ∙ Bool·not-not (goes p))
       ∙ sym (joined-alone (keep goes (from 0 n)))
       ∙ picked-joined goes alone 1 n (λ p h. refl)
 
@@ -145,7 +141,7 @@ module _ (file : List ℕ) where
     unmarked-goes z = sym (s .marked p h) ∙ ap not (eq-eqb (getD marks p 0) 0 z)
 
     pub marked-not : (getD marks p 0 ≡ 0 → ⊥) → goes p ≡ false
-    marked-not z = sym (not-not (goes p)) ∙ ap not (marked-stays z)
+    marked-not z = sym (Bool·not-not (goes p)) ∙ ap not (marked-stays z)
 
     pub unmarked-so : getD marks p 0 ≡ 0 → goes p ≡ true
-    unmarked-so z = sym (not-not (goes p)) ∙ ap not (unmarked-goes z)
+    unmarked-so z = sym (Bool·not-not (goes p)) ∙ ap not (unmarked-goes z)

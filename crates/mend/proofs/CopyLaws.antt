@@ -8,7 +8,7 @@ use native.Mathlib.Numerals.{add-one}
 use native.Mathlib.Nat.{mul-zero, mul-suc, mul-add}
 use native.Mathlib.Omega.{arith}
 use lib.ListN.{length, getD, set, take, length-set, length-append}
-use lib.Seq.{sets, take-suc, length-take-le, set-set, set-comm}
+use lib.Seq.{sets, take-all, take-suc, length-take-le, set-set, set-comm}
 use Rattle.lists.specs.Lists.{from, keep, joined}
 use Rattle.lists.proofs.LayingLaws.{sets-next, joined-snoc, joined-keep, Laid, laid-length, laid-step}
 use Rattle.component.specs.Record.{partAt, recordCount}
@@ -29,14 +29,8 @@ copy-step t u xs at i x e h k =
 
 -- All 24.
 pub copy-whole : (t u s : List ℕ) (at p i : ℕ) → p < recordCount s → i ≡ 24 → u ≡ sets t at (take i (partAt s p)) → u ≡ sets t at (partAt s p)
-copy-whole t u s at p i h e d = d ∙ ap (sets t at) (ap (λ (j : ℕ). take j (partAt s p)) e ∙ take-whole (partAt s p) (part-length s p h))
-  where
-    take-all : (xs : List ℕ) → take (length xs) xs ≡ xs
-    take-all [] = refl
-    take-all (x ∷ xs) = ap (λ (l : List ℕ). x ∷ l) (take-all xs)
-
-    take-whole : (xs : List ℕ) → length xs ≡ 24 → take 24 xs ≡ xs
-    take-whole xs n = ap (λ (j : ℕ). take j xs) (sym n) ∙ take-all xs
+copy-whole t u s at p i h e d =
+    d ∙ ap (sets t at) (ap (λ (j : ℕ). take j (partAt s p)) e ∙ take-all 24 (partAt s p) (omega (arith, part-length s p h)))
 
 -- A word written over words that were written.
 sets-before : (l ys : List ℕ) (k i x : ℕ) → i < k → set (sets l k ys) i x ≡ sets (set l i x) k ys

@@ -1,7 +1,7 @@
 -- Laws of specs/Mend.antt: what the ways out of `mend` promise; what stands at the front of the buffer.
 -- Assumes nothing.
 use mathlib.Core.Path.{_≡_, refl, sym, ap, _∙_}
-use mathlib.Core.Bool.{Bool, true, false, cond, not, _&&_, _||_}
+use mathlib.Core.Bool.{and-false, Bool, true, false, _&&_, _||_}
 use mathlib.Core.Logic.{_⊎_, inl, inr}
 use mathlib.Core.List.{List, [], _∷_}
 use Prim.Native.Nat.{ℕ, _-_, _*_, _≤_}
@@ -14,16 +14,15 @@ use Rattle.lists.specs.Lists.{within, overlay}
 use Rattle.lists.proofs.TestsLaws.{or-cases, or-left, or-right, and-both}
 use Rattle.lists.proofs.OverlayLaws.{overlay-front}
 use Rattle.kinds.specs.declared.answers.Refusal.{Refusal}
-use Rattle.kinds.specs.Given.{declined, refusedBy}
+use Rattle.kinds.specs.Given.{refusedBy}
 use Rattle.component.specs.declared.Verdict.{Verdict}
 use Rattle.component.specs.declared.Verdict.the-variants.{Accepted, Refused}
 use Rattle.component.specs.Record.{recordCount}
-use Rattle.flatten.specs.Verdict.{refused, verdictGives, listBy}
+use Rattle.flatten.specs.Verdict.{verdictGives, listBy}
 use Rattle.flatten.proofs.JudgementLaws.{verdictGives-is}
 use Rattle.meeting.specs.Meeting.{judgement, Judges}
-use Rattle.mend.specs.declared.Mended.{Mended}
 use Rattle.mend.specs.declared.Mended.the-variants.{Done, Refused as NotMended}
-use Rattle.mend.specs.Mend.{mended, dropped, mendVerdict, mendGives, Mends}
+use Rattle.mend.specs.Mend.{mended, dropped, mendVerdict, Mends}
 
 -- What was written at the front.
 pub front : (xs t u : List ℕ) (k : ℕ) → u ≡ overlay xs t → k ≡ length xs → take (k - 0) u ≡ xs
@@ -31,10 +30,6 @@ front xs t u k e d =
     ap (λ (j : ℕ). take j u) (sub-zero k ∙ d) ∙ ap (take (length xs)) e ∙ overlay-front xs t
 
 -- A number between two others, and one that is not.
-and-false : (b : Bool) → (b && false) ≡ false
-and-false true = refl
-and-false false = refl
-
 pub outside : (a b x : ℕ) → (ltb x a || ltb b x) ≡ true → within a b x ≡ false
 outside a b x e = by-case (or-cases (ltb x a) (ltb b x) e)
   where

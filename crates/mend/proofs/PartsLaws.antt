@@ -2,20 +2,19 @@
 -- asks of them what it asks of the components.
 -- Assumes nothing.
 use mathlib.Core.Path.{_≡_, sym, ap, subst, _∙_}
-use mathlib.Core.Bool.{Bool, true, false, cond, not, _&&_, _||_, true≢false}
+use mathlib.Core.Bool.{Bool, true, cond, not, _||_}
 use mathlib.Core.List.{List}
-use Prim.Native.Nat.{ℕ, _+_, _*_, _/_, _≤_, _<_}
+use Prim.Native.Nat.{ℕ, _+_, _*_, _≤_, _<_}
 use native.Mathlib.Decide.{decLt}
 use native.Mathlib.Omega.{arith}
 use borrow.Author.Tests.{eqb-true, ne-eqb, lt-ltb, le-ltb}
-use lib.Dec.{eqb}
 use lib.ListN.{length, getD, set, length-set, List·getD-eq-default}
 use lib.Seq.{getD-set-same, getD-set-other}
-use Rattle.lists.specs.Lists.{from, keep}
+use Rattle.lists.specs.Lists.{from}
 use Rattle.lists.proofs.MembersLaws.{In, in-getD, keep-sound, keep-length, from-length, from0-sound}
 use Rattle.lists.proofs.KeepLaws.{joined-room, joined-list}
 use Rattle.component.specs.declared.Record.{Record}
-use Rattle.component.specs.Record.{le16, le32, le64, numbersIn, wellFormed, noRecord, partAt, recordCount, recordAt, looseAt, composite, entering}
+use Rattle.component.specs.Record.{le16, numbersIn, wellFormed, noRecord, partAt, recordCount, recordAt, looseAt, composite, entering}
 use Rattle.component.specs.Reading.{formOf, ownerOf, bared, saidBy, Readable}
 use Rattle.component.specs.Drawing.{isComponent, missing}
 use Rattle.component.proofs.LooseLaws.{part-length, loose-none, Alike, saidBy-alike, saidBy-enters, saidBy-missing, missing-alike, composite-alike}

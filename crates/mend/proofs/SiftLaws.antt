@@ -1,20 +1,19 @@
 -- Laws of sifting: what a kept record enters; a record that is kept or dropped, by what it enters and by whether its mark is set.
 -- Assumes nothing.
 use mathlib.Core.Path.{_≡_, refl, sym, ap, _∙_, subst}
-use mathlib.Core.Bool.{Bool, true, false, cond, not, _&&_, _||_, true≢false}
+use mathlib.Core.Bool.{and-false, Bool, true, false, not, _&&_, _||_, true≢false}
 use mathlib.Core.Logic.{_⊎_, inl, inr}
 use mathlib.Core.List.{List}
-use Prim.Native.Nat.{ℕ, _+_, _≤_, _<_}
+use Prim.Native.Nat.{ℕ, _+_, _<_}
 use native.Mathlib.Decide.{decLt}
 use native.Mathlib.Omega.{arith}
-use borrow.Author.Tests.{eq-eqb, ne-eqb}
 use lib.Dec.{eqb}
 use lib.ListN.{length, getD, set, length-set}
 use lib.Seq.{getD-set-same, getD-set-other}
 use Rattle.lists.specs.Lists.{from, keep, any}
 use Rattle.lists.specs.Marks.{IsMarked}
 use Rattle.lists.proofs.TestsLaws.{and-left, and-right, and-both}
-use Rattle.lists.proofs.MembersLaws.{any-some, any-cong, from0-sound, from0-complete}
+use Rattle.lists.proofs.MembersLaws.{any-cong, from0-sound}
 use Rattle.lists.proofs.KeepLaws.{any-no, any-keep}
 use Rattle.lists.proofs.KeysLaws.{unmarked-none, marks-with, marks-skip}
 use Rattle.component.specs.declared.Record.{Record}
@@ -41,10 +40,6 @@ use Rattle.mend.proofs.PartsLaws.{parts-refused}
 enters-said : (o c d : ℕ) (r : Record) → enters o c d (saidBy r) ≡ enters o c d r
 enters-said o c d r =
     saidBy-entering-as (record { form = 0; kind = 0; owner = o; a = 0; b = 0; c = c; d = d; id = 0; parameter = 0 }) r
-
-and-false : (b : Bool) → (b && false) ≡ false
-and-false true = refl
-and-false false = refl
 
 -- Whether the record at q is kept and enters an input: it enters none; it enters one.
 module _ (file kept : List ℕ) (q : ℕ) (g : Entry) (e : EntryAs g (saidBy (looseAt file q))) where

@@ -17,7 +17,6 @@ use Rattle.lists.proofs.MembersLaws.{any-none, has-complete}
 use Rattle.lists.proofs.MembersLaws.{from0-sound}
 use Rattle.lists.proofs.KeepLaws.{keep-all, keep-no, any-no}
 use Rattle.kinds.specs.Given.{done}
-use Rattle.kinds.proofs.GivenLaws.{done-values, done-declined}
 use Rattle.component.specs.declared.Record.{Record}
 use Rattle.component.specs.declared.Verdict.{Verdict}
 use Rattle.component.specs.declared.Verdict.the-variants.{Accepted}
@@ -30,9 +29,10 @@ use Rattle.flatten.proofs.Components.{components-first, owner-composite}
 use Rattle.meeting.specs.Meeting.{judgement}
 use Rattle.meeting.proofs.MeetingLaws.{judgement-accepted, accepted-judgement}
 use Rattle.mend.specs.declared.Mended.{Mended}
-use Rattle.mend.specs.declared.Mended.the-variants.{Done, Refused as NotMended}
+use Rattle.mend.specs.declared.Mended.the-variants.{Done}
 use Rattle.mend.specs.Mend.{refused12, keptRecords, kept, mended, dropped, mendVerdict, mendGives, Mends}
 use Rattle.mend.specs.Sifting.{dropsPlainly}
+use Rattle.mend.proofs.AnswerLaws.{mendGives-is}
 use Rattle.mend.proofs.KeptLaws.{kept-records}
 use Rattle.mended.specs.Owed.{MendIdentical}
 use Rattle.component.proofs.LooseLaws.{loose-none, loose-strict}
@@ -150,22 +150,13 @@ module _ (file : List ℕ) (accepted : verdict file ≡ Accepted) where
     unwritten =
         m .2 ∙ ap (λ (v : Verdict). listBy v (dropped file) list) is-accepted ∙ ap (λ (l : List ℕ). overlay l list) dropped-none
 
--- An answer that gives the bytes x and the positions y.
-gives-done : (r : Mended) (x y : ℕ) → mendGives r ≡ done (x ∷ y ∷ []) → r ≡ Done x y
-gives-done (Done a b) x y e =
-    let z : a ∷ b ∷ [] ≡ x ∷ y ∷ [] = done-values (a ∷ b ∷ []) (x ∷ y ∷ []) e in
-    let u : a ≡ x = cc in
-    let v : b ≡ y = cc in
-    λ j. Done (u j) (v j)
-gives-done (NotMended r) x y e = absurd (done-declined (x ∷ y ∷ []) r (sym e))
-
 pub mend-identical : MendIdentical
 mend-identical file judged =
     let accepted = judgement-accepted file judged in (
       mended-same file accepted,
       dropped-none file accepted,
       λ out list out′ list′ r a b m. (
-        gives-done r (length file) 0 (given file accepted out list out′ list′ r a b m),
+        mendGives-is r (Done (length file) 0) (given file accepted out list out′ list′ r a b m),
         written file accepted out list out′ list′ r a b m,
         unwritten file accepted out list out′ list′ r a b m,
       ),

@@ -5,7 +5,6 @@ use mathlib.Core.Logic.{⊎-elim}
 use Prim.Native.Nat.{_-_, _*_, _≤_}
 use native.Mathlib.Omega.{arith}
 use borrow.Author.Tests.{eq-eqb, ne-eqb}
-use lib.ListN.{length}
 use Rattle.lists.proofs.LayingLaws.{Laid, laid-start, laid-length}
 use Rattle.component.specs.Record.{recordCount, looseAt}
 use Rattle.component.specs.Drawing.{isComponent}

@@ -3,7 +3,6 @@
 use mathlib.Core.Logic.{⊎-elim}
 use Prim.Native.Nat.{_-_, _*_, _≤_, _<_}
 use native.Mathlib.Omega.{arith}
-use lib.ListN.{length}
 use Rattle.lists.proofs.LayingLaws.{Laid, laid-start, laid-length}
 use Rattle.component.specs.Record.{recordCount, partAt}
 use Rattle.component.proofs.LooseLaws.{part-length}

@@ -5,7 +5,7 @@ use mathlib.Core.Path.{_≡_, refl, _∙_}
 use mathlib.Core.Logic.{⊎-elim}
 use native.Mathlib.Omega.{arith}
 use lib.ListN.{length, length-set}
-use Rattle.lists.proofs.LayingLaws.{Laid, laid-start, laid-length}
+use Rattle.lists.proofs.LayingLaws.{Laid, laid-start}
 use Rattle.component.specs.Record.{recordCount}
 use Rattle.mend.proofs.CopyLaws.{pick-here, pick-not}
 use Rattle.mend.proofs.CopiesLaws.{goes, alone, lists, dropped-laid, dropped-part, marked-not, unmarked-so}

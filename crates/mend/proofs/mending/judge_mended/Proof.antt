@@ -12,12 +12,6 @@ use Rattle.mend.proofs.MendLaws.{front}
 use borrow.Author.Needs.{needs}
 use Rattle.mend.proofs.mending.judge_mended.Statement.{statement}
 use Rattle.mend.proofs.mending.judge_mended.Tie as tie
-use Rattle.mend.proofs.mending.judge_mended.Reads as reads
-use Rattle.mend.proofs.mending.judge_mended.Lts as lts
-use Rattle.meeting.proofs.judge.Reads as judge-reads
-use Rattle.mend.proofs.copying.copy_components.Reads as copy-components-reads
-use Rattle.mend.proofs.copying.copy_kept.Reads as copy-kept-reads
-use Rattle.mend.proofs.sifting.sift.Reads as sift-reads
 
 slice-aggregate-copy-components : tie.Need-slice-aggregate-copy-components
 slice-aggregate-copy-components c = search needs

@@ -6,12 +6,6 @@ use Rattle.mend.proofs.MendLaws.{mends-size, few, mends-short, fits-out
 use borrow.Author.Needs.{needs}
 use Rattle.mend.proofs.mending.mend.Statement.{statement}
 use Rattle.mend.proofs.mending.mend.Tie as tie
-use Rattle.mend.proofs.mending.mend.Reads as reads
-use Rattle.mend.proofs.mending.mend.Lts as lts
-use Rattle.kinds.proofs.refused_by.Reads as refused-by-reads
-use Rattle.mend.proofs.copying.copy_kept.Reads as copy-kept-reads
-use Rattle.mend.proofs.copying.list_dropped.Reads as list-dropped-reads
-use Rattle.mend.proofs.mending.judge_mended.Reads as judge-mended-reads
 
 refused-by-requires : tie.Need-refused-by-requires
 refused-by-requires c κs = search needs

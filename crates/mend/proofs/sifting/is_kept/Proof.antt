@@ -8,14 +8,6 @@ use Rattle.mend.proofs.SiftLaws.{refused-is, enters-here, is-other, is-
 use borrow.Author.Needs.{needs}
 use Rattle.mend.proofs.sifting.is_kept.Statement.{statement}
 use Rattle.mend.proofs.sifting.is_kept.Tie as tie
-use Rattle.mend.proofs.sifting.is_kept.Reads as reads
-use Rattle.mend.proofs.sifting.is_kept.Lts as lts
-use Rattle.checks.proofs.entry_of.Reads as entry-of-reads
-use Rattle.checks.proofs.place_mark.Reads as place-mark-reads
-use Rattle.component.proofs.loose_at.Reads as loose-at-reads
-use Rattle.mend.proofs.sifting.entered_before.Reads as entered-before-reads
-use Rattle.mend.proofs.sifting.mark_at.Reads as mark-at-reads
-use Rattle.mend.proofs.sifting.refuses12.Reads as refuses12-reads
 
 loose-at-requires : tie.Need-loose-at-requires
 loose-at-requires c κs = search needs
