@@ -389,13 +389,32 @@ module _ (s : List ℕ) where
         → t ≡ child (recordAt s) n o (a .0) → v ≡ ltb b (outputsOf (recordAt s t)) → not v ≡ missing (recordAt s) n (apart o x)
     missing-output-map a b t v k et ev = rw (ev, et, k)
 
-  -- 12: a refused record; one taken apart
+  -- 12: a refused record; by what a record says
   module _ (n p : ℕ) (r : Reading) (e : said r ≡ recordAt s p) where
     pub fails12-refused : {k : ℕ} → r ≡ Refused k → false ≡ fails12 (recordAt s) n p
     fails12-refused h = rw (refused-is (recordAt s p) r e h)
 
-    pub fails12-taken : (o : ℕ) (x : Says) (b : Bool) → r ≡ Taken o x → b ≡ missing (recordAt s) n (apart o x) → b ≡ fails12 (recordAt s) n p
-    fails12-taken o x b h k = k ∙ ap (missing (recordAt s) n) (sym (taken-is (recordAt s p) r e o x h))
+    module _ (o : ℕ) (x : Says) (h : r ≡ Taken o x) where
+      -- what is missing of the record is missing of what it says
+      as-said : missing (recordAt s) n (apart o x) ≡ fails12 (recordAt s) n p
+      as-said = ap (missing (recordAt s) n) (sym (taken-is (recordAt s p) r e o x h))
+
+      pub fails12-component : {i : Id} {f : Fields} → x ≡ Component i f → false ≡ fails12 (recordAt s) n p
+      fails12-component k = missing-component n o x k ∙ as-said
+
+      pub fails12-connection : (a c : ChildNo) (b d t u : ℕ) (v w : Bool) → x ≡ Connection a b c d
+          → t ≡ child (recordAt s) n o (a .0) → v ≡ ltb b (outputsOf (recordAt s t))
+          → u ≡ child (recordAt s) n o (c .0) → w ≡ ltb d (inputsOf (recordAt s u)) → not (v && w) ≡ fails12 (recordAt s) n p
+      fails12-connection a c b d t u v w k et ev eu ew = missing-connection n o x a c b d t u v w k et ev eu ew ∙ as-said
+
+      pub fails12-input-map : (c : ChildNo) (a d u : ℕ) (v w : Bool) → x ≡ InputMap a c d
+          → v ≡ ltb a (inputsOf (recordAt s o))
+          → u ≡ child (recordAt s) n o (c .0) → w ≡ ltb d (inputsOf (recordAt s u)) → not (v && w) ≡ fails12 (recordAt s) n p
+      fails12-input-map c a d u v w k ev eu ew = missing-input-map n o x c a d u v w k ev eu ew ∙ as-said
+
+      pub fails12-output-map : (a : ChildNo) (b t : ℕ) (v : Bool) → x ≡ OutputMap a b
+          → t ≡ child (recordAt s) n o (a .0) → v ≡ ltb b (outputsOf (recordAt s t)) → not v ≡ fails12 (recordAt s) n p
+      fails12-output-map a b t v k et ev = missing-output-map n o x a b t v k et ev ∙ as-said
 
 -- The entry of a record: refused; by what it says
 module _ (t : Record) (r : Reading) (e : said r ≡ t) where

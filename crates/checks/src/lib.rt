@@ -9,7 +9,7 @@ ghost use Prim.Native.Nat.{_≤_, _<_};
 ghost use lib.Dec.{eqb, leb, ltb};
 ghost use Rattle.lists.specs.Lists.{from, any};
 ghost use Rattle.component.specs.Record.{recordAt, recordCount};
-ghost use Rattle.component.specs.Reading.{apart, formBy, said, Readable};
+ghost use Rattle.component.specs.Reading.{formBy, said, Readable};
 ghost use Rattle.index.specs.Index.{IsIndex};
 ghost use Rattle.component.specs.Reading.{given};
 ghost use Rattle.checks.specs.Checks.{failsBy};
@@ -18,7 +18,7 @@ ghost use Rattle.component.specs.Reading.{hasId, enters};
 ghost use Rattle.checks.specs.Checks.{EntryAs};
 ghost use Rattle.component.specs.Drawing.{deepest, holds, deeper};
 ghost use Rattle.component.specs.Drawing.{fails3, fails4, fails5, fails6, fails7, fails8, fails9};
-ghost use Rattle.component.specs.Drawing.{missing, fails12, fails14, earlierOf};
+ghost use Rattle.component.specs.Drawing.{fails12, fails14, earlierOf};
 use component::ChildNo;
 use component::Reading;
 use component::Says;
@@ -279,8 +279,8 @@ fn ports_at(file: &[u8], q: usize) -> Ports
     }
 }
 
-// Whether component c has an input i.
-fn has_input(file: &[u8], c: usize, i: u16) -> bool
+// Whether component c has an input i. Check 3 has passed. Crate mend calls it too, and the next.
+pub fn has_input(file: &[u8], c: usize, i: u16) -> bool
     requires { ⌜ Readable (now file) ⌝ }
     ensures { λ x. ⌜ x ≡ ltb i (inputsOf (recordAt (now (file .entry)) c)) ⌝ }
 {
@@ -291,7 +291,7 @@ fn has_input(file: &[u8], c: usize, i: u16) -> bool
 }
 
 // Whether component c has an output i.
-fn has_output(file: &[u8], c: usize, i: u16) -> bool
+pub fn has_output(file: &[u8], c: usize, i: u16) -> bool
     requires { ⌜ Readable (now file) ⌝ }
     ensures { λ x. ⌜ x ≡ ltb i (outputsOf (recordAt (now (file .entry)) c)) ⌝ }
 {
@@ -299,35 +299,6 @@ fn has_output(file: &[u8], c: usize, i: u16) -> bool
         return false;
     };
     i < fields.outputs
-}
-
-// Whether a child or port that a record of kind 2 to 4 names does not exist. `check12` calls it, and crate mend with the index of the components alone.
-pub fn is_missing(file: &[u8], index: &[u16], owner: u16, says: Says) -> bool
-    requires { ⌜ IsIndex (now file) (now index) ⌝ }
-    ensures { λ r. ⌜ r ≡ missing (recordAt (now (file .entry))) (recordCount (now (file .entry))) (apart owner says) ⌝ }
-{
-    let o = owner as usize;
-    match says {
-        Says::Component { .. } => false,
-        Says::Connection {
-            from,
-            output,
-            to,
-            input,
-        } => {
-            let from_there = has_output(file, child_of(file, index, o, from), output);
-            let to_there = has_input(file, child_of(file, index, o, to), input);
-            !(from_there & to_there)
-        }
-        Says::InputMap { port, to, input } => {
-            let to_there = has_input(file, child_of(file, index, o, to), input);
-            !(has_input(file, o, port) & to_there)
-        }
-        Says::OutputMap { from, output } => {
-            let from_there = has_output(file, child_of(file, index, o, from), output);
-            !from_there
-        }
-    }
 }
 
 // 12: a child or port in kinds 2 to 4 does not exist.
@@ -338,7 +309,28 @@ fn check12(file: &[u8], index: &[u16], p: usize) -> u32
     let Reading::Taken { owner, says } = known_at(file, p) else {
         return 0;
     };
-    given(12, is_missing(file, index, owner, says))
+    let o = owner as usize;
+    match says {
+        Says::Component { .. } => 0,
+        Says::Connection {
+            from,
+            output,
+            to,
+            input,
+        } => {
+            let from_there = has_output(file, child_of(file, index, o, from), output);
+            let to_there = has_input(file, child_of(file, index, o, to), input);
+            given(12, !(from_there & to_there))
+        }
+        Says::InputMap { port, to, input } => {
+            let to_there = has_input(file, child_of(file, index, o, to), input);
+            given(12, !(has_input(file, o, port) & to_there))
+        }
+        Says::OutputMap { from, output } => {
+            let from_there = has_output(file, child_of(file, index, o, from), output);
+            given(12, !from_there)
+        }
+    }
 }
 
 // A child's input that a record enters, or none.

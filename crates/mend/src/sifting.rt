@@ -7,18 +7,51 @@ ghost use lib.ListN.{length, getD};
 ghost use Rattle.lists.specs.Lists.{from, any};
 ghost use Rattle.lists.specs.Marks.{IsMarked};
 ghost use Rattle.component.specs.Record.{recordAt, looseAt, recordCount, composite, entering};
-ghost use Rattle.component.specs.Reading.{ownerOf, said, enters};
+ghost use Rattle.component.specs.Reading.{ownerOf, apart, said, enters};
 ghost use Rattle.component.specs.Drawing.{missing};
 ghost use Rattle.index.specs.Index.{IsIndex};
 ghost use Rattle.mend.specs.Sifting.{partsOf, isMarked, dropsPlainly, IsSifted, keptEntry, keptMark};
 use checks::Entry;
 use checks::entry_of;
+use checks::has_input;
+use checks::has_output;
 use checks::is_composite_at;
-use checks::is_missing;
 use checks::place_mark;
 use component::ChildNo;
 use component::Reading;
+use component::Says;
 use component::loose_at;
+use index::child_of;
+
+// Check 12 of what a record says, of the components that stand in `parts`: whether a child or port that it names does not exist. `check12` of crate
+// checks asks the same of a record of the file that has the components.
+fn is_missing(parts: &[u8], index: &[u16], owner: u16, says: Says) -> bool
+    requires { ⌜ IsIndex (now parts) (now index) ⌝ }
+    ensures { λ r. ⌜ r ≡ missing (recordAt (now (parts .entry))) (recordCount (now (parts .entry))) (apart owner says) ⌝ }
+{
+    let o = owner as usize;
+    match says {
+        Says::Component { .. } => false,
+        Says::Connection {
+            from,
+            output,
+            to,
+            input,
+        } => {
+            let from_there = has_output(parts, child_of(parts, index, o, from), output);
+            let to_there = has_input(parts, child_of(parts, index, o, to), input);
+            !(from_there & to_there)
+        }
+        Says::InputMap { port, to, input } => {
+            let to_there = has_input(parts, child_of(parts, index, o, to), input);
+            !(has_input(parts, o, port) & to_there)
+        }
+        Says::OutputMap { from, output } => {
+            let from_there = has_output(parts, child_of(parts, index, o, from), output);
+            !from_there
+        }
+    }
+}
 
 // Whether check 12 refuses a connection or an input map, of the components that stand in `parts`.
 fn refuses12(parts: &[u8], index: &[u16], r: Reading) -> bool

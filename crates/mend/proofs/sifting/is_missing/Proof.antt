@@ -1,9 +1,9 @@
 -- `is_missing`: what the record says names the ports that must exist.
 -- Assumes nothing.
 use Rattle.checks.proofs.ChecksLaws.{missing-component, missing-connection, missing-input-map, missing-output-map}
 use borrow.Author.Needs.{needs}
-use Rattle.checks.proofs.is_missing.Statement.{statement}
-use Rattle.checks.proofs.is_missing.Tie as tie
+use Rattle.mend.proofs.sifting.is_missing.Statement.{statement}
+use Rattle.mend.proofs.sifting.is_missing.Tie as tie
 
 returns : tie.Need-returns
 returns c = search (missing-component)
