@@ -18,7 +18,7 @@ use Rattle.component.specs.Record.{le16, numbersIn, wellFormed, noRecord, partA
 use Rattle.component.specs.Reading.{formOf, ownerOf, bared, saidBy, Readable}
 use Rattle.component.specs.Drawing.{isComponent, missing}
 use Rattle.component.proofs.LooseLaws.{part-length, loose-none, Alike, saidBy-alike, saidBy-enters, saidBy-missing, missing-alike, composite-alike}
-use Rattle.mend.specs.Mend.{components, numbered, refused12}
+use Rattle.mend.specs.Mend.{components, componentNumbered, refused12}
 use Rattle.mend.specs.Sifting.{plainPart, partsOf}
 use Rattle.mend.proofs.CopyLaws.{plain-length}
 
@@ -104,10 +104,10 @@ module _ (file : List ℕ) where
   part-is c h = joined-list (λ p. plainPart (partAt file p)) 24 (components lo n) widths c n h
 
   -- The record at c is what component c says.
-  pub parts-record : (c : ℕ) → recordAt (partsOf file) c ≡ saidBy (numbered lo n c)
+  pub parts-record : (c : ℕ) → recordAt (partsOf file) c ≡ saidBy (componentNumbered lo n c)
   parts-record c = by-place (decLt c m)
     where
-      by-place : Dec (c < m) → recordAt (partsOf file) c ≡ saidBy (numbered lo n c)
+      by-place : Dec (c < m) → recordAt (partsOf file) c ≡ saidBy (componentNumbered lo n c)
       by-place (yes h) =
           let p = getD (components lo n) c n in
           let z = inside p (in-getD (components lo n) c n h) in
@@ -124,7 +124,7 @@ module _ (file : List ℕ) where
           ∙ sym said ∙ ap saidBy (sym there)
       by-place (no h) =
           let past : recordCount (partsOf file) ≤ c = omega (arith, h, parts-count) in
-          let e : numbered lo n c ≡ noRecord =
+          let e : componentNumbered lo n c ≡ noRecord =
           ap lo (List·getD-eq-default (components lo n) n {n = c} (omega (arith, h))) ∙ loose-none file n (omega arith) in
           rw (le-ltb c (recordCount (partsOf file)) past) (sym (ap saidBy e))
 
@@ -132,7 +132,7 @@ module _ (file : List ℕ) where
   parts-readable c h =
       let below : c < m = omega (arith, h, parts-count) in
       let z = inside (getD (components lo n) c n) (in-getD (components lo n) c n below) in
-      let e : formOf (saidBy (numbered lo n c)) ≡ 1 = rw (z .1) in
+      let e : formOf (saidBy (componentNumbered lo n c)) ≡ 1 = rw (z .1) in
       ne-eqb (formOf (recordAt (partsOf file) c)) 0 (λ u. omega (arith, u, ap formOf (parts-record c), e))
 
   -- Check 12, asked of them.
@@ -143,13 +143,13 @@ module _ (file : List ℕ) where
   unfolding refused12
   parts-refused p h =
       let at = recordAt (partsOf file) in
-      let same : (c : ℕ) → Alike (at c) (numbered lo n c) =
-      λ c. subst (λ (r : Record). Alike r (numbered lo n c)) (sym (parts-record c)) (saidBy-alike (numbered lo n c)) in
+      let same : (c : ℕ) → Alike (at c) (componentNumbered lo n c) =
+      λ c. subst (λ (r : Record). Alike r (componentNumbered lo n c)) (sym (parts-record c)) (saidBy-alike (componentNumbered lo n c)) in
       let o : ownerOf (saidBy (lo p)) ≡ ownerOf (lo p) = saidBy-enters (lo p) h .0 in
-      let boxed : composite (at (ownerOf (saidBy (lo p)))) ≡ composite (numbered lo n (ownerOf (lo p))) =
-      ap (λ (c : ℕ). composite (at c)) o ∙ composite-alike at (numbered lo n) (recordCount (partsOf file)) same (ownerOf (lo p)) in
-      let gone : missing at (recordCount (partsOf file)) (saidBy (lo p)) ≡ missing (numbered lo n) m (lo p) =
+      let boxed : composite (at (ownerOf (saidBy (lo p)))) ≡ composite (componentNumbered lo n (ownerOf (lo p))) =
+      ap (λ (c : ℕ). composite (at c)) o ∙ composite-alike at (componentNumbered lo n) (recordCount (partsOf file)) same (ownerOf (lo p)) in
+      let gone : missing at (recordCount (partsOf file)) (saidBy (lo p)) ≡ missing (componentNumbered lo n) m (lo p) =
       saidBy-missing (lo p) h at (recordCount (partsOf file))
-      ∙ missing-alike at (numbered lo n) (recordCount (partsOf file)) same (lo p)
-      ∙ ap (λ (k : ℕ). missing (numbered lo n) k (lo p)) parts-count in
+      ∙ missing-alike at (componentNumbered lo n) (recordCount (partsOf file)) same (lo p)
+      ∙ ap (λ (k : ℕ). missing (componentNumbered lo n) k (lo p)) parts-count in
       λ j. not (boxed j) || gone j

@@ -32,7 +32,7 @@ use Rattle.checks.specs.declared.Entry.the-variants.{Of, Nothing as NoEntry}
 use Rattle.checks.specs.Checks.{EntryAs, placeMark}
 use Rattle.checks.proofs.ChecksLaws.{entering-none, entering-is, enters-none, enters-is}
 use Rattle.mend.specs.Mend.{refused12}
-use Rattle.mend.specs.Sifting.{dropsPlainly, partsOf, isMarked, IsSifted, keptEntry, keptMark}
+use Rattle.mend.specs.Sifting.{dropsPlainly, partsOf, markedKept, IsSifted, keptEntry, keptMark}
 use Rattle.mend.proofs.KeptLaws.{drops-same}
 use Rattle.mend.proofs.PartsLaws.{parts-refused}
 
@@ -43,16 +43,16 @@ enters-said o c d r =
 
 -- Whether the record at q is kept and enters an input: it enters none; it enters one.
 module _ (file kept : List ℕ) (q : ℕ) (g : Entry) (e : EntryAs g (saidBy (looseAt file q))) where
-  pub kept-none : (m k j : ℕ) → g ≡ NoEntry → false ≡ (isMarked kept q && enters m k j (looseAt file q))
+  pub kept-none : (m k j : ℕ) → g ≡ NoEntry → false ≡ (markedKept kept q && enters m k j (looseAt file q))
   kept-none m k j h =
-      sym (ap (λ (b : Bool). isMarked kept q && b) (sym (enters-said m k j (looseAt file q)) ∙ sym (enters-none _ g e m k j h))
-      ∙ and-false (isMarked kept q))
+      sym (ap (λ (b : Bool). markedKept kept q && b) (sym (enters-said m k j (looseAt file q)) ∙ sym (enters-none _ g e m k j h))
+      ∙ and-false (markedKept kept q))
 
   pub kept-is : (o d : ℕ) (c : ChildNo) → g ≡ Of o c d → (m j : ℕ) (k : ChildNo)
-      → (not (eqb (getD kept q 0) 0) && eqb o m && eqb (c .0) (k .0) && eqb d j) ≡ (isMarked kept q && enters m (k .0) j (looseAt file q))
+      → (not (eqb (getD kept q 0) 0) && eqb o m && eqb (c .0) (k .0) && eqb d j) ≡ (markedKept kept q && enters m (k .0) j (looseAt file q))
   kept-is o d c h m j k =
       by-mark (not (eqb (getD kept q 0) 0))
-      ∙ ap (λ (b : Bool). isMarked kept q && b) (enters-is _ g e o d c h m j k ∙ enters-said m (k .0) j (looseAt file q))
+      ∙ ap (λ (b : Bool). markedKept kept q && b) (enters-is _ g e o d c h m j k ∙ enters-said m (k .0) j (looseAt file q))
     where
       by-mark : (b : Bool) → (b && eqb o m && eqb (c .0) (k .0) && eqb d j) ≡ (b && (eqb o m && eqb (c .0) (k .0) && eqb d j))
       by-mark true = refl
@@ -102,12 +102,12 @@ module _ (file : List ℕ) where
   sifted-step kept p x s l e =
       record { size = length-set kept p x ∙ s .size; marked = λ q h. by-place q h (decLt q p) }
     where
-      by-place : (q : ℕ) → q < p + 1 → Dec (q < p) → isMarked (set kept p x) q ≡ stays q
+      by-place : (q : ℕ) → q < p + 1 → Dec (q < p) → markedKept (set kept p x) q ≡ stays q
       by-place q h (yes k) =
           ap (λ (y : ℕ). not (eqb y 0)) (getD-set-other kept p q x 0 (λ z. omega (arith, z, k))) ∙ s .marked q k
       by-place q h (no k) =
           let z : p ≡ q = omega (arith, h, k) in
-          subst (λ (y : ℕ). isMarked (set kept p x) y ≡ stays y) z
+          subst (λ (y : ℕ). markedKept (set kept p x) y ≡ stays y) z
           (ap (λ (y : ℕ). not (eqb y 0)) (getD-set-same kept p x 0 (omega (arith, s .size, l))) ∙ e)
 
   module _ (kept marks : List ℕ) (p : ℕ) (sifted : IsSifted file p kept) (m : IsMarked 16384 (keptEntry file) (keptMark file) 0 p marks)
@@ -149,7 +149,7 @@ module _ (file : List ℕ) where
       same r = λ j. entering r && eqb (ownerOf r) (sym own j) && eqb (toOf r) (sym to j) && eqb (inputOf r) (sym input j)
 
       abbrev before : ℕ → Bool
-      before q = isMarked kept q && enters o (c .0) d (lo q)
+      before q = markedKept kept q && enters o (c .0) d (lo q)
 
       searched : any before (from 0 p) ≡ any (λ q. enteringAs (lo p) (lo q)) (keep stays (from 0 p))
       searched =
@@ -186,8 +186,8 @@ module _ (file : List ℕ) where
           where
             here : (q : ℕ) → q < p → before q ≡ true → ⊥
             here q l t =
-                let s = enters-sound (lo p) (lo q) (sym (same (lo q)) ∙ and-right (isMarked kept q) (enters o (c .0) d (lo q)) t) in
-                let kept-q : stays q ≡ true = sym (sifted .marked q l) ∙ and-left (isMarked kept q) (enters o (c .0) d (lo q)) t in
+                let s = enters-sound (lo p) (lo q) (sym (same (lo q)) ∙ and-right (markedKept kept q) (enters o (c .0) d (lo q)) t) in
+                let kept-q : stays q ≡ true = sym (sifted .marked q l) ∙ and-left (markedKept kept q) (enters o (c .0) d (lo q)) t in
                 unmarked-none 16384 (keptEntry file) (keptMark file) 0 p marks m i q z (omega arith) l
                 (and-both (entering (lo q)) (stays q) (s .enters) kept-q)
                 (mark-of q (s .owner ∙ own) (s .to ∙ to) (s .input ∙ input) ∙ sym w)

@@ -28,13 +28,13 @@ module _ (at : ℕ → Record) (n : ℕ) where
   components = keep (isComponent at) (from 0 n)
 
   -- Component o: components are "numbered from 0 in file order". Past the last there is none.
-  abbrev pub numbered : ℕ → Record
-  numbered o = at (getD components o n)
+  abbrev pub componentNumbered : ℕ → Record
+  componentNumbered o = at (getD components o n)
 
   -- Check 12 refuses a connection or an input map. "An owner that is no composite among the file's component records has no children, so check 12
   -- refuses its records here."
   unfoldable pub refused12 : Record → Bool
-  refused12 r = not (composite (numbered (r .owner))) || missing numbered (length components) r
+  refused12 r = not (composite (componentNumbered (r .owner))) || missing componentNumbered (length components) r
 
   -- "each connection or input map that check 12 refuses or whose input an earlier kept one has entered"
   abbrev pub drops : List ℕ → ℕ → Bool

@@ -2,7 +2,7 @@
 -- says it in another way.
 --   dropsPlainly at n p   the record at p is dropped, said without reference to the records kept before
 --   plainPart s, partsOf file   a component's record with its field D at 0; the component records of a file as a file of their own
---   isMarked kept q       the table `kept` marks the record at q as kept
+--   markedKept kept q       the table `kept` marks the record at q as kept
 --   IsSifted file p kept  it marks those of the records before p that are kept
 --   keptEntry, keptMark   the record at j is kept and enters a child's input; the mark of that input
 -- Assumes nothing.
@@ -32,12 +32,12 @@ plainPart s = set (set s 10 0) 11 0
 unfoldable pub partsOf : List ℕ → List ℕ
 partsOf file = joined (λ p. plainPart (partAt file p)) (components (looseAt file) (recordCount file))
 
-abbrev pub isMarked : List ℕ → ℕ → Bool
-isMarked kept q = not (eqb (getD kept q 0) 0)
+abbrev pub markedKept : List ℕ → ℕ → Bool
+markedKept kept q = not (eqb (getD kept q 0) 0)
 
 pub record IsSifted (file : List ℕ) (p : ℕ) (kept : List ℕ) : Type 0 where
   pub size : length kept ≡ 1024
-  pub marked : (q : ℕ) → q < p → isMarked kept q ≡ not (dropsPlainly (looseAt file) (recordCount file) q)
+  pub marked : (q : ℕ) → q < p → markedKept kept q ≡ not (dropsPlainly (looseAt file) (recordCount file) q)
 
 abbrev pub keptEntry : List ℕ → ℕ → Bool
 keptEntry file j = entering (looseAt file j) && not (dropsPlainly (looseAt file) (recordCount file) j)

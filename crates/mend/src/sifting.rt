@@ -10,7 +10,7 @@ ghost use Rattle.component.specs.Record.{recordAt, looseAt, recordCount, compos
 ghost use Rattle.component.specs.Reading.{ownerOf, apart, said, enters};
 ghost use Rattle.component.specs.Drawing.{missing};
 ghost use Rattle.index.specs.Index.{IsIndex};
-ghost use Rattle.mend.specs.Sifting.{partsOf, isMarked, dropsPlainly, IsSifted, keptEntry, keptMark};
+ghost use Rattle.mend.specs.Sifting.{partsOf, markedKept, dropsPlainly, IsSifted, keptEntry, keptMark};
 use checks::Entry;
 use checks::entry_of;
 use checks::has_input;
@@ -68,7 +68,7 @@ fn refuses12(parts: &[u8], index: &[u16], r: Reading) -> bool
 // Whether the record at q is kept and enters an input of a child.
 fn kept_enters(file: &[u8], kept: &[u8], q: usize, owner: u16, to: ChildNo, input: u16) -> bool
     requires { ⌜ q < length (now kept) ⌝ }
-    ensures { λ x. ⌜ x ≡ (isMarked (now (kept .entry)) q && enters owner (to .0) input (looseAt (now (file .entry)) q)) ⌝ }
+    ensures { λ x. ⌜ x ≡ (markedKept (now (kept .entry)) q && enters owner (to .0) input (looseAt (now (file .entry)) q)) ⌝ }
 {
     let Entry::Of {
         owner: other,
@@ -92,7 +92,7 @@ fn entered_before(
     input: u16,
 ) -> bool
     requires { ⌜ p ≤ length (now kept) ⌝ }
-    ensures { λ x. ⌜ x ≡ any (λ q. isMarked (now (kept .entry)) q && enters owner (to .0) input (looseAt (now (file .entry)) q)) (from 0 p) ⌝ }
+    ensures { λ x. ⌜ x ≡ any (λ q. markedKept (now (kept .entry)) q && enters owner (to .0) input (looseAt (now (file .entry)) q)) (from 0 p) ⌝ }
 {
     if guess < p {
         if kept_enters(file, kept, guess, owner, to, input) {

@@ -29,7 +29,7 @@ use Rattle.flatten.proofs.Accepted.{recordAt-past, passed-check}
 use Rattle.flatten.proofs.JudgementLaws.{verdict-bound}
 use Rattle.flatten.proofs.Refusals.{first-at, verdict-first, forms-first}
 use Rattle.meeting.proofs.MeetingLaws.{judgement-told, judgement-untold}
-use Rattle.mend.specs.Mend.{components, numbered, refused12, kept, mended}
+use Rattle.mend.specs.Mend.{components, componentNumbered, refused12, kept, mended}
 use Rattle.mend.specs.Sifting.{dropsPlainly}
 use Rattle.mend.proofs.KeptLaws.{kept-records}
 use Rattle.mended.specs.Owed.{MendNever}
@@ -124,7 +124,7 @@ module _ (file : List ℕ) where
       (keep-cong (λ i. isComponent lo (keptAt file i)) (isComponent (looseAt g)) (from 0 (recordCount g))
       (λ i u. ap (λ (r : Record). eqb (r .form) 1) (sym (mended-loose file i))))
 
-  numbered-mended : (o : ℕ) → numbered lo n o ≡ numbered (looseAt g) (recordCount g) o
+  numbered-mended : (o : ℕ) → componentNumbered lo n o ≡ componentNumbered (looseAt g) (recordCount g) o
   numbered-mended o =
       let cs = components (looseAt g) (recordCount g) in
       let e : keptAt file (recordCount g) ≡ n =
@@ -137,7 +137,7 @@ module _ (file : List ℕ) where
   refused12-mended : (r : Record) → refused12 lo n r ≡ refused12 (looseAt g) (recordCount g) r
   unfolding refused12
   refused12-mended r =
-      let f : numbered lo n ≡ numbered (looseAt g) (recordCount g) = λ j o. numbered-mended o j in
+      let f : componentNumbered lo n ≡ componentNumbered (looseAt g) (recordCount g) = λ j o. numbered-mended o j in
       let k : length (components lo n) ≡ length (components (looseAt g) (recordCount g)) =
       ap length components-mended ∙ length-map (components (looseAt g) (recordCount g)) (keptAt file) in
       λ j. not (composite (f j (r .owner))) || missing (f j) (k j) r

@@ -24,7 +24,7 @@ use Rattle.component.specs.Record.{noRecord, fieldsOf, inputsOf, outputsOf, inp
 use Rattle.component.specs.Reading.{formOf, noFields}
 use Rattle.component.specs.Drawing.{isComponent, child, missing}
 use Rattle.component.proofs.RecordLaws.{fields-cases}
-use Rattle.mend.specs.Mend.{components, numbered, refused12}
+use Rattle.mend.specs.Mend.{components, componentNumbered, refused12}
 
 module _ (at : ℕ → Record) (n : ℕ) (past : (p : ℕ) → n ≤ p → at p ≡ noRecord)
     (first : (c q : ℕ) → formOf (at c) ≡ 1 → q ≤ c → formOf (at q) ≡ 1) where
@@ -50,14 +50,14 @@ module _ (at : ℕ → Record) (n : ℕ) (past : (p : ℕ) → n ≤ p → at p 
           (rw components-are at (keep-complete (isComponent at) c (from 0 n) (eq-eqb (formOf (at c)) 1 e) (from0-complete n c h)))
       by-place (no h) = absurd (omega (arith, ap formOf (past c (omega (arith, h))), e))
 
-  numbered-few : (o : ℕ) → o < m → numbered at n o ≡ at o
+  numbered-few : (o : ℕ) → o < m → componentNumbered at n o ≡ at o
   numbered-few o h = ap (λ (l : List ℕ). at (getD l o n)) components-are ∙ ap at (let z : 0 + o ≡ o = omega arith in from-at 0 m o n h ∙ z)
 
-  numbered-past : (o : ℕ) → m ≤ o → numbered at n o ≡ at n
+  numbered-past : (o : ℕ) → m ≤ o → componentNumbered at n o ≡ at n
   numbered-past o h = ap at (List·getD-eq-default (components at n) n {n = o} h)
 
   -- So the fields are the same, of any number.
-  numbered-fields : (o : ℕ) → fieldsOf (numbered at n o) ≡ fieldsOf (at o)
+  numbered-fields : (o : ℕ) → fieldsOf (componentNumbered at n o) ≡ fieldsOf (at o)
   numbered-fields o = by-place (decLt o m)
     where
       none : (c : ℕ) → (formOf (at c) ≡ 1 → ⊥) → fieldsOf (at c) ≡ noFields
@@ -67,7 +67,7 @@ module _ (at : ℕ → Record) (n : ℕ) (past : (p : ℕ) → n ≤ p → at p 
           by-case (inl u) = absurd (h u)
           by-case (inr u) = u
 
-      by-place : Dec (o < m) → fieldsOf (numbered at n o) ≡ fieldsOf (at o)
+      by-place : Dec (o < m) → fieldsOf (componentNumbered at n o) ≡ fieldsOf (at o)
       by-place (yes h) = ap fieldsOf (numbered-few o h)
       by-place (no h) =
           ap fieldsOf (numbered-past o (omega (arith, h)))
@@ -78,11 +78,11 @@ module _ (at : ℕ → Record) (n : ℕ) (past : (p : ℕ) → n ≤ p → at p 
   abbrev owned : ℕ → ℕ → Bool
   owned o q = ownedAs 1 o (at q)
 
-  children-same : (o : ℕ) → keep (λ q. ownedAs 1 o (numbered at n q)) (from 1 (m - 1)) ≡ keep (owned o) (from 1 (n - 1))
+  children-same : (o : ℕ) → keep (λ q. ownedAs 1 o (componentNumbered at n q)) (from 1 (m - 1)) ≡ keep (owned o) (from 1 (n - 1))
   children-same o =
       let k = n - 1 - (m - 1) in
       let e : n - 1 ≡ (m - 1) + k = omega (arith, few) in
-      keep-cong (λ q. ownedAs 1 o (numbered at n q)) (owned o) (from 1 (m - 1))
+      keep-cong (λ q. ownedAs 1 o (componentNumbered at n q)) (owned o) (from 1 (m - 1))
       (λ q u. ap (ownedAs 1 o) (numbered-few q (omega (arith, from-sound 1 (m - 1) q u .0, from-sound 1 (m - 1) q u .1))))
       ∙ sym (append-nil (keep (owned o) (from 1 (m - 1))))
       ∙ ap (λ (l : List ℕ). keep (owned o) (from 1 (m - 1)) ++ l)
@@ -96,23 +96,23 @@ module _ (at : ℕ → Record) (n : ℕ) (past : (p : ℕ) → n ≤ p → at p 
       none q false u l = u
 
   -- and so is the record of child k.
-  child-same : (o k : ℕ) → numbered at n (child (numbered at n) m o k) ≡ at (child at n o k)
+  child-same : (o k : ℕ) → componentNumbered at n (child (componentNumbered at n) m o k) ≡ at (child at n o k)
   child-same o k =
-      ap (λ (l : List ℕ). numbered at n (getD l k m)) (children-same o) ∙ by-place (decLt k (length (keep (owned o) (from 1 (n - 1)))))
+      ap (λ (l : List ℕ). componentNumbered at n (getD l k m)) (children-same o) ∙ by-place (decLt k (length (keep (owned o) (from 1 (n - 1)))))
     where
       by-place : Dec (k < length (keep (owned o) (from 1 (n - 1))))
-          → numbered at n (getD (keep (owned o) (from 1 (n - 1))) k m) ≡ at (getD (keep (owned o) (from 1 (n - 1))) k n)
+          → componentNumbered at n (getD (keep (owned o) (from 1 (n - 1))) k m) ≡ at (getD (keep (owned o) (from 1 (n - 1))) k n)
       by-place (yes h) =
           let c = getD (keep (owned o) (from 1 (n - 1))) k m in
           let z = keep-sound (owned o) c (from 1 (n - 1)) (in-getD (keep (owned o) (from 1 (n - 1))) k m h) .0 in
           numbered-few c (component-few c (eqb-true (formOf (at c)) 1 (and-left (eqb (formOf (at c)) 1) _ z)))
           ∙ ap at (getD-there (keep (owned o) (from 1 (n - 1))) k m n h)
       by-place (no h) =
-          ap (numbered at n) (List·getD-eq-default (keep (owned o) (from 1 (n - 1))) m {n = k} (omega (arith, h)))
+          ap (componentNumbered at n) (List·getD-eq-default (keep (owned o) (from 1 (n - 1))) m {n = k} (omega (arith, h)))
           ∙ numbered-past m (omega arith)
           ∙ ap at (sym (List·getD-eq-default (keep (owned o) (from 1 (n - 1))) n {n = k} (omega (arith, h))))
 
-  missing-same : (r : Record) → missing (numbered at n) m r ≡ missing at n r
+  missing-same : (r : Record) → missing (componentNumbered at n) m r ≡ missing at n r
   missing-same r =
       let a = ap outputsOf (child-same (r .owner) (fromOf r)) in
       let c = ap inputsOf (child-same (r .owner) (toOf r)) in
