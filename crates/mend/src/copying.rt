@@ -50,7 +50,8 @@ pub(crate) fn copy_components(file: &[u8], buffer: &mut [u8]) -> usize
 
 // The records that are marked as kept, in order with their bytes. The answer is how many bytes they are.
 pub(crate) fn copy_kept(file: &[u8], kept: &[u8], buffer: &mut [u8]) -> usize
-    requires { ⌜ IsSifted (now file) (recordCount (now file)) (now kept) × (recordCount (now file) ≤ 1024) × (24 * recordCount (now file) ≤ length (now buffer)) ⌝ }
+    requires { ⌜ IsSifted (now file) (recordCount (now file)) (now kept) × (recordCount (now file) ≤ 1024)
+        × (24 * recordCount (now file) ≤ length (now buffer)) ⌝ }
     ensures { λ r. ⌜ (now (buffer .exit) ≡ overlay (mended (now (file .entry))) (now (buffer .entry))) × (r ≡ length (mended (now (file .entry)))) ⌝ }
 {
     let mut at: usize = 0;
