@@ -319,9 +319,8 @@ fn damage_outputs(random: &mut Random, records: &mut Vec<Record>) {
         }
         _ if !composites.is_empty() => {
             let composite = &mut records[random.pick(&composites)];
-            composite.b =
-                if composite.b > 0 && random.once_in(2) { composite.b - 1 } else { composite.b + 1 };
-            composite.b = composite.b.min(64);
+            let fewer = composite.b > 0 && random.once_in(2);
+            composite.b = if fewer { composite.b - 1 } else { composite.b.saturating_add(1) }.min(64);
         }
         _ => {}
     }
