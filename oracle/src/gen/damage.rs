@@ -10,7 +10,7 @@ use crate::plain::judge::{judge, CONNECTION_AND_MAP, RECORDS_MAX, TWO_CONNECTION
 use crate::plain::kinds::{greatest, PERIOD_MAX, WIDTH_MAX};
 
 /// The numbers that damage aims at, those that are often missed more than once.
-const AIMS: [u64; 22] = [1, 3, 4, 5, 5, 6, 7, 8, 9, 10, 11, 11, 12, 13, 14, 15, 15, 15, 22, 22, 23, 23];
+const AIMS: [u64; 23] = [1, 3, 4, 5, 5, 6, 7, 8, 9, 9, 10, 11, 11, 12, 13, 14, 15, 15, 15, 22, 22, 23, 23];
 
 /// The kind that logix has none of.
 const MAJORITY: u8 = 15;
@@ -166,8 +166,12 @@ fn too_many_or_deep(random: &mut Random, records: &mut Vec<Record>) {
     records.truncate(1_024);
 }
 
-/// Aims at 9: one field breaks the table of kinds.
+/// Aims at 9: one field breaks the table of kinds, or a component has too many bits.
 fn damage_fields(random: &mut Random, records: &mut [Record]) {
+    let of_bits = positions(records, |record| record.kind == COMPONENT && record.fields().is_of_bits());
+    if !of_bits.is_empty() && random.once_in(3) {
+        return widen(&mut records[random.pick(&of_bits)], random.pick(&[64, 65, 65, 66, 255]));
+    }
     // A drawing of the kinds that logix has stays one.
     let votes = records.iter().any(|record| record.component_kind == MAJORITY);
     let record = component(random, records);
@@ -176,18 +180,17 @@ fn damage_fields(random: &mut Random, records: &mut [Record]) {
         13 => random.pick(&[past((record.c as u64).clamp(1, WIDTH_MAX)), u64::MAX]),
         _ => random.pick(&[0, 1, 64, 65, 66, 255, 1 << 32, u64::MAX]),
     };
-    match random.below(7) {
+    match random.below(6) {
         0 => record.a = random.pick(&[0, 1, 2, record.a.saturating_add(1), 64, 65, 65_535]),
         1 => record.b = random.pick(&[0, 1, 2, record.b.saturating_add(1), 64, 65, 65_535]),
         2 => record.c = random.pick(&[0, 1, 32, 64, 65, 66, 255, 65_535]),
         3 if votes && random.once_in(3) => record.component_kind = MAJORITY,
         3 => record.component_kind = random.below(14) as u8,
-        4 => widen(record, random.pick(&[64, 65, 65, 66, 255])),
         _ => record.parameter = past,
     }
 }
 
-/// A component of bits, or a Const, has so many, with its ports to match.
+/// A component has so many bits, with its ports to match.
 fn widen(record: &mut Record, bits: u16) {
     match record.component_kind {
         8 | 9 => record.parameter = bits as u64,

@@ -211,7 +211,7 @@ fn wrong_parameter(random: &mut Random, fields: &Fields) -> u64 {
     }
 }
 
-/// A component of bits, or a Const, has more of them than 64, with ports and values to match.
+/// A component has more bits than 64, with ports and values to match.
 fn too_wide(random: &mut Random, single: &mut Single) {
     let bits = random.pick(&[65, 65, 66, 96, 128, 255]);
     let fields = &mut single.fields;

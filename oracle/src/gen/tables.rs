@@ -180,12 +180,13 @@ fn some_components(random: &mut Random, count: u64, length: u64) -> Vec<u64> {
 
 /// One fault, as a rule: a clause of the net for each arm.
 pub fn fault(random: &mut Random, tables: &Tables) -> Vec<Command> {
-    match random.below(12) {
+    match random.below(13) {
         0 | 1 => vec![count_fault(random, tables)],
         2..=5 => component_fault(random, tables),
         6 => value_fault(random, tables),
         7 => const_fault(random, tables),
         8 | 9 => wire_fault(random, tables),
+        10 => width_fault(random, tables),
         _ => list_fault(random, tables),
     }
 }
@@ -237,6 +238,19 @@ fn parameter(random: &mut Random, entry: &Entry) -> u64 {
         13 => random.pick(&[0, old ^ 1, greatest(width), past(width), u64::MAX]),
         _ => random.pick(&[0, 1, 32, 33, 63, 64, 65, old + 1, 1 << 32 | old, u64::MAX]),
     }
+}
+
+/// "obey the table of kinds": how many bits a component has, up to the limit and past it.
+fn width_fault(random: &mut Random, tables: &Tables) -> Vec<Command> {
+    let entries = entries(tables);
+    let of_bits: Vec<usize> = (0..entries.len()).filter(|at| entries[*at].fields.is_of_bits()).collect();
+    if of_bits.is_empty() {
+        return component_fault(random, tables);
+    }
+    let at = random.pick(&of_bits);
+    let field = if entries[at].fields.kind == 13 { 2 } else { 3 };
+    let word = random.pick(&[0, 1, 32, 33, 63, 64, 64, 65, 65, 66, (1 << 32) + 64]);
+    vec![write(COMPONENTS, 8 * at as u64 + field, word)]
 }
 
 /// "values fit, each Const's output is its value".

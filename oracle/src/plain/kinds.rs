@@ -46,6 +46,11 @@ impl Fields {
         (1..NO_KIND).contains(&self.kind) && self.kind != CUSTOM
     }
 
+    /// Of a kind that has bits: an Input, an Output, a Splitter, a Joiner or a Const.
+    pub fn is_of_bits(&self) -> bool {
+        matches!(self.kind, 8..=11 | 13)
+    }
+
     fn ports(&self, inputs: u64, outputs: u64) -> bool {
         self.inputs == inputs && self.outputs == outputs
     }
