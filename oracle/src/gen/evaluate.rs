@@ -214,17 +214,19 @@ fn wrong_parameter(random: &mut Random, fields: &Fields) -> u64 {
 /// A component has more bits than 64, with ports and values to match.
 fn too_wide(random: &mut Random, single: &mut Single) {
     let bits = random.pick(&[65, 65, 66, 96, 128, 255]);
-    let fields = &mut single.fields;
-    match fields.kind {
-        8 | 9 => fields.parameter = bits,
-        10 => (fields.outputs, fields.parameter) = (bits, bits),
-        11 => (fields.inputs, fields.parameter) = (bits, bits),
-        13 => fields.width = bits,
+    let Fields { kind, parameter, .. } = single.fields;
+    let row = |inputs, outputs, width, parameter| Fields { kind, inputs, outputs, width, parameter };
+    let fields = match kind {
+        8 | 9 => row(1, 1, 0, bits),
+        10 => row(1, bits, 0, bits),
+        11 => row(bits, 1, 0, bits),
+        13 => row(0, 1, bits, parameter),
         _ => return,
-    }
+    };
     let values = |ports: u64, width: u64| vec![PortValue { number: 1, width }; ports as usize];
     single.inputs = values(fields.inputs, fields.input_width());
     single.outputs = values(fields.outputs, fields.output_width());
+    single.fields = fields;
 }
 
 /// Another width, or a number that does not fit, at one of the own ports.
