@@ -217,6 +217,7 @@ fn write_single(to: &mut Vec<u8>, single: &Single) {
     ];
     words(to, b'X', &head);
     for values in [&single.inputs, &single.outputs] {
+        assert!(values.len() as u64 <= VALUES_MAX, "more values are a bad command");
         to.extend_from_slice(&(values.len() as u16).to_le_bytes());
         for value in values {
             to.extend_from_slice(&value.number.to_le_bytes());

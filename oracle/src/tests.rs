@@ -1,5 +1,5 @@
-//! Tests: the lamp drawing, the limits, records that meet, both ways of an edit, outputs that moved, mending, the language,
-//! and where logix and the plain coding can be laid side by side.
+//! Tests: the lamp drawing, the limits, values of 64 bits, records that meet, both ways of an edit, outputs that moved, mending,
+//! the language, and where logix and the plain coding can be laid side by side.
 
 mod agreement;
 mod differences;
@@ -15,6 +15,7 @@ mod moved;
 mod net;
 mod satisfied;
 mod votes;
+mod wide;
 
 use crate::command::Command;
 use crate::gen::drawing::{blank, file_of};

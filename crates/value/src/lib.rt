@@ -5,7 +5,7 @@ ghost use Prim.Native.Nat.{_≤_, min};
 ghost use Rattle.value.specs.Value.{widest, ones, below, fits, fitsIn, bit, complement, setTo};
 
 // The most bits of a value. The definition `widest` has the same number, and nothing else names it.
-pub const WIDEST: u64 = 32;
+pub const WIDEST: u64 = 64;
 
 // A number with its width in bits; bit 0 is the lowest. Any two numbers may stand here, and `fits` says whether a port may hold them.
 pub struct Value {

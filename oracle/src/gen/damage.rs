@@ -3,13 +3,14 @@
 //! An aim may miss: the oracle says what the file is worth.
 
 use super::drawing::{blank, file_of};
+use super::evaluate::past;
 use super::random::Random;
 use crate::plain::drawing::{Drawing, Port, Record, COMPONENT, CONNECTION, INPUT_MAP, OUTPUT_MAP};
 use crate::plain::judge::{judge, CONNECTION_AND_MAP, RECORDS_MAX, TWO_CONNECTIONS, TWO_MAPS};
-use crate::plain::kinds::PERIOD_MAX;
+use crate::plain::kinds::{greatest, PERIOD_MAX, WIDTH_MAX};
 
 /// The numbers that damage aims at, those that are often missed more than once.
-const AIMS: [u64; 22] = [1, 3, 4, 5, 5, 6, 7, 8, 9, 10, 11, 11, 12, 13, 14, 15, 15, 15, 22, 22, 23, 23];
+const AIMS: [u64; 23] = [1, 3, 4, 5, 5, 6, 7, 8, 9, 9, 10, 11, 11, 12, 13, 14, 15, 15, 15, 22, 22, 23, 23];
 
 /// The kind that logix has none of.
 const MAJORITY: u8 = 15;
@@ -165,23 +166,38 @@ fn too_many_or_deep(random: &mut Random, records: &mut Vec<Record>) {
     records.truncate(1_024);
 }
 
-/// Aims at 9: one field breaks the table of kinds.
+/// Aims at 9: one field breaks the table of kinds, or a component has too many bits.
 fn damage_fields(random: &mut Random, records: &mut [Record]) {
+    let of_bits = positions(records, |record| record.kind == COMPONENT && record.fields().is_of_bits());
+    if !of_bits.is_empty() && random.once_in(3) {
+        return widen(&mut records[random.pick(&of_bits)], random.pick(&[64, 65, 65, 66, 255]));
+    }
     // A drawing of the kinds that logix has stays one.
     let votes = records.iter().any(|record| record.component_kind == MAJORITY);
     let record = component(random, records);
     let past = match record.component_kind {
         12 => random.pick(&[0, PERIOD_MAX + 1, u64::MAX]),
-        13 => random.pick(&[1 << (record.c.min(32)), u64::MAX]),
-        _ => random.pick(&[0, 1, 33, 64, 1 << 32, u64::MAX]),
+        13 => random.pick(&[past((record.c as u64).clamp(1, WIDTH_MAX)), u64::MAX]),
+        _ => random.pick(&[0, 1, 64, 65, 66, 255, 1 << 32, u64::MAX]),
     };
     match random.below(6) {
         0 => record.a = random.pick(&[0, 1, 2, record.a.saturating_add(1), 64, 65, 65_535]),
         1 => record.b = random.pick(&[0, 1, 2, record.b.saturating_add(1), 64, 65, 65_535]),
-        2 => record.c = random.pick(&[0, 1, 32, 33, 64, 65_535]),
+        2 => record.c = random.pick(&[0, 1, 32, 64, 65, 66, 255, 65_535]),
         3 if votes && random.once_in(3) => record.component_kind = MAJORITY,
         3 => record.component_kind = random.below(14) as u8,
         _ => record.parameter = past,
+    }
+}
+
+/// A component has so many bits, with its ports to match.
+fn widen(record: &mut Record, bits: u16) {
+    match record.component_kind {
+        8 | 9 => record.parameter = bits as u64,
+        10 => (record.b, record.parameter) = (bits, bits as u64),
+        11 => (record.a, record.parameter) = (bits, bits as u64),
+        13 => record.c = bits,
+        _ => {}
     }
 }
 
@@ -197,11 +213,12 @@ fn too_many_ports(random: &mut Random, records: &mut Vec<Record>) {
     let inputs: usize = primitives.clone().map(|r| r.a as usize).sum();
     let outputs: usize = primitives.map(|r| r.b as usize).sum();
     let gate = Record { component_kind: 2, a: 64, b: 1, ..blank(COMPONENT) };
-    let splitter = Record { component_kind: 10, a: 1, b: 32, parameter: 32, ..blank(COMPONENT) };
+    let bits = random.pick(&[32, 64]);
+    let splitter = Record { component_kind: 10, a: 1, b: bits, parameter: bits as u64, ..blank(COMPONENT) };
     let past = random.below(2) as usize;
     let (kind, missing) = match random.below(2) {
         0 => (gate, 1_024usize.saturating_sub(inputs) / 64 + past),
-        _ => (splitter, 1_024usize.saturating_sub(outputs) / 32 + past),
+        _ => (splitter, 1_024usize.saturating_sub(outputs) / bits as usize + past),
     };
     let added = (0..missing).map(|_| Record { id: new_id(random), ..kind }).collect();
     append_components(records, added);
@@ -319,9 +336,8 @@ fn damage_outputs(random: &mut Random, records: &mut Vec<Record>) {
         }
         _ if !composites.is_empty() => {
             let composite = &mut records[random.pick(&composites)];
-            composite.b =
-                if composite.b > 0 && random.once_in(2) { composite.b - 1 } else { composite.b + 1 };
-            composite.b = composite.b.min(64);
+            let fewer = composite.b > 0 && random.once_in(2);
+            composite.b = if fewer { composite.b - 1 } else { composite.b.saturating_add(1) }.min(64);
         }
         _ => {}
     }
@@ -337,9 +353,9 @@ fn damage_width(random: &mut Random, records: &mut [Record]) {
         (records[at].a, records[at].b) = (a, b);
     } else if !wide.is_empty() {
         let record = &mut records[random.pick(&wide)];
-        let bits = random.between(1, 32);
+        let bits = random.between(1, WIDTH_MAX);
         match record.component_kind {
-            13 => (record.c, record.parameter) = (bits as u16, random.any() & ((1 << bits) - 1)),
+            13 => (record.c, record.parameter) = (bits as u16, random.any() & greatest(bits)),
             _ => record.parameter = bits,
         }
     }

@@ -3,7 +3,7 @@
 use super::random::Random;
 use crate::plain::drawing::{Record, COMPONENT, CONNECTION, DEPTH_MAX, INPUT_MAP, OUTPUT_MAP};
 use crate::plain::judge::{judge, COMPONENTS_MAX, RECORDS_MAX, SIDE_MAX};
-use crate::plain::kinds::{fits, Fields, PERIOD_MAX};
+use crate::plain::kinds::{fits, greatest, Fields, PERIOD_MAX, WIDTH_MAX};
 use std::collections::HashSet;
 
 /// A record with all fields 0 but its kind.
@@ -129,8 +129,8 @@ struct Drawer<'a> {
 
 impl<'a> Drawer<'a> {
     fn new(random: &'a mut Random, profile: Profile) -> Drawer<'a> {
-        let mut widths = vec![1, random.between(1, 32)];
-        widths.push(random.pick(&[2, 4, 8, 31, 32]));
+        let mut widths = vec![1, any_width(random)];
+        widths.push(random.pick(&[2, 4, 8, 31, 32, 33, 48, 63, 64]));
         let small_ids = random.once_in(2);
         Drawer {
             random,
@@ -214,7 +214,7 @@ impl<'a> Drawer<'a> {
 
     /// Whether a primitive of any kind may have too many ports.
     fn nearly_full(&self) -> bool {
-        self.inputs < 64 || self.outputs < 32
+        self.inputs < 64 || self.outputs < 64
     }
 
     /// Whether a side is still to be filled.
@@ -247,7 +247,8 @@ impl<'a> Drawer<'a> {
 
     /// Fields that bring the sides nearer to full.
     fn filling_fields(&mut self) -> Fields {
-        let (inputs, outputs) = (self.inputs.min(64) as u64, self.outputs.min(32) as u64);
+        let most = self.random.pick(&[32, 64]);
+        let (inputs, outputs) = (self.inputs.min(64) as u64, self.outputs.min(most) as u64);
         let splitter = inputs > 0 && (self.outputs > self.inputs || !self.profile.fill_inputs);
         if self.profile.fill_outputs && splitter {
             row(10, 1, outputs, 0, outputs)
@@ -293,7 +294,7 @@ impl<'a> Drawer<'a> {
     fn bits(&mut self) -> u64 {
         let palette = self.widths.clone();
         match self.random.below(8) {
-            0 => self.random.between(1, 32),
+            0 => any_width(self.random),
             _ => self.random.pick(&palette),
         }
     }
@@ -314,10 +315,9 @@ impl<'a> Drawer<'a> {
     }
 
     fn const_value(&mut self, width: u64) -> u64 {
-        let greatest = (1 << width) - 1;
         let value = match self.random.below(3) {
-            0 => greatest,
-            _ => self.random.any() & greatest,
+            0 => greatest(width),
+            _ => self.random.any() & greatest(width),
         };
         assert!(fits(value, width));
         value
@@ -398,6 +398,12 @@ impl<'a> Drawer<'a> {
         node.connections.push(Record { a: from, b: out, c: child, d: port, ..blank(CONNECTION) });
         self.records -= 1;
     }
+}
+
+/// Any width, those up to 32 bits three times as likely as the others.
+fn any_width(random: &mut Random) -> u64 {
+    let most = random.pick(&[32, WIDTH_MAX]);
+    random.between(1, most)
 }
 
 fn row(kind: u64, inputs: u64, outputs: u64, width: u64, parameter: u64) -> Fields {

@@ -3,7 +3,7 @@
 use super::random::Random;
 use super::Stream;
 use crate::command::{Command, Single};
-use crate::plain::kinds::{Fields, PERIOD_MAX};
+use crate::plain::kinds::{greatest, Fields, PERIOD_MAX, WIDTH_MAX};
 use crate::plain::rules::outputs_after;
 use crate::plain::single::{single_number, PortValue};
 use std::io::{Result, Write};
@@ -58,8 +58,8 @@ pub fn fields(random: &mut Random) -> Fields {
 
 fn bits(random: &mut Random) -> u64 {
     match random.below(3) {
-        0 => random.pick(&[1, 2, 3, 31, 32]),
-        _ => random.between(1, 32),
+        0 => random.pick(&[1, 2, 3, 31, 32, 33, 48, 63, 64]),
+        _ => random.between(1, WIDTH_MAX),
     }
 }
 
@@ -99,14 +99,18 @@ fn time_near(random: &mut Random, period: u64) -> u64 {
 
 /// A value of that width: 0, the greatest, one bit, or any.
 pub fn fitting(random: &mut Random, width: u64) -> PortValue {
-    let greatest = (1 << width) - 1;
     let number = match random.below(5) {
         0 => 0,
-        1 => greatest,
+        1 => greatest(width),
         2 => 1 << random.below(width),
-        _ => random.any() & greatest,
+        _ => random.any() & greatest(width),
     };
     PortValue { number, width }
+}
+
+/// The least number that does not fit a width; at 64 bits, where every number fits, the greatest.
+pub fn past(width: u64) -> u64 {
+    greatest(width).saturating_add(1)
 }
 
 /// Inputs that try a gate: all one level, one apart from the others, or any.
@@ -174,17 +178,18 @@ fn more(random: &mut Random, values: &mut Vec<PortValue>) {
 /// One fault, as a rule.
 fn damage(random: &mut Random, single: &mut Single) {
     let fields = &mut single.fields;
-    match random.below(10) {
+    match random.below(11) {
         0 => fields.kind = random.pick(&[0, 0, 14, 14, 15, 16, 17, 255]),
         1 => fields.kind = random.below(256),
         2 => fields.inputs = wrong_ports(random, fields.inputs),
         3 => fields.outputs = wrong_ports(random, fields.outputs),
-        4 => fields.width = random.pick(&[0, 1, 2, 31, 32, 33, 64, 256, 65_535]),
+        4 => fields.width = random.pick(&[0, 1, 2, 31, 32, 33, 63, 64, 65, 256, 65_535]),
         5 => fields.parameter = wrong_parameter(random, fields),
         6 => drop(single.inputs.pop()),
         7 => drop(single.outputs.pop()),
         8 => misfit(random, &mut single.inputs, single.fields.inputs),
-        _ => misfit(random, &mut single.outputs, single.fields.outputs),
+        9 => misfit(random, &mut single.outputs, single.fields.outputs),
+        _ => too_wide(random, single),
     }
 }
 
@@ -198,11 +203,30 @@ fn wrong_ports(random: &mut Random, ports: u64) -> u64 {
 
 fn wrong_parameter(random: &mut Random, fields: &Fields) -> u64 {
     let high = (1 << 32) + fields.parameter.min(1 << 31);
+    let width = fields.width.clamp(1, WIDTH_MAX);
     match fields.kind {
-        13 => random.pick(&[1 << fields.width.min(63), (1 << fields.width.min(63)) - 1, high, u64::MAX]),
+        13 => random.pick(&[past(width), greatest(width), high, u64::MAX]),
         12 => random.pick(&[0, 1, PERIOD_MAX, PERIOD_MAX + 1, 1 << 63, u64::MAX]),
-        _ => random.pick(&[0, 1, 2, 32, 33, 64, 65, 1 << 32, high, PERIOD_MAX, u64::MAX]),
+        _ => random.pick(&[0, 1, 2, 32, 33, 63, 64, 65, 66, 1 << 32, high, PERIOD_MAX, u64::MAX]),
     }
+}
+
+/// A component has more bits than 64, with ports and values to match.
+fn too_wide(random: &mut Random, single: &mut Single) {
+    let bits = random.pick(&[65, 65, 66, 96, 128, 255]);
+    let Fields { kind, parameter, .. } = single.fields;
+    let row = |inputs, outputs, width, parameter| Fields { kind, inputs, outputs, width, parameter };
+    let fields = match kind {
+        8 | 9 => row(1, 1, 0, bits),
+        10 => row(1, bits, 0, bits),
+        11 => row(bits, 1, 0, bits),
+        13 => row(0, 1, bits, parameter),
+        _ => return,
+    };
+    let values = |ports: u64, width: u64| vec![PortValue { number: 1, width }; ports as usize];
+    single.inputs = values(fields.inputs, fields.input_width());
+    single.outputs = values(fields.outputs, fields.output_width());
+    single.fields = fields;
 }
 
 /// Another width, or a number that does not fit, at one of the own ports.
@@ -212,13 +236,14 @@ fn misfit(random: &mut Random, values: &mut [PortValue], ports: u64) {
         return;
     }
     let value = &mut values[random.below(own) as usize];
-    let past = 1 << value.width.min(63);
+    let past = past(value.width.clamp(1, WIDTH_MAX));
+    let next = past.saturating_add(1);
     match random.below(6) {
         0 => value.width += 1,
         1 => value.width = value.width.saturating_sub(1),
-        2 => value.width = random.pick(&[0, 1, 32, 33, 64, 255]),
+        2 => value.width = random.pick(&[0, 1, 32, 33, 63, 64, 65, 255]),
         3 => value.number = past,
-        4 => value.number = random.pick(&[past, past + 1, 2, 1 << 32, (1 << 32) + 1, 1 << 63, u64::MAX]),
+        4 => value.number = random.pick(&[past, next, 2, 1 << 32, (1 << 32) + 1, 1 << 63, u64::MAX]),
         _ => value.number |= random.any() << value.width.min(63),
     }
     value.width = value.width.min(255);

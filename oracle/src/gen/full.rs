@@ -2,7 +2,7 @@
 //! inputs and outputs, 1,024 wires.
 
 use super::random::Random;
-use crate::plain::kinds::Fields;
+use crate::plain::kinds::{greatest, Fields};
 use crate::plain::net::{broken, entries};
 use crate::tables::{Tables, COMPONENTS, INPUTS, OUTPUTS, WIRES};
 
@@ -16,17 +16,19 @@ pub fn full_net(random: &mut Random) -> Tables {
     tables
 }
 
-/// 25 Splitters with a Const for each width, and gates of four and five inputs, Majority
-/// among them in one net of two.
+/// Splitters of 32 bits, or of 64, and one of fewer, with a Const for each of the two widths; and
+/// gates of four and five inputs, Majority among them in one net of two.
 fn rows(random: &mut Random) -> Vec<Fields> {
     let row = |kind, inputs, outputs, width, parameter| Fields { kind, inputs, outputs, width, parameter };
-    let mut rows = vec![row(10, 1, 32, 0, 32); 24];
-    rows.push(row(10, 1, 25, 0, 25));
-    rows.push(row(13, 0, 1, 32, random.below(1 << 32)));
-    rows.push(row(13, 0, 1, 25, random.below(1 << 25)));
+    let (bits, splitters, fewer, gates_of_five) = random.pick(&[(32, 24, 25, 83), (64, 12, 13, 47)]);
+    let mut rows = vec![row(10, 1, bits, 0, bits); splitters];
+    rows.push(row(10, 1, fewer, 0, fewer));
+    for width in [bits, fewer] {
+        rows.push(row(13, 0, 1, width, random.any() & greatest(width)));
+    }
     let gates: &[u64] = if random.once_in(2) { &[1, 2, 4, 5, 6, 15] } else { &[1, 2, 4, 5, 6] };
-    for gate in 0..229 {
-        let inputs = if gate < 83 { 5 } else { 4 };
+    for gate in 0..256 - rows.len() {
+        let inputs = if gate < gates_of_five { 5 } else { 4 };
         rows.push(row(random.pick(gates), inputs, 1, 0, 0));
     }
     rows

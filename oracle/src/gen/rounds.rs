@@ -2,10 +2,12 @@
 //! now and then the table of a round's bits, and too little of it lent.
 
 use super::drawing::{drawing, file_of, running_profile};
+use super::evaluate::past;
 use super::judge::bad_file;
 use super::random::Random;
 use super::Stream;
 use crate::command::Command;
+use crate::plain::kinds::{greatest, WIDTH_MAX};
 use crate::plain::net::entries;
 use crate::tables::{Tables, MOVED, WIRES};
 use std::io::{Result, Write};
@@ -108,14 +110,14 @@ pub fn edit(random: &mut Random, tables: &Tables) -> Command {
     let open = editable(tables);
     let (index, width) = match (open.is_empty(), random.below(5)) {
         (false, 0..=3) => random.pick(&open),
-        _ => (any_index(random, tables), random.pick(&[1, 1, 4, 32])),
+        _ => (any_index(random, tables), random.pick(&[1, 1, 4, 32, 64])),
     };
-    let greatest = (1u64 << width) - 1;
+    let past = past(width);
     let number = match random.below(8) {
-        0 => random.pick(&[greatest + 1, greatest + 2, 1 << 32, 1 << 63, u64::MAX]),
-        1 | 2 => greatest,
+        0 => random.pick(&[past, past.saturating_add(1), 1 << 32, 1 << 63, u64::MAX]),
+        1 | 2 => greatest(width),
         3 | 4 => 0,
-        _ => random.any() & greatest,
+        _ => random.any() & greatest(width),
     };
     either_way(random, index, number)
 }
@@ -146,7 +148,9 @@ fn editable(tables: &Tables) -> Vec<(u16, u64)> {
     for (index, entry) in entries(tables).iter().enumerate() {
         match entry.fields.kind {
             7 => found.push((index as u16, 1)),
-            8 if !entered(index as u64) => found.push((index as u16, entry.fields.parameter.clamp(1, 32))),
+            8 if !entered(index as u64) => {
+                found.push((index as u16, entry.fields.parameter.clamp(1, WIDTH_MAX)))
+            }
             _ => {}
         }
     }

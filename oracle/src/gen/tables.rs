@@ -2,6 +2,7 @@
 //! call on it. The next one begins with a load that repairs.
 
 use super::drawing::{drawing, file_of, running_profile, voting, Profile};
+use super::evaluate::past;
 use super::full::full_net;
 use super::look::any_path;
 use super::random::Random;
@@ -9,7 +10,7 @@ use super::rounds::edit;
 use super::Stream;
 use crate::command::Command;
 use crate::plain::drawing::records;
-use crate::plain::kinds::PERIOD_MAX;
+use crate::plain::kinds::{greatest, PERIOD_MAX};
 use crate::plain::net::{entries, Entry};
 use crate::program::Program;
 use crate::tables::{
@@ -142,11 +143,11 @@ fn changed_net(random: &mut Random) -> Tables {
 pub fn change_values(random: &mut Random, tables: &mut Tables) {
     for entry in entries(tables) {
         for port in 0..entry.fields.inputs {
-            let value = random.any() & ((1 << entry.fields.input_width()) - 1);
+            let value = random.any() & greatest(entry.fields.input_width());
             tables.words_mut(INPUTS)[(entry.first_input + port) as usize] = value;
         }
         for port in 0..entry.fields.outputs {
-            let value = random.any() & ((1 << entry.fields.output_width()) - 1);
+            let value = random.any() & greatest(entry.fields.output_width());
             if entry.fields.kind != 13 {
                 tables.words_mut(OUTPUTS)[(entry.first_output + port) as usize] = value;
             }
@@ -179,12 +180,13 @@ fn some_components(random: &mut Random, count: u64, length: u64) -> Vec<u64> {
 
 /// One fault, as a rule: a clause of the net for each arm.
 pub fn fault(random: &mut Random, tables: &Tables) -> Vec<Command> {
-    match random.below(12) {
+    match random.below(13) {
         0 | 1 => vec![count_fault(random, tables)],
         2..=5 => component_fault(random, tables),
         6 => value_fault(random, tables),
         7 => const_fault(random, tables),
         8 | 9 => wire_fault(random, tables),
+        10 => width_fault(random, tables),
         _ => list_fault(random, tables),
     }
 }
@@ -220,7 +222,7 @@ fn component_fault(random: &mut Random, tables: &Tables) -> Vec<Command> {
     let word = match field {
         0 => random.pick(&[0, 14, 15, 16, 255, 256 + old, 271, 1 << 32 | old, u64::MAX, other.fields.kind]),
         1 => random.pick(&[other.id, other.id, 1 << 32, 1 << 32 | old, u64::MAX, old ^ 1, u32::MAX as u64]),
-        2 => random.pick(&[0, 1, 32, 33, 64, 1 << 16 | old, 1 << 32 | old, u64::MAX]),
+        2 => random.pick(&[0, 1, 32, 33, 63, 64, 65, 1 << 16 | old, 1 << 32 | old, u64::MAX]),
         3 => parameter(random, &entries[at as usize]),
         4 | 5 => random.pick(&[0, 1, old + 1, old.wrapping_sub(1), 64, 65, 1 << 32 | old, u64::MAX]),
         _ => random.pick(&[0, old + 1, old.wrapping_sub(1), 1 << 16 | old, 1 << 32 | old, u64::MAX]),
@@ -230,12 +232,25 @@ fn component_fault(random: &mut Random, tables: &Tables) -> Vec<Command> {
 
 /// Parameters that break the table of kinds, and some that do not.
 fn parameter(random: &mut Random, entry: &Entry) -> u64 {
-    let old = entry.fields.parameter;
+    let (old, width) = (entry.fields.parameter, entry.fields.width);
     match entry.fields.kind {
         12 => random.pick(&[0, 1, PERIOD_MAX, PERIOD_MAX + 1, u64::MAX, old + 1]),
-        13 => random.pick(&[0, old ^ 1, (1 << entry.fields.width) - 1, 1 << entry.fields.width, u64::MAX]),
-        _ => random.pick(&[0, 1, 32, 33, old + 1, 1 << 32 | old, u64::MAX]),
+        13 => random.pick(&[0, old ^ 1, greatest(width), past(width), u64::MAX]),
+        _ => random.pick(&[0, 1, 32, 33, 63, 64, 65, old + 1, 1 << 32 | old, u64::MAX]),
     }
+}
+
+/// "obey the table of kinds": how many bits a component has, up to the limit and past it.
+fn width_fault(random: &mut Random, tables: &Tables) -> Vec<Command> {
+    let entries = entries(tables);
+    let of_bits: Vec<usize> = (0..entries.len()).filter(|at| entries[*at].fields.is_of_bits()).collect();
+    if of_bits.is_empty() {
+        return component_fault(random, tables);
+    }
+    let at = random.pick(&of_bits);
+    let field = if entries[at].fields.kind == 13 { 2 } else { 3 };
+    let word = random.pick(&[0, 1, 32, 33, 63, 64, 64, 65, 65, 66, (1 << 32) + 64]);
+    vec![write(COMPONENTS, 8 * at as u64 + field, word)]
 }
 
 /// "values fit, each Const's output is its value".
@@ -252,8 +267,9 @@ fn value_fault(random: &mut Random, tables: &Tables) -> Vec<Command> {
         INPUTS => (entry.first_input, entry.fields.inputs, entry.fields.input_width()),
         _ => (entry.first_output, entry.fields.outputs, entry.fields.output_width()),
     };
-    let past = 1u64 << width;
-    let word = random.pick(&[past, past, past + 1, past - 1, 0, 1, 1 << 32, 1 << 63, u64::MAX]);
+    let (past, greatest) = (past(width), greatest(width));
+    let next = past.saturating_add(1);
+    let word = random.pick(&[past, past, next, greatest, 0, 1, 1 << 32, 1 << 63, u64::MAX]);
     vec![write(side, first + random.below(ports), word)]
 }
 

@@ -3,7 +3,7 @@
 /// The greatest period of a Clock.
 pub const PERIOD_MAX: u64 = 1 << 62;
 /// The greatest width of a port.
-pub const WIDTH_MAX: u64 = 32;
+pub const WIDTH_MAX: u64 = 64;
 /// "component kind 14, kept for `Custom`".
 pub const CUSTOM: u64 = 14;
 /// "8 now starts at kind 16".
@@ -44,6 +44,11 @@ impl Fields {
     /// Of kinds 1 to 13, or 15.
     pub fn is_primitive(&self) -> bool {
         (1..NO_KIND).contains(&self.kind) && self.kind != CUSTOM
+    }
+
+    /// Of a kind that has bits: an Input, an Output, a Splitter, a Joiner or a Const.
+    pub fn is_of_bits(&self) -> bool {
+        matches!(self.kind, 8..=11 | 13)
     }
 
     fn ports(&self, inputs: u64, outputs: u64) -> bool {
@@ -95,4 +100,9 @@ impl Fields {
 /// Whether the number lies below 2^width.
 pub fn fits(number: u64, width: u64) -> bool {
     width >= 64 || number >> width == 0
+}
+
+/// The greatest number of a width, which is 1 to 64.
+pub fn greatest(width: u64) -> u64 {
+    u64::MAX >> (64 - width)
 }

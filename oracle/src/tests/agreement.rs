@@ -137,7 +137,7 @@ fn a_reached_state_stays_a_net() {
 #[test]
 fn generated_drawings_reach_every_limit() {
     let mut random = Random::new(6);
-    let mut reached = [0; 7];
+    let mut reached = [0; 10];
     for _ in 0..1_500 {
         let profile = any_profile(&mut random);
         let drawn = drawing(&mut random, profile);
@@ -152,6 +152,10 @@ fn generated_drawings_reach_every_limit() {
         reached[4] += (depth(&drawn) == 16) as u32;
         reached[5] += (counts[COMPONENTS] == 255) as u32;
         reached[6] += drawn.iter().any(|r| r.is_composite() && (r.a == 64 || r.b == 64)) as u32;
+        for (limit, kind) in [(7, 10), (8, 11)] {
+            reached[limit] += drawn.iter().any(|r| r.component_kind == kind && r.parameter == 64) as u32;
+        }
+        reached[9] += drawn.iter().any(|r| r.component_kind == 13 && r.parameter == u64::MAX) as u32;
     }
     assert!(reached.iter().all(|times| *times > 0), "{reached:?}");
 }

@@ -3,7 +3,7 @@
 use super::{component, connection, input_map, lamp, output_map, told, verdict};
 use crate::plain::drawing::Record;
 use crate::plain::judge::{judge, Refusal};
-use crate::plain::kinds::PERIOD_MAX;
+use crate::plain::kinds::{greatest, PERIOD_MAX};
 
 /// A root and so many copies of a component below it, with ids of their own.
 fn root_and(copies: usize, below: Record) -> Vec<Record> {
@@ -96,12 +96,15 @@ fn primitives_have_at_most_1024_inputs_and_outputs() {
     assert_eq!(verdict(&records), (0, 0));
     records.push(component(3, 0, 1, 1, 99));
     assert_eq!(verdict(&records), (11, 17));
-    let mut records = root_and(32, Record { parameter: 32, ..component(10, 0, 1, 32, 0) });
-    assert_eq!(verdict(&records), (0, 0));
-    records.push(component(0, 0, 64, 0, 98));
-    assert_eq!(verdict(&records), (0, 0), "a composite's ports do not count");
-    records.push(component(7, 0, 0, 1, 99));
-    assert_eq!(verdict(&records), (11, 34));
+    for (splitters, bits) in [(32, 32), (16, 64)] {
+        let splitter = Record { parameter: bits as u64, ..component(10, 0, 1, bits, 0) };
+        let mut records = root_and(splitters, splitter);
+        assert_eq!(verdict(&records), (0, 0));
+        records.push(component(0, 0, 64, 0, 98));
+        assert_eq!(verdict(&records), (0, 0), "a composite's ports do not count");
+        records.push(component(7, 0, 0, 1, 99));
+        assert_eq!(verdict(&records), (11, splitters as u64 + 2));
+    }
 }
 
 #[test]
@@ -131,11 +134,12 @@ fn periods_and_const_values_have_bounds() {
     assert_eq!([clock(PERIOD_MAX), clock(PERIOD_MAX + 1)], [(0, 0), (9, 0)]);
     let constant =
         |width, value| verdict(&[Record { c: width, parameter: value, ..component(13, 0, 0, 1, 0) }]);
-    for width in 1..=32 {
-        assert_eq!(constant(width, (1 << width) - 1), (0, 0));
+    for width in 1..64 {
+        assert_eq!(constant(width, greatest(width as u64)), (0, 0));
         assert_eq!(constant(width, 1 << width), (9, 0));
     }
-    assert_eq!([constant(0, 0), constant(33, 0)], [(9, 0), (9, 0)]);
+    assert_eq!(constant(64, u64::MAX), (0, 0));
+    assert_eq!([constant(0, 0), constant(65, 0)], [(9, 0), (9, 0)]);
 }
 
 #[test]

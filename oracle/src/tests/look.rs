@@ -182,7 +182,7 @@ fn put_values(seed: u64, components: &mut [PrimitiveComponent]) {
 #[test]
 fn logix_shows_what_the_plain_coding_shows() {
     let mut random = Random::new(20);
-    let (mut boxes, mut dangling, mut wide) = (0, 0, 0);
+    let (mut boxes, mut dangling, mut wide, mut widest) = (0, 0, 0, 0);
     for _ in 0..4_000 {
         let profile = boxes_profile(&mut random);
         let drawn = drawing(&mut random, profile);
@@ -201,7 +201,9 @@ fn logix_shows_what_the_plain_coding_shows() {
                 Ok(shown) => {
                     assert_eq!(shown, Engine::look(&plain, &program.tables, &path));
                     boxes += plain.records[number].is_composite() as u32;
-                    wide += shown.inputs.iter().chain(&shown.outputs).any(|port| port.width > 1) as u32;
+                    let widths = shown.inputs.iter().chain(&shown.outputs).map(|port| port.width);
+                    wide += widths.clone().any(|width| width > 1) as u32;
+                    widest += widths.clone().any(|width| width == 64) as u32;
                 }
                 Err(refused) => {
                     assert_eq!(refused, Refusal::of(21));
@@ -211,7 +213,8 @@ fn logix_shows_what_the_plain_coding_shows() {
             }
         }
     }
-    assert!(boxes > 4_000 && dangling > 1_000 && wide > 1_000, "{boxes} {dangling} {wide}");
+    assert!(boxes > 4_000 && dangling > 1_000, "{boxes} {dangling}");
+    assert!(wide > 1_000 && widest > 100, "{wide} {widest}");
 }
 
 /// The difference that `fix_inputs_data_addrs` makes where it does not panic: outputs of

@@ -49,6 +49,12 @@ fn a_splitter_moves_the_bits_that_differ() {
     assert!(all.starts_with("evaluate 0 4294967295 1 1 "), "{all}");
     let last = evaluated(splitter(32), &[1 << 31], &[0; 32]);
     assert!(last.starts_with("evaluate 0 2147483648 0 0 "), "{last}");
+    let all = evaluated(splitter(64), &[u64::MAX], &[0; 64]);
+    assert!(all.starts_with("evaluate 0 18446744073709551615 1 1 "), "{all}");
+    let last = evaluated(splitter(64), &[1 << 63], &[0; 64]);
+    assert!(last.starts_with("evaluate 0 9223372036854775808 0 0 ") && last.ends_with(" 0 1\n"), "{last}");
+    let too_wide = evaluated(splitter(65), &[0], &[0; 65]);
+    assert!(too_wide.starts_with("evaluate 9 0 0 0 "), "{too_wide}");
 }
 
 #[test]

@@ -1,12 +1,15 @@
 //! Stand-in for the crate asmhdl, which is not part of the source text.
 //!
 //! `Data` is written from the specification: "A port's value is a number with its
-//! width, 1 to 32 bits, and lies below 2^width. Bit 0 is the lowest;
+//! width, 1 to 64 bits, and lies below 2^width. Bit 0 is the lowest;
 //! complement flips exactly the width's bits."
 
 use std::collections::HashMap;
 use std::convert::Infallible;
 use std::ops::Not;
+
+/// A number of 64 bits must find room in `usize`.
+const _: () = assert!(usize::BITS == 64, "logix keeps its numbers in usize");
 
 /// A port's value. Two values are equal when number and width are.
 #[derive(Debug, Clone, Copy, PartialEq, Eq)]
@@ -18,7 +21,7 @@ pub struct Data {
 impl Data {
     /// A value of `bits` bits. What lies above the width is cut off.
     pub fn new(value: usize, bits: usize) -> Data {
-        assert!((1..=32).contains(&bits), "a width is 1 to 32 bits");
+        assert!((1..=64).contains(&bits), "a width is 1 to 64 bits");
         Data { value: value & mask(bits), bits }
     }
 
@@ -56,9 +59,9 @@ impl Not for Data {
     }
 }
 
-/// The number whose lowest `bits` bits are set.
+/// The number whose lowest `bits` bits are set, 1 to 64 of them.
 fn mask(bits: usize) -> usize {
-    (1 << bits) - 1
+    usize::MAX >> (64 - bits)
 }
 
 /// When a `Custom` component is updated.
