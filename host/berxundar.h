@@ -96,7 +96,7 @@ extern "C" {
 
 /* The most inputs, and the most outputs, of one component; the most bits of a value. */
 #define BERXUNDAR_PORTS 64
-#define BERXUNDAR_BITS 32
+#define BERXUNDAR_BITS 64
 
 /* Kinds of component. The numbers never move; 14 is kept for later use. A composite stands in drawings only: no net has one.
  * A Majority is high where more of its inputs are high than low. */

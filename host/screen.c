@@ -46,7 +46,8 @@ static int setting_in(const char *word, uint32_t *id, uint64_t *number)
     uint64_t wide;
     const char *at = number_in(word, &wide);
     if (!at || *at != '=' || !is_number(at + 1, number) || UINT32_MAX < wide) {
-        fprintf(stderr, "%s: this is no setting of the form ID=NUMBER, as 1=1\n", word);
+        fprintf(stderr, "%s: this is no setting of the form ID=NUMBER, as 1=1: an id is 0 to %llu, a number 0 to %llu\n", word,
+            (unsigned long long)UINT32_MAX, (unsigned long long)UINT64_MAX);
         return 0;
     }
     *id = (uint32_t)wide;
@@ -116,7 +117,7 @@ static int refused(const char *word, uint32_t answer, uint64_t index)
         fprintf(stderr, "    the component is %s, id %llu", refusal_kind_name(words[BERXUNDAR_WORD_KIND]),
             (unsigned long long)words[BERXUNDAR_WORD_ID]);
     if (berxundar_number(answer) == BERXUNDAR_NO_FIT)
-        fprintf(stderr, ", which holds 0 to %llu\n", ((unsigned long long)1 << bits) - 1);
+        fprintf(stderr, ", which holds 0 to %llu\n", (unsigned long long)(UINT64_MAX >> (BERXUNDAR_BITS - bits)));
     else if (berxundar_number(answer) == BERXUNDAR_NOT_SETTABLE)
         fprintf(stderr, "%s\n", words[BERXUNDAR_WORD_KIND] == BERXUNDAR_INPUT ? ", and a wire enters it" : "");
     say_settable();

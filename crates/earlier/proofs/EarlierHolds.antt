@@ -1,106 +1,112 @@
--- A file that a reader accepts to whom the kinds end at a number has no component of a later kind, since check 8 would have refused it. So the reader
--- takes it for what it is, and so it takes all tables that calls reach from a load of it: `EarlierLoads`, `EarlierRuns`.
+-- A reader to whom the kinds end at a number, as one to whom a component of a later kind is newer: it takes its kind for none, and check 8 refuses that.
+-- Checks 3 to 7 look at the kind only for a composite's or Custom's, which no later one is. With 14 for the number, what is newer is a Majority.
 -- Assumes nothing.
-use mathlib.Core.Path.{_≡_, refl, sym, ap, _∙_, subst}
-use mathlib.Core.Logic.{⊎-elim}
-use mathlib.Core.Bool.{Bool, true, false, cond, _&&_, true≢false}
+use mathlib.Core.Path.{_≡_, refl, sym, ap, _∙_}
+use mathlib.Core.Bool.{Bool, true, false, _&&_}
 use mathlib.Core.List.{List}
-use Prim.Native.Nat.{ℕ, _+_, _*_, _/_, _%_, _<_}
+use mathlib.Core.Option.{some}
+use Prim.Native.Nat.{ℕ}
 use native.Mathlib.Omega.{arith}
-use borrow.Author.Tests.{eqb-true, ltb-true}
-use lib.ListN.{length, getD}
+use borrow.Author.Tests.{ltb-true, ltb-false, leb-false, eq-eqb, ne-eqb}
 use lib.Dec.{eqb, ltb}
-use Rattle.lists.proofs.TestsLaws.{and-left, and-right}
-use Rattle.lists.proofs.OverlayLaws.{map-indexes}
-use Rattle.kinds.specs.declared.table.Fields.{Fields}
-use Rattle.kinds.specs.Kinds.{unknown, primitive}
+use Rattle.lists.specs.Lists.{from, first}
+use Rattle.lists.proofs.TestsLaws.{and-right}
+use Rattle.kinds.specs.declared.Kind.the-variants.{Majority}
+use Rattle.kinds.specs.Kinds.{forCustom, unknown, is}
 use Rattle.component.specs.declared.Record.{Record}
 use Rattle.component.specs.declared.Verdict.the-variants.{Accepted}
-use Rattle.component.specs.Record.{recordCount, recordAt, fieldsOf, isPrimitive}
-use Rattle.component.proofs.RecordLaws.{fields-cases}
-use Rattle.flatten.specs.Verdict.{verdict}
-use Rattle.flatten.proofs.Accepted.{checkNumbered, accepted-sized, accepted-check}
+use Rattle.component.specs.Record.{numbersIn, recordCount, recordAt, fieldsOf}
+use Rattle.component.specs.Drawing.{fails7}
+use Rattle.flatten.specs.Verdict.{refused, verdict}
+use Rattle.flatten.proofs.Accepted.{accepted-check}
 use Rattle.meeting.specs.Meeting.{judgement}
-use Rattle.meeting.proofs.MeetingLaws.{judgement-accepted}
-use Rattle.tables.specs.Tables.{Tables, tablesOf, fieldsAt}
-use Rattle.load.specs.Load.{loadVerdict, loadTables}
-use Rattle.loaded.proofs.LoadTheorems.{accepted-primitive}
-use Rattle.demands.specs.Reached.{Reached}
-use Rattle.demands.proofs.Called.{Origin, reached-kept}
-use Rattle.demands.proofs.Demand3.{load-fresh}
-use Rattle.earlier.specs.Earlier.{kindTo, fileTo, wordTo, tablesTo, EarlierLoads, EarlierRuns}
-use Rattle.earlier.proofs.TakenLaws.{recordTo, fileTo-sized, fileTo-count, recordAt-to, fileTo-same}
+use Rattle.earlier.specs.Reader.{unheard}
+use Rattle.earlier.specs.Earlier.{later, fileTo, EarlierLoads, EarlierRuns, LaterFiles}
+use Rattle.earlier.proofs.TakenLaws.{numbersBy, placeBy, isNewer, takenBy, recordsTaken, Takes, newer-form}
+use Rattle.earlier.proofs.AlikeHolds.{Refuses, loads-alike, runs-alike}
+use Rattle.earlier.proofs.FirstHolds.{passing, judged-from7, found, judged-taken, answers-first}
 
--- A component of a later kind fails check 8, as the reader takes it.
-later-unknown : (last : ℕ) (r : Record) → r .form ≡ 1 → ltb last (r .kind) ≡ true
-    → (eqb (recordTo last r .form) 1 && unknown (fieldsOf (recordTo last r) .kind)) ≡ true
-later-unknown last r f q = rw (f, q)
+-- The place of the kind in a record; what the reader makes of a later kind, and of C.
+abbrev atKind : ℕ → Bool
+atKind i = eqb i 1
 
-module _ (last : ℕ) (file : List ℕ) (accepted : judgement (fileTo last file) ≡ Accepted) where
-  passed : verdict (fileTo last file) ≡ Accepted
-  passed = judgement-accepted (fileTo last file) accepted
+abbrev noKindOf : ℕ → ℕ
+noKindOf k = unheard
 
-  passes : (k p : ℕ) → p < recordCount file → checkNumbered (recordAt (fileTo last file)) (recordCount (fileTo last file)) k .1 p ≡ false
-  passes k p l = accepted-check (fileTo last file) passed k p (subst (λ (n : ℕ). p < n) (sym (fileTo-count last file)) l)
+abbrev itself : ℕ → ℕ
+itself c = c
 
-  -- No component is of a later kind.
-  pub within : (p : ℕ) → p < recordCount file → recordAt file p .form ≡ 1 → ltb last (recordAt file p .kind) ≡ false
-  within p l f = by-kind (ltb last (recordAt file p .kind)) refl
+-- Check 8 as a test of a record.
+abbrev test8 : Record → Bool
+test8 r = eqb (r .form) 1 && unknown (fieldsOf r .kind)
+
+module _ (last : ℕ) where
+  takes : Takes atKind (later last) noKindOf itself
+  takes s = by-test (isNewer (later last) (numbersIn s))
     where
-      by-kind : (b : Bool) → ltb last (recordAt file p .kind) ≡ b → b ≡ false
-      by-kind false q = refl
-      by-kind true q =
-          sym (later-unknown last (recordAt file p) f q)
-          ∙ ap (λ (r : Record). eqb (r .form) 1 && unknown (fieldsOf r .kind)) (sym (recordAt-to last file p)) ∙ passes 8 p l
+      by-test : (t : Bool) → numbersBy (placeBy atKind s t) ≡ takenBy noKindOf itself t (numbersIn s)
+      by-test true = refl
+      by-test false = refl
 
-  pub same-file : fileTo last file ≡ file
-  same-file =
-      fileTo-same last file (sym (fileTo-sized last file) ∙ accepted-sized (fileTo last file) passed)
-      (λ p l. ap (λ (r : Record). eqb (r .form) 0) (sym (recordAt-to last file p)) ∙ passes 3 p l) within
+  check8 : Refuses (later last) noKindOf itself 8 test8
+  check8 =
+      record {
+        tested = λ at n p. refl;
+        refuses = λ r e.
+            let f = newer-form (later last) r e in
+            ap (λ (t : Bool). test8 (takenBy noKindOf itself t r)) e ∙ rw f;
+      }
 
-  -- The kind of a primitive of the drawing is not past the last.
-  primitive-within : (p : ℕ) → p < recordCount file → isPrimitive (recordAt file p) ≡ true → ltb last (fieldsOf (recordAt file p) .kind) ≡ false
-  primitive-within p l e =
-      ⊎-elim (λ f. ap (ltb last) (component-kind (recordAt file p) f) ∙ within p l f)
-      (λ z. absurd (true≢false (sym e ∙ ap primitive z))) (fields-cases (recordAt file p))
-    where
-      component-kind : (r : Record) → r .form ≡ 1 → fieldsOf r .kind ≡ r .kind
-      component-kind r f = rw f
+  -- A later kind is not the composite's.
+  boxes : (r : Record) → isNewer (later last) r ≡ true → eqb (noKindOf (r .kind)) 0 ≡ eqb (r .kind) 0
+  boxes r e =
+      let f = newer-form (later last) r e in
+      let h : ltb last (fieldsOf r .kind) ≡ true = and-right (eqb (r .form) 1) (later last (fieldsOf r)) e in
+      let g : ltb last (r .kind) ≡ true = rw f at h in
+      sym (ne-eqb (r .kind) 0 (λ z. omega (arith, ltb-true last (r .kind) g)))
 
-  -- So the components of tables with a load's wiring are taken for what they are.
-  module _ (T : Tables) (o : Origin file T) where
-    word-same : (j : ℕ) → j < length (T .components) → wordTo last T j ≡ getD (T .components) j 0
-    word-same j h = by-place (eqb (j % 8) 0 && ltb j (8 * T .counts .components)) refl
+  module _ (file : List ℕ) (accepted : verdict file ≡ Accepted) where
+    abbrev at : ℕ → Record
+    at = recordAt file
+
+    abbrev seen : ℕ → Record
+    seen = recordsTaken (later last) noKindOf itself at
+
+    -- No kind is not Custom's.
+    taken7 : (p : ℕ) → fails7 at p ≡ false → fails7 seen p ≡ false
+    taken7 p e = by-test (isNewer (later last) (at p)) refl
       where
-        by-place : (b : Bool) → (eqb (j % 8) 0 && ltb j (8 * T .counts .components)) ≡ b
-            → cond b (kindTo last (getD (T .components) j 0)) (getD (T .components) j 0) ≡ getD (T .components) j 0
-        by-place false e = refl
-        by-place true e =
-            let m : j % 8 ≡ 0 = eqb-true (j % 8) 0 (and-left (eqb (j % 8) 0) (ltb j (8 * T .counts .components)) e) in
-            let u : j < 8 * T .counts .components =
-            ltb-true j (8 * T .counts .components) (and-right (eqb (j % 8) 0) (ltb j (8 * T .counts .components)) e) in
-            let i : ℕ = j / 8 in
-            let l : i < T .counts .components = omega arith in
-            let here : 8 * i + 0 ≡ j = omega arith in
-            let p = accepted-primitive file (o .lent) (o .accepted) T (o .wiring) i l in
-            let kind : fieldsOf (recordAt file (p .number)) .kind ≡ getD (T .components) j 0 =
-            ap (λ (f : Fields). f .kind) (sym (p .fields-are)) ∙ ap (λ (k : ℕ). getD (T .components) k 0) here in
-            rw (subst (λ (k : ℕ). ltb last k ≡ false) kind (primitive-within (p .number) (p .in-file) (p .of-primitive)))
+        by-test : (t : Bool) → isNewer (later last) (at p) ≡ t
+            → (eqb (at p .form) 1 && forCustom (fieldsOf (takenBy noKindOf itself t (at p)) .kind)) ≡ false
+        by-test false u = e
+        by-test true u = rw (newer-form (later last) (at p) u)
 
-    pub same-tables : tablesTo last T ≡ T
-    same-tables =
-        let e = map-indexes (wordTo last T) 0 (T .components) word-same in
-        ap (λ (cs : List ℕ). tablesOf cs (T .inputs) (T .outputs) (T .wires) (T .current) (T .following) (T .standing) (T .counts)) e
+    later-refused : (p : ℕ) → first (λ q. isNewer (later last) (at q)) (from 0 (recordCount file)) ≡ some p
+        → judgement (fileTo last file) ≡ refused 8 p
+    later-refused p e =
+        judged-taken file accepted (later last) noKindOf itself atKind takes 8 p refl
+        (judged-from7 file accepted (later last) noKindOf itself boxes
+        ∙ rw (passing file accepted 7 (fails7 seen) taken7, found file accepted (later last) noKindOf itself 8 test8 check8 p e))
 
 pub earlier-loads : EarlierLoads
-earlier-loads last file a =
-    let e = sym (same-file last file a) in (
-      ap judgement e ∙ a,
-      λ T. (ap (λ (s : List ℕ). loadVerdict s T) e, ap (λ (s : List ℕ). loadTables s T) e),
-    )
+earlier-loads last = loads-alike atKind (later last) noKindOf itself (takes last) 8 test8 (check8 last)
 
 pub earlier-runs : EarlierRuns
-earlier-runs last file ran t T a r = (
-  subst (λ (s : List ℕ). Reached s ran t T) (sym (same-file last file a)) r,
-  same-tables last file a T (reached-kept file (load-fresh file) r .0),
-)
+earlier-runs last = runs-alike atKind (later last) noKindOf itself (takes last) 8 test8 (check8 last) 0
+
+-- Past 14 there is one kind that check 8 passes.
+later-majority : (r : Record) → test8 r ≡ false → isNewer (later 14) r ≡ is Majority (fieldsOf r)
+later-majority r e = by-form (eqb (r .form) 1) refl
+  where
+    by-kind : (b : Bool) → ltb 14 (r .kind) ≡ b → unknown (r .kind) ≡ false → b ≡ eqb (r .kind) 15
+    by-kind true q u = sym (eq-eqb (r .kind) 15 (omega (arith, ltb-true 14 (r .kind) q, leb-false 16 (r .kind) u)))
+    by-kind false q u = sym (ne-eqb (r .kind) 15 (λ z. omega (arith, ltb-false 14 (r .kind) q)))
+
+    by-form : (b : Bool) → eqb (r .form) 1 ≡ b → isNewer (later 14) r ≡ is Majority (fieldsOf r)
+    by-form true f = rw f (by-kind (ltb 14 (r .kind)) refl (rw f at e))
+    by-form false f = rw f
+
+pub later-files : LaterFiles
+later-files =
+    answers-first atKind (later 14) noKindOf itself (takes 14) 8 (is Majority)
+    (λ file a q l. later-majority (recordAt file q) (accepted-check file a 8 q l)) (later-refused 14)

@@ -1,4 +1,7 @@
 pub mod TakenLaws
+pub mod AlikeHolds
+pub mod FirstHolds
 pub mod EarlierHolds
-pub mod LaterHolds
+pub mod WiderHolds
 pub mod Votes
+pub mod Snow

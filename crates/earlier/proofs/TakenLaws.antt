@@ -1,182 +1,177 @@
--- The records of a file as a reader takes it to whom the kinds end at a number: each is the record that is there, but that a component of a later kind
--- has a number that is no kind. Its size is the file's; and a file without such components is taken for what it is.
---   recordTo last r   a record so
+-- Laws of a reader of earlier days, whatever is newer than it. Each record is taken for what is there, but that of a newer component has another kind,
+-- or another C. A file's size stays, and a file, or tables, without newer components are taken for what they are.
+--   isNewer newer r          a record is that of a newer component
+--   recordTaken newer k c r  a record, as the reader takes it: k says what it makes of a newer component's kind, c of its C
+--   Takes                    what has to be known of a reader for that
 -- Assumes nothing.
-use mathlib.Core.Path.{_≡_, refl, sym, ap, _∙_, subst}
-use mathlib.Core.Bool.{Bool, true, false, cond, not, _&&_}
-use mathlib.Core.List.{List, map}
-use Prim.Native.Nat.{ℕ, _+_, _*_, _-_, _/_, _%_, _≤_, _<_}
+use mathlib.Core.Path.{_≡_, refl, sym, ap, _∙_}
+use mathlib.Core.Bool.{Bool, true, false, cond, _&&_}
+use mathlib.Core.List.{List}
+use Prim.Native.Nat.{ℕ, _+_, _*_, _/_, _%_, _<_}
+use native.Mathlib.Nat.{mod-lt}
 use native.Mathlib.Omega.{arith}
 use native.Mathlib.Decide.{decLt}
-use borrow.Author.Tests.{lt-ltb, le-ltb, eqb-true, eq-eqb, ne-eqb}
-use lib.ListN.{length, getD, take, drop, length-map}
-use lib.Dec.{eqb, leb, ltb}
+use borrow.Author.Tests.{lt-ltb, le-ltb, ltb-true, eqb-true}
+use lib.ListN.{length, getD, length-map}
+use lib.Dec.{eqb, ltb}
 use Rattle.lists.specs.Lists.{from}
 use Rattle.lists.proofs.MembersLaws.{from-length}
-use Rattle.lists.proofs.TestsLaws.{and-left, and-right}
+use Rattle.lists.proofs.TestsLaws.{and-left}
 use Rattle.lists.proofs.OverlayLaws.{map-at, map-indexes}
+use Rattle.kinds.specs.declared.table.Fields.{Fields}
 use Rattle.component.specs.declared.Record.{Record}
-use Rattle.component.specs.Record.{le16, le32, le64, numbersIn, wellFormed, noRecord, recordCount, sized, recordAt}
-use Rattle.component.specs.Reading.{recordIn, Readable}
-use Rattle.component.proofs.RecordLaws.{part-at, known-is}
-use Rattle.earlier.specs.Earlier.{kindTo, byteTo, fileTo}
+use Rattle.component.specs.Record.{numbersIn, wellFormed, noRecord, partAt, recordCount, sized, recordAt, looseAt, fieldsOf}
+use Rattle.component.specs.Reading.{recordIn}
+use Rattle.component.proofs.RecordLaws.{part-at}
+use Rattle.component.proofs.LooseLaws.{loose-none}
+use Rattle.tables.specs.Tables.{Tables, tablesOf, fieldsAt}
+use Rattle.earlier.specs.Reader.{unheard, byteTaken, fileTaken, wordTaken, tablesTaken}
 
--- A record, as the reader takes it.
-abbrev pub recordTo : ℕ → Record → Record
-recordTo last r =
+-- The nine numbers of a record, of which b says the byte at each place.
+abbrev pub numbersBy : (ℕ → ℕ) → Record
+numbersBy b =
+    let w : ℕ → ℕ = λ i. b i + 256 * b (i + 1) in
+    let v : ℕ → ℕ = λ i. w i + 65536 * w (i + 2) in
+    record { form = b 0; kind = b 1; owner = w 2; a = w 4; b = w 6; c = w 8; d = w 10; id = v 12; parameter = v 16 + 4294967296 * v 20 }
+
+-- Its 24 bytes are all that they come from.
+numbersBy-cong : (b c : ℕ → ℕ) → ((i : ℕ) → i < 24 → b i ≡ c i) → numbersBy b ≡ numbersBy c
+numbersBy-cong b c h j = numbersBy (λ i. h (i % 24) (mod-lt i (omega arith)) j)
+
+-- A record is that of a newer component.
+abbrev pub isNewer : (Fields → Bool) → Record → Bool
+isNewer newer r = eqb (r .form) 1 && newer (fieldsOf r)
+
+-- A record with another kind and another C where t says so.
+abbrev pub takenBy : (ℕ → ℕ) → (ℕ → ℕ) → Bool → Record → Record
+takenBy k c t r =
     record {
       form = r .form;
-      kind = cond (eqb (r .form) 1) (kindTo last (r .kind)) (r .kind);
+      kind = cond t (k (r .kind)) (r .kind);
       owner = r .owner;
       a = r .a;
       b = r .b;
-      c = r .c;
+      c = cond t (c (r .c)) (r .c);
       d = r .d;
       id = r .id;
       parameter = r .parameter;
     }
 
--- It is well formed exactly if the record is: check 3 asks nothing of a component's kind.
-wellFormed-to : (last : ℕ) (r : Record) → wellFormed (recordTo last r) ≡ wellFormed r
-wellFormed-to last r = by-form (eqb (r .form) 1) refl
-  where
-    by-form : (b : Bool) → eqb (r .form) 1 ≡ b → wellFormed (recordTo last r) ≡ wellFormed r
-    by-form true e = let f : r .form ≡ 1 = eqb-true (r .form) 1 e in rw f
-    by-form false e = rw e
+-- A record, as the reader takes it.
+abbrev pub recordTaken : (Fields → Bool) → (ℕ → ℕ) → (ℕ → ℕ) → Record → Record
+recordTaken newer k c r = takenBy k c (isNewer newer r) r
 
--- The 24 bytes of a record.
-abbrev part : List ℕ → ℕ → List ℕ
-part s p = take 24 (drop (24 * p) s)
+-- The records of a drawing so.
+abbrev pub recordsTaken : (Fields → Bool) → (ℕ → ℕ) → (ℕ → ℕ) → (ℕ → Record) → ℕ → Record
+recordsTaken newer k c at p = recordTaken newer k c (at p)
 
-module _ (last : ℕ) (file : List ℕ) where
-  pub fileTo-length : length (fileTo last file) ≡ length file
-  fileTo-length = length-map (from 0 (length file)) (byteTo last file) ∙ from-length 0 (length file)
+-- Byte i of the 24 bytes s of a record, where t says whether it is newer.
+abbrev pub placeBy : (ℕ → Bool) → List ℕ → Bool → ℕ → ℕ
+placeBy places s t i = cond (places i && t) unheard (getD s i 0)
 
-  pub fileTo-count : recordCount (fileTo last file) ≡ recordCount file
-  fileTo-count = rw fileTo-length
+-- The same byte, as the reader takes it.
+abbrev pub placeTaken : (ℕ → Bool) → (Fields → Bool) → List ℕ → ℕ → ℕ
+placeTaken places newer s i = cond (places i && eqb (numbersIn s .form) 1 && newer (fieldsOf (numbersIn s))) unheard (getD s i 0)
 
-  pub fileTo-sized : sized (fileTo last file) ≡ sized file
-  fileTo-sized = rw fileTo-length
+-- What the reader makes of the bytes at its places is k of the kind and c of C.
+abbrev pub Takes : (ℕ → Bool) → (Fields → Bool) → (ℕ → ℕ) → (ℕ → ℕ) → Type 0
+Takes places newer k c = (s : List ℕ) → numbersBy (placeTaken places newer s) ≡ recordTaken newer k c (numbersIn s)
 
-  module _ (p : ℕ) (inside : p < recordCount file) where
-    taken-at : (k : ℕ) → k < 24 → getD (part (fileTo last file) p) k 0 ≡ byteTo last file (24 * p + k)
-    taken-at k h = part-at (fileTo last file) p k h ∙ map-at (byteTo last file) (length file) (24 * p + k) 0 (omega arith)
+-- It is well formed exactly if the record is: check 3 asks nothing of a component's kind and C.
+wellFormed-by : (k c : ℕ → ℕ) (r : Record) (t : Bool) → (t ≡ true → r .form ≡ 1) → wellFormed (takenBy k c t r) ≡ wellFormed r
+wellFormed-by k c r true h = rw (h refl)
+wellFormed-by k c r false h = refl
 
-    -- All bytes but byte 1 are as they stand;
-    same : (k : ℕ) → k < 24 → (k ≡ 1 → ⊥) → getD (part (fileTo last file) p) k 0 ≡ getD (part file p) k 0
-    same k h n =
-        let e : eqb ((24 * p + k) % 24) 1 ≡ false = ne-eqb ((24 * p + k) % 24) 1 (λ z. n (omega arith)) in
-        taken-at k h ∙ rw e (sym (part-at file p k h))
+pub newer-form : (newer : Fields → Bool) (r : Record) → isNewer newer r ≡ true → r .form ≡ 1
+newer-form newer r e = eqb-true (r .form) 1 (and-left (eqb (r .form) 1) (newer (fieldsOf r)) e)
 
-    -- that one, where byte 0 is 1, is taken as a kind.
-    kind-byte : getD (part (fileTo last file) p) 1 0
-        ≡ cond (eqb (getD (part file p) 0 0) 1) (kindTo last (getD (part file p) 1 0)) (getD (part file p) 1 0)
-    kind-byte =
-        let e : eqb ((24 * p + 1) % 24) 1 ≡ true = eq-eqb ((24 * p + 1) % 24) 1 (omega arith) in
-        let b : 24 * p + 1 - 1 ≡ 24 * p + 0 = omega arith in
-        taken-at 1 (omega arith) ∙ rw (e, b, ← part-at file p 0 (omega arith), ← part-at file p 1 (omega arith))
+module _ (places : ℕ → Bool) (newer : Fields → Bool) (file : List ℕ) where
+  abbrev taken : List ℕ
+  taken = fileTaken places newer file
 
-    same16 : (k : ℕ) → 2 ≤ k → k + 1 < 24 → le16 (part (fileTo last file) p) k ≡ le16 (part file p) k
-    same16 k l h =
-        let x = same k (omega arith) (λ z. omega arith) in
-        let y = same (k + 1) h (λ z. omega arith) in
-        λ j. x j + 256 * y j
+  pub taken-length : length taken ≡ length file
+  taken-length = length-map (from 0 (length file)) (byteTaken places newer file) ∙ from-length 0 (length file)
 
-    same32 : (k : ℕ) → 2 ≤ k → k + 3 < 24 → le32 (part (fileTo last file) p) k ≡ le32 (part file p) k
-    same32 k l h =
-        let x = same16 k l (omega arith) in
-        let y = same16 (k + 2) (omega arith) (omega arith) in
-        λ j. x j + 65536 * y j
+  pub taken-count : recordCount taken ≡ recordCount file
+  taken-count = rw taken-length
 
-    same64 : (k : ℕ) → 2 ≤ k → k + 7 < 24 → le64 (part (fileTo last file) p) k ≡ le64 (part file p) k
-    same64 k l h =
-        let x = same32 k l (omega arith) in
-        let y = same32 (k + 4) (omega arith) (omega arith) in
-        λ j. x j + 4294967296 * y j
-
-    numbers-to : numbersIn (part (fileTo last file) p) ≡ recordTo last (numbersIn (part file p))
-    numbers-to =
-        let form = same 0 (omega arith) (λ z. omega arith) in
-        let owner = same16 2 (omega arith) (omega arith) in
-        let a = same16 4 (omega arith) (omega arith) in
-        let b = same16 6 (omega arith) (omega arith) in
-        let c = same16 8 (omega arith) (omega arith) in
-        let d = same16 10 (omega arith) (omega arith) in
-        let id = same32 12 (omega arith) (omega arith) in
-        let parameter = same64 16 (omega arith) (omega arith) in
-        λ j.
-        record {
-          form = form j;
-          kind = kind-byte j;
-          owner = owner j;
-          a = a j;
-          b = b j;
-          c = c j;
-          d = d j;
-          id = id j;
-          parameter = parameter j;
-        }
-
-    record-inside : recordAt (fileTo last file) p ≡ recordTo last (recordAt file p)
-    record-inside =
-        let r = numbersIn (part file p) in
-        let e : ltb p (recordCount file) ≡ true = lt-ltb p (recordCount file) inside in
-        let f : ltb p (recordCount (fileTo last file)) ≡ true = ap (ltb p) fileTo-count ∙ e in
-        let there : recordAt file p ≡ recordIn r = rw e in
-        let taken : recordAt (fileTo last file) p ≡ recordIn (numbersIn (part (fileTo last file) p)) = rw f in
-        taken ∙ ap recordIn numbers-to ∙ ap (λ (b : Bool). cond b (recordTo last r) noRecord) (wellFormed-to last r)
-        ∙ by-test (wellFormed r) r ∙ ap (recordTo last) (sym there)
-      where
-        by-test : (b : Bool) (r : Record) → cond b (recordTo last r) noRecord ≡ recordTo last (cond b r noRecord)
-        by-test true r = refl
-        by-test false r = refl
+  pub taken-sized : sized taken ≡ sized file
+  taken-sized = rw taken-length
 
   -- The record at any position.
-  pub recordAt-to : (p : ℕ) → recordAt (fileTo last file) p ≡ recordTo last (recordAt file p)
-  recordAt-to p = by-place (decLt p (recordCount file))
-    where
-      by-place : Dec (p < recordCount file) → recordAt (fileTo last file) p ≡ recordTo last (recordAt file p)
-      by-place (yes l) = record-inside p l
-      by-place (no h) =
-          let e : ltb p (recordCount file) ≡ false = le-ltb p (recordCount file) (omega arith) in
-          let f : ltb p (recordCount (fileTo last file)) ≡ false = ap (ltb p) fileTo-count ∙ e in
-          rw (f, e)
+  module _ (k c : ℕ → ℕ) (takes : Takes places newer k c) where
+    module _ (p : ℕ) (inside : p < recordCount file) where
+      byte-at : (i : ℕ) → i < 24 → getD (partAt taken p) i 0 ≡ placeTaken places newer (partAt file p) i
+      byte-at i h =
+          let q : (24 * p + i) / 24 ≡ p = omega arith in
+          let m : (24 * p + i) % 24 ≡ i = omega arith in
+          part-at taken p i h ∙ map-at (byteTaken places newer file) (length file) (24 * p + i) 0 (omega arith)
+          ∙ rw (q, m, lt-ltb p (recordCount file) inside, ← part-at file p i h)
 
-  pub records-to : recordAt (fileTo last file) ≡ (λ p. recordTo last (recordAt file p))
-  records-to i p = recordAt-to p i
+      numbers-at : numbersIn (partAt taken p) ≡ recordTaken newer k c (numbersIn (partAt file p))
+      numbers-at =
+          numbersBy-cong (λ i. getD (partAt taken p) i 0) (placeTaken places newer (partAt file p)) byte-at ∙ takes (partAt file p)
 
--- A file whose components are of no later kind is taken for what it is.
-module _ (last : ℕ) (file : List ℕ) (whole : sized file ≡ true) (readable : Readable file)
-    (within : (p : ℕ) → p < recordCount file → recordAt file p .form ≡ 1 → ltb last (recordAt file p .kind) ≡ false) where
-  rest : length file % 24 ≡ 0
-  rest =
-      eqb-true (length file % 24) 0
-      (and-right (not (eqb (length file) 0)) (eqb (length file % 24) 0)
-      (and-left (not (eqb (length file) 0) && eqb (length file % 24) 0) (leb (recordCount file) 1024) whole))
+      record-inside : recordAt taken p ≡ recordTaken newer k c (recordAt file p)
+      record-inside =
+          let r = numbersIn (partAt file p) in
+          let e : ltb p (recordCount file) ≡ true = lt-ltb p (recordCount file) inside in
+          let f : ltb p (recordCount taken) ≡ true = ap (ltb p) taken-count ∙ e in
+          let there : recordAt file p ≡ recordIn r = rw e in
+          let here : recordAt taken p ≡ recordIn (numbersIn (partAt taken p)) = rw f in
+          let well = wellFormed-by k c r (isNewer newer r) (newer-form newer r) in
+          here ∙ ap recordIn numbers-at ∙ ap (λ (b : Bool). cond b (recordTaken newer k c r) noRecord) well
+          ∙ by-test (wellFormed r) r ∙ ap (recordTaken newer k c) (sym there)
+        where
+          by-test : (b : Bool) (r : Record) → cond b (recordTaken newer k c r) noRecord ≡ recordTaken newer k c (cond b r noRecord)
+          by-test true r = refl
+          by-test false r = refl
 
-  bytes-of : (p : ℕ) → p < recordCount file → recordAt file p ≡ numbersIn (part file p)
-  bytes-of p l =
-      let n : 24 ≡ 24 * p + 24 - 24 * p = omega arith in
-      known-is file p (numbersIn (part file p)) l (ap (λ (k : ℕ). numbersIn (take k (drop (24 * p) file))) n) readable
+    pub recordAt-taken : (p : ℕ) → recordAt taken p ≡ recordTaken newer k c (recordAt file p)
+    recordAt-taken p = by-place (decLt p (recordCount file))
+      where
+        by-place : Dec (p < recordCount file) → recordAt taken p ≡ recordTaken newer k c (recordAt file p)
+        by-place (yes l) = record-inside p l
+        by-place (no h) =
+            let e : ltb p (recordCount file) ≡ false = le-ltb p (recordCount file) (omega arith) in
+            let f : ltb p (recordCount taken) ≡ false = ap (ltb p) taken-count ∙ e in
+            rw (f, e)
 
-  byte-same : (i : ℕ) → i < length file → byteTo last file i ≡ getD file i 0
-  byte-same i h = by-place (eqb (i % 24) 1 && eqb (getD file (i - 1) 0) 1) refl
-    where
-      by-place : (b : Bool) → (eqb (i % 24) 1 && eqb (getD file (i - 1) 0) 1) ≡ b
-          → cond b (kindTo last (getD file i 0)) (getD file i 0) ≡ getD file i 0
-      by-place false e = refl
-      by-place true e =
-          let m : i % 24 ≡ 1 = eqb-true (i % 24) 1 (and-left (eqb (i % 24) 1) (eqb (getD file (i - 1) 0) 1) e) in
-          let p : ℕ = i / 24 in
-          let l : p < recordCount file = omega (arith, rest) in
-          let before : 24 * p + 0 ≡ i - 1 = omega arith in
-          let here : 24 * p + 1 ≡ i = omega arith in
-          let form : recordAt file p .form ≡ 1 =
-          ap (λ (r : Record). r .form) (bytes-of p l) ∙ part-at file p 0 (omega arith) ∙ ap (λ (k : ℕ). getD file k 0) before
-          ∙ eqb-true (getD file (i - 1) 0) 1 (and-right (eqb (i % 24) 1) (eqb (getD file (i - 1) 0) 1) e) in
-          let kind : recordAt file p .kind ≡ getD file i 0 =
-          ap (λ (r : Record). r .kind) (bytes-of p l) ∙ part-at file p 1 (omega arith) ∙ ap (λ (k : ℕ). getD file k 0) here in
-          rw (subst (λ (k : ℕ). ltb last k ≡ false) kind (within p l form))
+    pub records-taken : recordAt taken ≡ recordsTaken newer k c (recordAt file)
+    records-taken i p = recordAt-taken p i
 
-  pub fileTo-same : fileTo last file ≡ file
-  fileTo-same = map-indexes (byteTo last file) 0 file byte-same
+-- A test of three that the last two make false.
+skipped : (a b c : Bool) (x y : ℕ) → (b && c) ≡ false → cond (a && b && c) x y ≡ y
+skipped true b c x y e = rw e
+skipped false b c x y e = refl
+
+-- A file without newer components is taken for what it is,
+pub file-same : (places : ℕ → Bool) (newer : Fields → Bool) (file : List ℕ)
+    → ((p : ℕ) → p < recordCount file → isNewer newer (looseAt file p) ≡ false) → fileTaken places newer file ≡ file
+file-same places newer file old = map-indexes (byteTaken places newer file) 0 file byte-same
+  where
+    none-newer : (p : ℕ) → Dec (p < recordCount file) → isNewer newer (looseAt file p) ≡ false
+    none-newer p (yes l) = old p l
+    none-newer p (no h) = ap (isNewer newer) (loose-none file p (omega arith))
+
+    byte-same : (i : ℕ) → i < length file → byteTaken places newer file i ≡ getD file i 0
+    byte-same i h =
+        let r = looseAt file (i / 24) in
+        skipped (places (i % 24)) (eqb (r .form) 1) (newer (fieldsOf r)) unheard (getD file i 0)
+        (none-newer (i / 24) (decLt (i / 24) (recordCount file)))
+
+-- and so are tables without them.
+pub tables-same : (k : ℕ) (newer : Fields → Bool) (T : Tables)
+    → ((i : ℕ) → i < T .counts .components → newer (fieldsAt T i) ≡ false) → tablesTaken k newer T ≡ T
+tables-same k newer T old =
+    ap (λ (cs : List ℕ). tablesOf cs (T .inputs) (T .outputs) (T .wires) (T .current) (T .following) (T .standing) (T .counts))
+    (map-indexes (wordTaken k newer T) 0 (T .components) word-same)
+  where
+    none-newer : (i : ℕ) (b : Bool) → ltb i (T .counts .components) ≡ b → (b && newer (fieldsAt T i)) ≡ false
+    none-newer i true e = old i (ltb-true i (T .counts .components) e)
+    none-newer i false e = refl
+
+    word-same : (j : ℕ) → j < length (T .components) → wordTaken k newer T j ≡ getD (T .components) j 0
+    word-same j h =
+        let u : Bool = ltb (j / 8) (T .counts .components) in
+        skipped (eqb (j % 8) k) u (newer (fieldsAt T (j / 8))) unheard (getD (T .components) j 0) (none-newer (j / 8) u refl)

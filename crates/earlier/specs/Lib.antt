@@ -1,1 +1,3 @@
+pub mod Reader
 pub mod Earlier
+pub mod Wider

@@ -111,6 +111,24 @@ row-few Clock f r = (omega (arith, r .inputs .most), omega (arith, r .outputs .m
 row-few Const f r = (omega (arith, r .inputs .most), omega (arith, r .outputs .most))
 row-few Majority f r = (omega (arith, r .inputs .most), omega (arith, r .outputs .most))
 
+-- Nor a C past the widest.
+pub row-width : (k : Kind) (f : Fields) → InRow (row k (f .width) (f .parameter)) f → f .width ≤ widest
+row-width Composite f r = omega (arith, r .width .most)
+row-width And f r = omega (arith, r .width .most)
+row-width Or f r = omega (arith, r .width .most)
+row-width Not f r = omega (arith, r .width .most)
+row-width Nand f r = omega (arith, r .width .most)
+row-width Nor f r = omega (arith, r .width .most)
+row-width Xor f r = omega (arith, r .width .most)
+row-width Switch f r = omega (arith, r .width .most)
+row-width Input f r = omega (arith, r .width .most)
+row-width Output f r = omega (arith, r .width .most)
+row-width Splitter f r = omega (arith, r .width .most)
+row-width Joiner f r = omega (arith, r .width .most)
+row-width Clock f r = omega (arith, r .width .most)
+row-width Const f r = omega (arith, r .width .most)
+row-width Majority f r = omega (arith, r .width .most)
+
 -- A primitive of kind k that obeys the table lies in the row of k.
 pub obeyed-row : (f : Fields) (k : Kind) → (primitive f && obeys f) ≡ true → f .kind ≡ numberOf k
     → InRow (row k (f .width) (f .parameter)) f

@@ -15,7 +15,7 @@ use lib.Dec.{eqb, leb}
 use Rattle.lists.specs.Lists.{from, every, has, distinct, appendNew}
 use Rattle.lists.specs.Marks.{IsMarked}
 use Rattle.lists.proofs.ListsLaws.{every-from, within-most}
-use Rattle.lists.proofs.TestsLaws.{and-left, and-right}
+use Rattle.lists.proofs.TestsLaws.{and-both, and-left, and-right}
 use Rattle.lists.proofs.MembersLaws.{In, in-right, has-sound, has-complete, has-none, map-sound, map-append, every-sound, every-complete, from0-sound}
 use Rattle.lists.proofs.MembersLaws.{from-append, from-last, distinct-sound, distinct-complete}
 use Rattle.lists.proofs.NamesLaws.{appendNew-distinct}
@@ -127,9 +127,6 @@ const-inside cs os i o h e =
     let r = obeyed-row (fieldsIn cs i) Const o (eqb-true (fieldsIn cs i .kind) 13 e) in
     omega (arith, r .outputs .least)
 
-pub both-true : (a b : Bool) → a ≡ true → b ≡ true → (a && b) ≡ true
-both-true a b p q = rw (p, q)
-
 every-imply : (f g : ℕ → Bool) (n : ℕ) → ((i : ℕ) → f i ≡ true → g i ≡ true) → every f (from 0 n) ≡ true → every g (from 0 n) ≡ true
 every-imply f g n h e = every-complete g (from 0 n) (λ i u. h i (every-sound f i (from 0 n) e u))
 
@@ -196,19 +193,19 @@ module _ (cs is os : List ℕ) (m : Counts) where
       let a = portsFollow-firstInput T (p .1 .1 .0) i h in
       let b = portsFollow-firstOutput T (p .1 .1 .0) i h in
       let follow : followAt cs i ≡ true =
-      both-true (eqb (firstInputIn cs i) (inputSum T i)) (eqb (firstOutputIn cs i) (outputSum T i)) (eq-eqb _ _ a) (eq-eqb _ _ b) in
+      and-both (eqb (firstInputIn cs i) (inputSum T i)) (eqb (firstOutputIn cs i) (outputSum T i)) (eq-eqb _ _ a) (eq-eqb _ _ b) in
       let u : inputSum T i + fieldsIn cs i .inputs ≤ m .inputs = omega (arith, a, portsFollow-inputs T (p .1 .1 .0) i h) in
       let w : outputSum T i + fieldsIn cs i .outputs ≤ m .outputs = omega (arith, b, portsFollow-outputs T (p .1 .1 .0) i h) in
       let within : withinAt cs m i ≡ true =
-      both-true (leb (inputSum T i + fieldsIn cs i .inputs) (m .inputs)) (leb (outputSum T i + fieldsIn cs i .outputs) (m .outputs))
+      and-both (leb (inputSum T i + fieldsIn cs i .inputs) (m .inputs)) (leb (outputSum T i + fieldsIn cs i .outputs) (m .outputs))
       (le-leb _ _ u) (le-leb _ _ w) in
       let ids : every (λ j. below (idIn cs j) 32) (from 0 n) ≡ true =
       and-left (every (λ j. below (idIn cs j) 32) (from 0 n)) (distinct (map (idIn cs) (from 0 n))) (p .1 .0) in
-      both-true (standsAt cs m i) (holdsAt cs is os i)
-      (both-true (obeyedAt cs i) (below (idIn cs i) 32 && (followAt cs i && withinAt cs m i)) (kindsObeyed-at T (p .0) i h)
-      (both-true (below (idIn cs i) 32) (followAt cs i && withinAt cs m i) (every-from (λ j. below (idIn cs j) 32) n ids i h)
-      (both-true (followAt cs i) (withinAt cs m i) follow within)))
-      (both-true (fitAt cs is os i) (heldAt cs os i) (every-from (fitAt cs is os) n (p .1 .1 .1 .0) i h)
+      and-both (standsAt cs m i) (holdsAt cs is os i)
+      (and-both (obeyedAt cs i) (below (idIn cs i) 32 && (followAt cs i && withinAt cs m i)) (kindsObeyed-at T (p .0) i h)
+      (and-both (below (idIn cs i) 32) (followAt cs i && withinAt cs m i) (every-from (λ j. below (idIn cs j) 32) n ids i h)
+      (and-both (followAt cs i) (withinAt cs m i) follow within)))
+      (and-both (fitAt cs is os i) (heldAt cs os i) (every-from (fitAt cs is os) n (p .1 .1 .1 .0) i h)
       (every-from (heldAt cs os) n (p .1 .1 .1 .1 .0) i h))
 
   -- so one that is not refutes them,

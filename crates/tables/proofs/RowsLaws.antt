@@ -12,11 +12,9 @@ use lib.ListN.{set}
 use lib.Seq.{sets}
 use Rattle.lists.proofs.TestsLaws.{and-left, and-right}
 use Rattle.value.specs.Value.{below}
-use Rattle.kinds.specs.declared.Kind.{Kind}
-use Rattle.kinds.specs.declared.Kind.the-variants.{Composite, And, Or, Not, Nand, Nor, Xor, Switch, Input, Output, Splitter, Joiner, Clock, Const, Majority}
 use Rattle.kinds.specs.declared.table.Fields.{Fields}
-use Rattle.kinds.specs.Kinds.{kindOf, primitive, obeys, row}
-use Rattle.kinds.proofs.ObeysLaws.{InRow, obeys-row, obeyed-kind}
+use Rattle.kinds.specs.Kinds.{kindOf, primitive, obeys}
+use Rattle.kinds.proofs.ObeysLaws.{obeys-row, row-few, row-width, obeyed-kind}
 use Rattle.kinds.proofs.KindsLaws.{kind-below}
 use Rattle.tables.specs.Words.{fieldsFit}
 
@@ -63,39 +61,16 @@ module _ (f : Fields) (e : fieldsFit f ≡ true) where
       (below (f .width) 16) e)
 
 -- The table of kinds allows no more.
-pub record Small (f : Fields) : Type 0 where
-  pub inputs : f .inputs < 65536
-  pub outputs : f .outputs < 65536
-  pub width : f .width < 65536
-
-row-small : (f : Fields) (k : Kind) → InRow (row k (f .width) (f .parameter)) f → Small f
-row-small f Composite r = record { inputs = omega arith; outputs = omega arith; width = omega arith }
-row-small f And r = record { inputs = omega arith; outputs = omega arith; width = omega arith }
-row-small f Or r = record { inputs = omega arith; outputs = omega arith; width = omega arith }
-row-small f Not r = record { inputs = omega arith; outputs = omega arith; width = omega arith }
-row-small f Nand r = record { inputs = omega arith; outputs = omega arith; width = omega arith }
-row-small f Nor r = record { inputs = omega arith; outputs = omega arith; width = omega arith }
-row-small f Xor r = record { inputs = omega arith; outputs = omega arith; width = omega arith }
-row-small f Switch r = record { inputs = omega arith; outputs = omega arith; width = omega arith }
-row-small f Input r = record { inputs = omega arith; outputs = omega arith; width = omega arith }
-row-small f Output r = record { inputs = omega arith; outputs = omega arith; width = omega arith }
-row-small f Splitter r = record { inputs = omega arith; outputs = omega arith; width = omega arith }
-row-small f Joiner r = record { inputs = omega arith; outputs = omega arith; width = omega arith }
-row-small f Clock r = record { inputs = omega arith; outputs = omega arith; width = omega arith }
-row-small f Const r = record { inputs = omega arith; outputs = omega arith; width = omega arith }
-row-small f Majority r = record { inputs = omega arith; outputs = omega arith; width = omega arith }
-
 pub obeyed-fit : (f : Fields) → (primitive f && obeys f) ≡ true → fieldsFit f ≡ true
 unfolding fieldsFit
 obeyed-fit f o =
-    let s = row-small f (kindOf (f .kind)) (obeys-row f (and-right (primitive f) (obeys f) o)) in
-    let k : f .kind < 256 = omega (arith, kind-below (f .kind) (obeyed-kind f o)) in
+    let r = obeys-row f (and-right (primitive f) (obeys f) o) in
+    let ports = row-few (kindOf (f .kind)) f r in
     rw (
-      lt-ltb (f .kind) 256 k,
-      lt-ltb (f .inputs) 65536 (s .inputs),
-      lt-ltb (f .outputs) 65536 (s .outputs),
-      lt-ltb
-          (f .width) 65536 (s .width),
+      lt-ltb (f .kind) 256 (omega (arith, kind-below (f .kind) (obeyed-kind f o))),
+      lt-ltb (f .inputs) 65536 (omega (arith, ports .0)),
+      lt-ltb (f .outputs) 65536 (omega (arith, ports .1)),
+      lt-ltb (f .width) 65536 (omega (arith, row-width (kindOf (f .kind)) f r)),
     )
 
 -- Where a word does not fit, the component does not obey the table.

@@ -2,18 +2,18 @@
 -- Not here: laws of 2 ^ k alone (lib.Pow).
 -- Assumes nothing.
 use mathlib.Core.Path.{_≡_, _∙_, refl, sym, ap, subst}
-use mathlib.Core.Bool.{Bool, true, false}
+use mathlib.Core.Bool.{Bool, true, false, cond}
 use Prim.Native.Nat.{ℕ, suc, _+_, _-_, _*_, _/_, _%_, _^_, _≤_, _<_}
 use native.Mathlib.Nat.{one-mul, div-one, div-eq-of-lt, div-lt-iff-lt-mul, lt-of-lt-of-le, add-mul, mod-lt, pow-suc}
 use native.Mathlib.Decide.{decLt}
 use native.Mathlib.Omega.{arith}
 use borrow.Author.Tests.{lt-ltb, le-ltb, eq-eqb, ne-eqb, ltb-true}
-use lib.Dec.{eqb}
+use lib.Dec.{eqb, ltb}
 use lib.Pow.{pow-pos, pow-mono, shl-exact, shr-lt, shr-shr, ones-split, split}
 use lib.Arith.{digits-div}
 use Rattle.lists.specs.Lists.{within}
 use Rattle.lists.proofs.ListsLaws.{within-most}
-use Rattle.lists.proofs.TestsLaws.{and-left, and-right}
+use Rattle.lists.proofs.TestsLaws.{and-left, and-right, and-both}
 use Rattle.value.specs.declared.Value.{Value}
 use Rattle.value.specs.Value.{widest, level, ones, below, fits, bitOf, ofWidth, complement}
 
@@ -40,13 +40,13 @@ shr-none n k = by-size (decLt n (2 ^ k))
         (λ e. h (rw one-mul at (div-lt-iff-lt-mul {x = n} {y = 1} (pow-pos k) .0 (rw e (omega arith)))))
         ∙ sym (le-ltb n (2 ^ k) (omega arith))
 
--- A word lies below every power past its width.
-pub word-below : (n k : ℕ) → n < 2 ^ 64 → 64 ≤ k → n < 2 ^ k
-word-below n k h g = lt-of-lt-of-le h (pow-mono g)
+-- A number of w bits lies below every further power,
+pub further-below : (n w k : ℕ) → n < 2 ^ w → w ≤ k → n < 2 ^ k
+further-below n w k h g = lt-of-lt-of-le h (pow-mono g)
 
--- A word has no bit past its width.
-pub no-bit : (n k : ℕ) → n < 2 ^ 64 → 64 ≤ k → 0 ≡ bitOf n k
-no-bit n k h g = rw (div-eq-of-lt (word-below n k h g))
+-- and has no bit past them.
+pub no-bit : (n w k : ℕ) → n < 2 ^ w → w ≤ k → 0 ≡ bitOf n k
+no-bit n w k h g = rw (div-eq-of-lt (further-below n w k h g))
 
 pub below-lt : (n w : ℕ) → below n w ≡ true → n < 2 ^ w
 below-lt n w e = ltb-true n (2 ^ w) e
@@ -75,10 +75,10 @@ module _ (v : Value) (e : fits v ≡ true) where
   pub fits-below : v .number < 2 ^ v .width
   fits-below = below-lt (v .number) (v .width) (and-right (within 1 widest (v .width)) (below (v .number) (v .width)) e)
 
-  pub flipped-fits : flipped v .number < 2 ^ v .width
+  flipped-fits : flipped v .number < 2 ^ v .width
   flipped-fits = omega (arith, pow-pos (v .width))
 
-  pub flipped-twice : flipped (flipped v) .number ≡ v .number
+  flipped-twice : flipped (flipped v) .number ≡ v .number
   flipped-twice = omega (arith, fits-below)
 
 -- The complement of a number that lies below 2^width lies below it too.
@@ -105,8 +105,8 @@ flip-shr j k n h =
     omega (arith, a, split n k, mod-lt n (pow-pos k), pow-pos k) in
     ap (λ (x : ℕ). x / 2 ^ k) e ∙ digits-div d (omega (arith, pow-pos k))
 
--- Each bit of the width is flipped, at every width.
-pub flipped-bit : (v : Value) (i : ℕ) → v .number < 2 ^ v .width → i < v .width
+-- Each bit of the width is flipped.
+flipped-bit : (v : Value) (i : ℕ) → v .number < 2 ^ v .width → i < v .width
     → bitOf (flipped v .number) i ≡ 1 - bitOf (v .number) i
 flipped-bit v i h l =
     let n : ℕ = v .number in
@@ -116,3 +116,31 @@ flipped-bit v i h l =
     let f : (2 ^ v .width - 1 - n) / 2 ^ i ≡ 2 ^ suc j - 1 - n / 2 ^ i =
     ap (λ (x : ℕ). (2 ^ x - 1 - n) / 2 ^ i) e ∙ flip-shr (suc j) i n b in
     ap (λ (x : ℕ). x % 2) f ∙ odd (2 ^ j) (n / 2 ^ i) (2 ^ suc j) (pow-suc 2 j) (shr-lt (suc j) i b)
+
+-- The complement of a value that fits, at every width: it fits, its bits are the other ones below the width and the same past it, and it is undone by itself.
+module _ (v : Value) (e : fits v ≡ true) where
+  complement-is : complement v ≡ flipped v
+  complement-is = rw e
+
+  flipped-value : fits (flipped v) ≡ true
+  flipped-value =
+      and-both (within 1 widest (v .width)) (below (flipped v .number) (v .width))
+      (and-left (within 1 widest (v .width)) (below (v .number) (v .width)) e) (lt-ltb (flipped v .number) (2 ^ v .width) (flipped-fits v e))
+
+  pub complement-value : fits (complement v) ≡ true
+  complement-value = ap fits complement-is ∙ flipped-value
+
+  pub complement-bit : (i : ℕ) → bitOf (complement v .number) i ≡ cond (ltb i (v .width)) (1 - bitOf (v .number) i) (bitOf (v .number) i)
+  complement-bit i = ap (λ (u : Value). bitOf (u .number) i) complement-is ∙ by-place (decLt i (v .width))
+    where
+      by-place : Dec (i < v .width) → bitOf (flipped v .number) i ≡ cond (ltb i (v .width)) (1 - bitOf (v .number) i) (bitOf (v .number) i)
+      by-place (yes l) = rw (lt-ltb i (v .width) l) (flipped-bit v i (fits-below v e) l)
+      by-place (no h) =
+          let g : v .width ≤ i = omega arith in
+          rw (le-ltb i (v .width) g)
+          (sym (no-bit (flipped v .number) (v .width) i (flipped-fits v e) g) ∙ no-bit (v .number) (v .width) i (fits-below v e) g)
+
+  pub complement-twice : complement (complement v) ≡ v
+  complement-twice =
+      let n = flipped-twice v e in
+      ap complement complement-is ∙ ap (λ (b : Bool). cond b (flipped (flipped v)) (flipped v)) flipped-value ∙ ap (ofWidth (v .width)) n

@@ -7,6 +7,9 @@ ghost use Rattle.value.specs.Value.{widest, ones, below, fits, fitsIn, b
 // The most bits of a value. The definition `widest` has the same number, and nothing else names it.
 pub const WIDEST: u64 = 64;
 
+// The bits of a word, which a shift must stay below. `WIDEST` is as many, and another thing.
+const WORD: u64 = 64;
+
 // A number with its width in bits; bit 0 is the lowest. Any two numbers may stand here, and `fits` says whether a port may hold them.
 pub struct Value {
     pub number: u64,
@@ -24,7 +27,7 @@ fn all_ones(width: u64) -> u64
     requires { ⌜ width ≤ 64 ⌝ }
     ensures { λ r. ⌜ r ≡ ones width ⌝ }
 {
-    if width < 64 {
+    if width < WORD {
         (1 << width) - 1
     } else {
         18446744073709551615
@@ -46,7 +49,7 @@ pub fn largest(width: u64) -> u64
 pub fn lies_below(number: u64, width: u64) -> bool
     ensures { λ r. ⌜ r ≡ below number width ⌝ }
 {
-    if width < 64 {
+    if width < WORD {
         number >> width == 0
     } else {
         true
@@ -79,7 +82,7 @@ impl Value {
     pub fn bit(self, i: u64) -> Value
         ensures { λ r. ⌜ r ≡ bit self i ⌝ }
     {
-        let number = if i < 64 { (self.number >> i) % 2 } else { 0 };
+        let number = if i < WORD { (self.number >> i) % 2 } else { 0 };
         Value { number, width: 1 }
     }
 

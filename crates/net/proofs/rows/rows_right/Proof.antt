@@ -7,6 +7,7 @@ use mathlib.Core.List.{[], map}
 use Prim.Native.Nat.{ℕ, _-_, _≤_}
 use native.Mathlib.Omega.{arith}
 use Rattle.lists.specs.Lists.{from, every, distinct}
+use Rattle.lists.proofs.TestsLaws.{and-both}
 use Rattle.lists.proofs.ListsLaws.{every-fails, every-next, every-end}
 use Rattle.lists.proofs.KeysLaws.{marks-start}
 use Rattle.kinds.specs.Marks.{markOf}
@@ -14,7 +15,7 @@ use Rattle.tables.specs.Words.{fieldsIn, idIn, uncounted}
 use Rattle.net.specs.Net.{inputSum, outputSum}
 use Rattle.net.specs.Parts.{obeyedAt, standsAt, holdsAt, rowRight, IdsMarked, Widths}
 use Rattle.net.proofs.LoopsLaws.{from-start, total-step}
-use Rattle.net.proofs.PassLaws.{both-true, stands-obeyed, stands-id, stands-ports, stands-within, ports-inside, within-inputs, within-outputs}
+use Rattle.net.proofs.PassLaws.{stands-obeyed, stands-id, stands-ports, stands-within, ports-inside, within-inputs, within-outputs}
 use Rattle.net.proofs.PassLaws.{rows-fail, rows-again, rows-end, distinct-next, widths-next}
 use Rattle.net.proofs.rows.rows_right.Statement.{statement}
 use Rattle.net.proofs.rows.rows_right.Tie as tie
@@ -130,7 +131,7 @@ right c =
     let at-loop = at-if1 .before .before .before in
     let s = at-loop .before .before .before .before in
     let a = s .args in
-    both-true (standsAt (a .components .now) (a .counts) (at-loop .loop .i))
+    and-both (standsAt (a .components .now) (a .counts) (at-loop .loop .i))
     (holdsAt (a .components .now) (a .inputs .now) (a .outputs .now) (at-loop .loop .i)) (stands at-if1)
     (sym (at-row-holds .row-holds .ensures .0) ∙ not-false _ (c .if2 .left))
 
