@@ -22,19 +22,16 @@ use Rattle.flatten.proofs.Accepted.{accepted-check}
 use Rattle.meeting.specs.Meeting.{judgement}
 use Rattle.earlier.specs.Reader.{unheard}
 use Rattle.earlier.specs.Earlier.{later, fileTo, EarlierLoads, EarlierRuns, LaterFiles}
-use Rattle.earlier.proofs.TakenLaws.{numbersBy, placeBy, isNewer, takenBy, recordsTaken, Takes, newer-form}
+use Rattle.earlier.proofs.TakenLaws.{numbersBy, placeBy, isNewer, takenBy, itself, recordsTaken, Takes, newer-form}
 use Rattle.earlier.proofs.AlikeHolds.{Refuses, loads-alike, runs-alike}
 use Rattle.earlier.proofs.FirstHolds.{passing, judged-from7, found, judged-taken, answers-first}
 
--- The place of the kind in a record; what the reader makes of a later kind, and of C.
+-- The place of the kind in a record; what the reader makes of a later kind. C it leaves as it is.
 abbrev atKind : ℕ → Bool
 atKind i = eqb i 1
 
 abbrev noKindOf : ℕ → ℕ
 noKindOf k = unheard
-
-abbrev itself : ℕ → ℕ
-itself c = c
 
 -- Check 8 as a test of a record.
 abbrev test8 : Record → Bool

@@ -61,6 +61,10 @@ takenBy k c t r =
 abbrev pub recordTaken : (Fields → Bool) → (ℕ → ℕ) → (ℕ → ℕ) → Record → Record
 recordTaken newer k c r = takenBy k c (isNewer newer r) r
 
+-- What the reader makes of a number that it leaves as it is.
+abbrev pub itself : ℕ → ℕ
+itself x = x
+
 -- The records of a drawing so.
 abbrev pub recordsTaken : (Fields → Bool) → (ℕ → ℕ) → (ℕ → ℕ) → (ℕ → Record) → ℕ → Record
 recordsTaken newer k c at p = recordTaken newer k c (at p)

@@ -19,16 +19,13 @@ use Rattle.component.specs.Drawing.{fails7, fails8}
 use Rattle.flatten.specs.Verdict.{refused, verdict}
 use Rattle.meeting.specs.Meeting.{judgement}
 use Rattle.earlier.specs.Wider.{wider, fileWithin, NarrowLoads, NarrowRuns, WideFiles}
-use Rattle.earlier.proofs.TakenLaws.{numbersBy, placeBy, isNewer, takenBy, recordsTaken, Takes, newer-form}
+use Rattle.earlier.proofs.TakenLaws.{numbersBy, placeBy, isNewer, takenBy, itself, recordsTaken, Takes, newer-form}
 use Rattle.earlier.proofs.AlikeHolds.{Refuses, loads-alike, runs-alike}
 use Rattle.earlier.proofs.FirstHolds.{passing, judged-from7, found, judged-taken, answers-first}
 
--- The places of C in a record; what the reader makes of a kind, and of the C of a wider component.
+-- The places of C in a record; what the reader makes of the C of a wider component. Its kind it leaves as it is.
 abbrev atC : ℕ → Bool
 atC i = eqb (i / 2) 4
-
-abbrev itself : ℕ → ℕ
-itself k = k
 
 abbrev noC : ℕ → ℕ
 noC c = 65535
