@@ -1,15 +1,16 @@
--- A file that a reader accepts has no component that is newer than it, if a check of each single record refuses every such component, as the reader takes
--- it. So the reader takes the file for what it is, and so it takes all tables that calls reach from a load of it: `LoadsAlike`, `RunsAlike`.
+-- If a check of each single record refuses every component that is newer than a reader, as the reader takes it, then to the reader that check fails at
+-- those besides: `ChecksNewer`. So a file that it accepts has none of them, and it takes the file for what it is, and all tables that calls reach from a load
+-- of it: `LoadsAlike`, `RunsAlike`.
 --   Refuses   what has to be known of a reader for that
 -- Assumes nothing.
 use mathlib.Core.Path.{_≡_, refl, sym, ap, _∙_, subst}
 use mathlib.Core.Logic.{⊎-elim}
-use mathlib.Core.Bool.{Bool, true, false, true≢false}
+use mathlib.Core.Bool.{Bool, true, false, _||_, or-false, true≢false}
 use mathlib.Core.List.{List}
 use Prim.Native.Nat.{ℕ, _<_}
 use borrow.Author.Tests.{eq-eqb}
 use lib.Dec.{eqb}
-use Rattle.lists.proofs.TestsLaws.{and-right-false}
+use Rattle.lists.proofs.TestsLaws.{and-right-false, or-second}
 use Rattle.kinds.specs.declared.table.Fields.{Fields}
 use Rattle.kinds.specs.Kinds.{primitive}
 use Rattle.component.specs.declared.Record.{Record}
@@ -26,8 +27,8 @@ use Rattle.loaded.proofs.LoadTheorems.{accepted-primitive}
 use Rattle.demands.specs.Reached.{Reached}
 use Rattle.demands.proofs.Called.{Origin, reached-kept}
 use Rattle.demands.proofs.Demand3.{load-fresh}
-use Rattle.earlier.specs.Reader.{fileTaken, tablesTaken, LoadsAlike, RunsAlike}
-use Rattle.earlier.proofs.TakenLaws.{isNewer, recordTaken, Takes, taken-count, recordAt-taken, file-same, tables-same}
+use Rattle.earlier.specs.Reader.{fileTaken, tablesTaken, ChecksNewer, LoadsAlike, RunsAlike}
+use Rattle.earlier.proofs.TakenLaws.{isNewer, takenBy, recordTaken, Takes, taken-count, recordAt-taken, file-same, tables-same}
 
 -- The check of a number tests each record by itself, and refuses a newer component, as the reader takes it.
 pub record Refuses (newer : Fields → Bool) (k c : ℕ → ℕ) (number : ℕ) (test : Record → Bool) : Type 0 where
@@ -36,6 +37,18 @@ pub record Refuses (newer : Fields → Bool) (k c : ℕ → ℕ) (number : ℕ) 
 
 module _ (places : ℕ → Bool) (newer : Fields → Bool) (k c : ℕ → ℕ) (takes : Takes places newer k c)
     (number : ℕ) (test : Record → Bool) (check : Refuses newer k c number test) where
+  pub checks-newer : (fails : (ℕ → Record) → ℕ → Bool) → ((at : ℕ → Record) (p : ℕ) → fails at p ≡ test (at p))
+      → ChecksNewer (fileTaken places newer) fails newer
+  checks-newer fails alone file p =
+      alone (recordAt (fileTaken places newer file)) p ∙ ap test (recordAt-taken places newer file k c takes p)
+      ∙ by-test (isNewer newer (recordAt file p)) refl ∙ ap (λ (b : Bool). b || isNewer newer (recordAt file p)) (sym (alone (recordAt file) p))
+    where
+      by-test : (b : Bool) → isNewer newer (recordAt file p) ≡ b → test (takenBy k c b (recordAt file p)) ≡ (test (recordAt file p) || b)
+      by-test true e =
+          ap (λ (b : Bool). test (takenBy k c b (recordAt file p))) (sym e) ∙ check .refuses (recordAt file p) e
+          ∙ sym (or-second (test (recordAt file p)) true refl)
+      by-test false e = sym (or-false (test (recordAt file p)))
+
   module _ (file : List ℕ) (accepted : judgement (fileTaken places newer file) ≡ Accepted) where
     abbrev taken : List ℕ
     taken = fileTaken places newer file

@@ -16,14 +16,14 @@ use Rattle.kinds.specs.Kinds.{forCustom, unknown, is}
 use Rattle.component.specs.declared.Record.{Record}
 use Rattle.component.specs.declared.Verdict.the-variants.{Accepted}
 use Rattle.component.specs.Record.{numbersIn, recordCount, recordAt, fieldsOf}
-use Rattle.component.specs.Drawing.{fails7}
+use Rattle.component.specs.Drawing.{fails7, fails8}
 use Rattle.flatten.specs.Verdict.{refused, verdict}
 use Rattle.flatten.proofs.Accepted.{accepted-check}
 use Rattle.meeting.specs.Meeting.{judgement}
 use Rattle.earlier.specs.Reader.{unheard}
-use Rattle.earlier.specs.Earlier.{later, fileTo, EarlierLoads, EarlierRuns, LaterFiles}
+use Rattle.earlier.specs.Earlier.{later, fileTo, EarlierChecks, EarlierLoads, EarlierRuns, LaterFiles}
 use Rattle.earlier.proofs.TakenLaws.{numbersBy, placeBy, isNewer, takenBy, itself, recordsTaken, Takes, newer-form}
-use Rattle.earlier.proofs.AlikeHolds.{Refuses, loads-alike, runs-alike}
+use Rattle.earlier.proofs.AlikeHolds.{Refuses, checks-newer, loads-alike, runs-alike}
 use Rattle.earlier.proofs.FirstHolds.{passing, judged-from7, found, judged-taken, answers-first}
 
 -- The place of the kind in a record; what the reader makes of a later kind. C it leaves as it is.
@@ -84,6 +84,9 @@ module _ (last : ℕ) where
         judged-taken file accepted (later last) noKindOf itself atKind takes 8 p refl
         (judged-from7 file accepted (later last) noKindOf itself boxes
         ∙ rw (passing file accepted 7 (fails7 seen) taken7, found file accepted (later last) noKindOf itself 8 test8 check8 p e))
+
+pub earlier-checks : EarlierChecks
+earlier-checks last = checks-newer atKind (later last) noKindOf itself (takes last) 8 test8 (check8 last) fails8 (λ at p. refl)
 
 pub earlier-loads : EarlierLoads
 earlier-loads last = loads-alike atKind (later last) noKindOf itself (takes last) 8 test8 (check8 last)

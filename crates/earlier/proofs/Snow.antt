@@ -95,7 +95,9 @@ wide-evaluated = refl
 abbrev constOf : ℕ → ℕ → Fields
 constOf w x = record { kind = numberOf Const; inputs = 0; outputs = 1; width = w; parameter = x }
 
-pub wide-consts : map (λ w. obeys (constOf w (ones w))) (63 ∷ 64 ∷ 65 ∷ []) ++ obeys (constOf 63 (2 ^ 63)) ∷ [] ≡ true ∷ true ∷ false ∷ false ∷ []
+pub wide-consts :
+    map (λ w. obeys (constOf w (ones w))) (63 ∷ 64 ∷ 65 ∷ []) ++ obeys (constOf 63 (2 ^ 63)) ∷ []
+    ≡ true ∷ true ∷ false ∷ false ∷ []
 unfolding obeys
 wide-consts = refl
 
@@ -105,5 +107,7 @@ pub wide-values :
     ≡ ofWidth 1 1 ∷ ofWidth 64 (ones 64) ∷ ofWidth 64 0 ∷ ofWidth 63 (2 ^ 63 - 2) ∷ []
 wide-values = refl
 
-pub wide-fits : map (λ w. fits (ofWidth w (ones 64))) (63 ∷ 64 ∷ 65 ∷ []) ++ fitsIn 64 (ofWidth 63 0) ∷ [] ≡ false ∷ true ∷ false ∷ false ∷ []
+pub wide-fits :
+    map (λ w. fits (ofWidth w (ones 64))) (63 ∷ 64 ∷ 65 ∷ []) ++ fitsIn 64 (ofWidth 63 0) ∷ []
+    ≡ false ∷ true ∷ false ∷ false ∷ []
 wide-fits = refl

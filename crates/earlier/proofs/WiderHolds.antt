@@ -15,12 +15,12 @@ use Rattle.kinds.proofs.ObeysLaws.{obeys-row, row-width}
 use Rattle.component.specs.declared.Record.{Record}
 use Rattle.component.specs.declared.Verdict.the-variants.{Accepted}
 use Rattle.component.specs.Record.{numbersIn, recordCount, recordAt, fieldsOf}
-use Rattle.component.specs.Drawing.{fails7, fails8}
+use Rattle.component.specs.Drawing.{fails7, fails8, fails9}
 use Rattle.flatten.specs.Verdict.{refused, verdict}
 use Rattle.meeting.specs.Meeting.{judgement}
-use Rattle.earlier.specs.Wider.{wider, fileWithin, NarrowLoads, NarrowRuns, WideFiles}
+use Rattle.earlier.specs.Wider.{wider, fileWithin, NarrowChecks, NarrowLoads, NarrowRuns, WideFiles}
 use Rattle.earlier.proofs.TakenLaws.{numbersBy, placeBy, isNewer, takenBy, itself, recordsTaken, Takes, newer-form}
-use Rattle.earlier.proofs.AlikeHolds.{Refuses, loads-alike, runs-alike}
+use Rattle.earlier.proofs.AlikeHolds.{Refuses, checks-newer, loads-alike, runs-alike}
 use Rattle.earlier.proofs.FirstHolds.{passing, judged-from7, found, judged-taken, answers-first}
 
 -- The places of C in a record; what the reader makes of the C of a wider component. Its kind it leaves as it is.
@@ -98,6 +98,9 @@ module _ (w : ℕ) where
           passing file accepted 8 (fails8 seen) (λ q z. taken8 q ∙ z),
           found file accepted (wider w) itself noC 9 test9 check9 p e,
         ))
+
+pub narrow-checks : NarrowChecks
+narrow-checks w = checks-newer atC (wider w) itself noC (takes w) 9 test9 (check9 w) fails9 (λ at p. refl)
 
 pub narrow-loads : NarrowLoads
 narrow-loads w = loads-alike atC (wider w) itself noC (takes w) 9 test9 (check9 w)

@@ -1,6 +1,7 @@
 -- What appending a kind owes to the files and the readers of earlier days. docs/SPECIFICATION.md, "The drawing file".
 --   later last f                a component's kind is past `last`
 --   fileTo, tablesTo            a file, and the tables of a net, as a reader takes them to whom the kinds end at `last`
+--   EarlierChecks               its check 8 fails at a later kind as well
 --   EarlierLoads, EarlierRuns   a file that it accepts is accepted, loads to the same tables and runs alike
 --   LaterFiles                  any other file that is accepted gets 8 from a reader without Majority, at its first Majority
 -- Assumes nothing.
@@ -11,8 +12,9 @@ use lib.Dec.{eqb, ltb}
 use Rattle.kinds.specs.declared.Kind.the-variants.{Majority}
 use Rattle.kinds.specs.declared.table.Fields.{Fields}
 use Rattle.kinds.specs.Kinds.{is}
+use Rattle.component.specs.Drawing.{fails8}
 use Rattle.tables.specs.Tables.{Tables}
-use Rattle.earlier.specs.Reader.{fileTaken, tablesTaken, LoadsAlike, RunsAlike, AnswersFirst}
+use Rattle.earlier.specs.Reader.{fileTaken, tablesTaken, ChecksNewer, LoadsAlike, RunsAlike, AnswersFirst}
 
 -- The kind of a component is past the last.
 abbrev pub later : ℕ → Fields → Bool
@@ -25,6 +27,10 @@ fileTo last = fileTaken (λ i. eqb i 1) (later last)
 -- nor is word 0 of its entry.
 abbrev pub tablesTo : ℕ → Tables → Tables
 tablesTo last = tablesTaken 0 (later last)
+
+-- So its check 8, "the kind is none", fails at every later kind.
+abbrev pub EarlierChecks : Type 0
+EarlierChecks = (last : ℕ) → ChecksNewer (fileTo last) fails8 (later last)
 
 -- "Every file accepted before" is accepted, and "loads to the same net".
 abbrev pub EarlierLoads : Type 0

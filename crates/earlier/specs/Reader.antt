@@ -2,20 +2,23 @@
 -- for one that is none, and answers a file, or tables, as it takes them. So it needs no definitions of its own.
 --   unheard                  a number that is no kind and no C, and stays none
 --   fileTaken, tablesTaken   a file, and the tables of a net, as a reader takes them
+--   ChecksNewer              a check that it makes fails where it fails, and at each newer component
 --   LoadsAlike, RunsAlike    a file that it accepts is accepted, loads to the same tables and runs alike
 --   AnswersFirst             any other file that is accepted gets a number from it, at the first component of a sort
 -- Assumes nothing.
 use mathlib.Core.Path.{_≡_}
 use Prim.Native.Nat.{ℕ, _/_, _%_}
-use mathlib.Core.Bool.{Bool, cond, _&&_}
+use mathlib.Core.Bool.{Bool, cond, _&&_, _||_}
 use mathlib.Core.List.{List, map}
 use mathlib.Core.Option.{some}
 use lib.ListN.{length, getD}
 use lib.Dec.{eqb, ltb}
 use Rattle.lists.specs.Lists.{from, first}
 use Rattle.kinds.specs.declared.table.Fields.{Fields}
+use Rattle.component.specs.declared.Record.{Record}
 use Rattle.component.specs.declared.Verdict.the-variants.{Accepted}
 use Rattle.component.specs.Record.{recordAt, looseAt, recordCount, fieldsOf}
+use Rattle.component.specs.Drawing.{isComponent}
 use Rattle.flatten.specs.Verdict.{refused}
 use Rattle.meeting.specs.Meeting.{judgement}
 use Rattle.tables.specs.Tables.{Tables, tablesOf, fieldsAt}
@@ -46,6 +49,12 @@ abbrev pub tablesTaken : ℕ → (Fields → Bool) → Tables → Tables
 tablesTaken k newer T =
     tablesOf (map (wordTaken k newer T) (from 0 (length (T .components)))) (T .inputs) (T .outputs) (T .wires) (T .current) (T .following)
     (T .standing) (T .counts)
+
+-- Of any file, a check that the reader makes fails at a record where it fails, and where the record is that of a newer component.
+abbrev pub ChecksNewer : (List ℕ → List ℕ) → ((ℕ → Record) → ℕ → Bool) → (Fields → Bool) → Type 0
+ChecksNewer taken fails newer =
+    (file : List ℕ) (p : ℕ)
+    → fails (recordAt (taken file)) p ≡ (fails (recordAt file) p || (isComponent (recordAt file) p && newer (fieldsOf (recordAt file p))))
 
 -- Every file that the reader accepts is accepted, and loads to the same tables.
 abbrev pub LoadsAlike : (List ℕ → List ℕ) → Type 0

@@ -1,6 +1,7 @@
 -- What wider values owe to the files and the readers of earlier days. docs/SPECIFICATION.md, "The drawing file" (the table of kinds).
 --   wider w f                   a port of a component has more than w bits
 --   fileWithin, tablesWithin    a file, and the tables of a net, as a reader takes them to whom widths end at w
+--   NarrowChecks                its check 9 fails at a wider port as well
 --   NarrowLoads, NarrowRuns     a file that it accepts is accepted, loads to the same tables and behaves as before
 --   WideFiles                   any other file that is accepted gets 9 from it, at its first component with a wider port
 -- Assumes nothing.
@@ -10,8 +11,9 @@ use mathlib.Core.List.{List}
 use lib.Dec.{eqb, ltb}
 use Rattle.kinds.specs.declared.table.Fields.{Fields}
 use Rattle.kinds.specs.Kinds.{inputWidth, outputWidth}
+use Rattle.component.specs.Drawing.{fails9}
 use Rattle.tables.specs.Tables.{Tables}
-use Rattle.earlier.specs.Reader.{fileTaken, tablesTaken, LoadsAlike, RunsAlike, AnswersFirst}
+use Rattle.earlier.specs.Reader.{fileTaken, tablesTaken, ChecksNewer, LoadsAlike, RunsAlike, AnswersFirst}
 
 -- A port of a component has more than w bits.
 abbrev pub wider : ℕ → Fields → Bool
@@ -24,6 +26,10 @@ fileWithin w = fileTaken (λ i. eqb (i / 2) 4) (wider w)
 -- nor is word 2 of its entry.
 abbrev pub tablesWithin : ℕ → Tables → Tables
 tablesWithin w = tablesTaken 2 (wider w)
+
+-- So its check 9, "a component breaks the table of kinds", fails at every port of more than w bits.
+abbrev pub NarrowChecks : Type 0
+NarrowChecks = (w : ℕ) → ChecksNewer (fileWithin w) fails9 (wider w)
 
 -- "Every file accepted before" is accepted, and loads to the same tables.
 abbrev pub NarrowLoads : Type 0
