@@ -245,7 +245,8 @@ fn guess_maps(file: &[u8], n: usize, index: &mut [u16])
     }
 }
 
-// Fills the index. Crate flatten calls it for a file of at most 1,024 records that the checks before have passed, with room for the index.
+// Fills the index. Crate flatten calls it for a file of at most 1,024 records that the checks before have passed, and crate mend for the
+// components of one; both with room for the index.
 pub fn fill_index(file: &[u8], index: &mut [u16])
     requires { ⌜ Readable (now file) × (recordCount (now file) ≤ 1024) × (length (now index) ≡ 3072) ⌝ }
     ensures { λ _. ⌜ IsIndex (now (file .entry)) (now (index .exit)) ⌝ }
@@ -272,8 +273,8 @@ fn is_child(file: &[u8], index: &[u16], c: usize, o: usize, k: u16) -> bool
     is_owned(file, c, 1, o) & (index[c] == k)
 }
 
-// Child k of owner o; the number of records where there is none, which the index knows of each of its owners. Crates checks, flatten and laying call it
-// with the index filled.
+// Child k of owner o; the number of records where there is none, which the index knows of each of its owners. Crates checks, flatten, laying and mend
+// call it with the index filled.
 pub fn child_of(file: &[u8], index: &[u16], o: usize, k: ChildNo) -> usize
     requires { ⌜ IsIndex (now file) (now index) ⌝ }
     ensures { λ r. ⌜ r ≡ child (recordAt (now (file .entry))) (recordCount (now (file .entry))) o (k .0) ⌝ }

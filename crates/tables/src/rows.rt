@@ -62,7 +62,7 @@ pub fn output_count(components: &[u64], i: usize) -> usize
     word_of(components, i, 5) as usize
 }
 
-// Where its inputs start in their table. Crates net, rounds, simulator and questions call it likewise.
+// Where its inputs start in their table. Crates net, rounds, judging, simulator and questions call it likewise.
 pub fn first_input(components: &[u64], i: usize) -> usize
     requires { ⌜ RowInside (now components) i ⌝ }
     ensures { λ r. ⌜ r ≡ firstInputIn (now (components .entry)) i ⌝ }
@@ -78,7 +78,7 @@ pub fn first_output(components: &[u64], i: usize) -> usize
     word_of(components, i, 7) as usize
 }
 
-// Whether component i is of a kind. Crates net, rounds and simulator call it likewise.
+// Whether component i is of a kind. Crates net, rounds, judging and simulator call it likewise.
 pub fn is_kind(components: &[u64], i: usize, kind: Kind) -> bool
     requires { ⌜ RowInside (now components) i ⌝ }
     ensures { λ r. ⌜ r ≡ is kind (fieldsIn (now (components .entry)) i) ⌝ }
@@ -106,8 +106,8 @@ pub fn fields_fit(components: &[u64], i: usize) -> bool
     (kind < 256) & (inputs < 65536) & (outputs < 65536) & (width < 65536)
 }
 
-// The fields of component i, whose words fit. Crates net, rounds, simulator and questions call it for the components
-// of a net.
+// The fields of component i, whose words fit. Crates net, rounds, judging, simulator and questions call it for the
+// components of a net.
 pub fn fields_at(components: &[u64], i: usize) -> Fields
     requires { ⌜ RowInside (now components) i × (fieldsFit (fieldsIn (now components) i) ≡ true) ⌝ }
     ensures { λ r. ⌜ r ≡ fieldsIn (now (components .entry)) i ⌝ }

@@ -27,7 +27,7 @@ fn end_at(wires: &[u16], k: usize, j: usize) -> End
     End { comp, port }
 }
 
-// Wire k, whose words stand in the table. Crates net, rounds, simulator, questions and lines call it.
+// Wire k, whose words stand in the table. Crates net, rounds, judging, simulator, questions and lines call it.
 pub fn wire_at(wires: &[u16], k: usize) -> Wire
     requires { ⌜ WireInside (now wires) k ⌝ }
     ensures { λ r. ⌜ r ≡ wireIn (now (wires .entry)) k ⌝ }
