@@ -18,7 +18,7 @@ use Rattle.net.specs.Net.{countsWithin, kindsObeyed, idsDistinct, portsFollow, 
 use Rattle.rounds.specs.Round.{leave, evaluated, send, visit, round, calm, roundBits, roundOf}
 use Rattle.simulator.specs.Edit.{goesFirst, stands, portSet, editedState}
 use Rattle.judging.specs.Judged.{judgedNamed}
-use Rattle.simulator.specs.Calls.{roundTables, editNumber, editTables, bitsSet, run}
+use Rattle.simulator.specs.Calls.{roundTables, editNumber, editTables, bitsSet, runBy, run}
 use Rattle.component.proofs.Drawings.{lamp}
 use Rattle.demands.proofs.Lamp.{lampLoaded, lampSet}
 
@@ -41,7 +41,7 @@ lamp-lists = refl
 
 -- Run until calm with a limit of 16: two rounds, 4 + 1 evaluations.
 pub lamp-run : netNumber lampLoaded ∷ run 16 0 lampLoaded .rounds ∷ run 16 0 lampLoaded .evaluations ∷ [] ≡ 0 ∷ 2 ∷ 5 ∷ []
-unfolding loadTables loadVerdict drawingTables judgement verdict overlay fullSize deepest obeys outputBelow inputsBelow comesFrom goesTo roundTables netNumber isNet countsWithin kindsObeyed idsDistinct portsFollow valuesFit constsHeld wiresFit inputsOnce names roundOf leave round visit evaluated send outputsAfter functionOf appendNew strike run calm
+unfolding loadTables loadVerdict drawingTables judgement verdict overlay fullSize deepest obeys outputBelow inputsBelow comesFrom goesTo roundTables netNumber isNet countsWithin kindsObeyed idsDistinct portsFollow valuesFit constsHeld wiresFit inputsOnce names roundOf leave round visit evaluated send outputsAfter functionOf appendNew strike runBy calm
 lamp-run = refl
 
 -- Switch 0 set after round 2, the old way: the current lists of rounds 3 to 7, and of round 8.
@@ -64,7 +64,7 @@ lamp-judged = refl
 
 -- Run until calm from there: the five rounds, with 0 + 0 + 1 + 2 + 1 evaluations.
 pub lamp-timing-run : run 16 0 (lampSet stands 0) .rounds ∷ run 16 0 (lampSet stands 0) .evaluations ∷ [] ≡ 5 ∷ 4 ∷ []
-unfolding loadTables loadVerdict drawingTables judgement verdict overlay fullSize deepest obeys outputBelow inputsBelow comesFrom goesTo roundTables netNumber isNet countsWithin kindsObeyed idsDistinct portsFollow valuesFit constsHeld wiresFit inputsOnce names roundOf leave round visit evaluated send outputsAfter functionOf appendNew strike editTables editNumber editedState portSet run calm
+unfolding loadTables loadVerdict drawingTables judgement verdict overlay fullSize deepest obeys outputBelow inputsBelow comesFrom goesTo roundTables netNumber isNet countsWithin kindsObeyed idsDistinct portsFollow valuesFit constsHeld wiresFit inputsOnce names roundOf leave round visit evaluated send outputsAfter functionOf appendNew strike editTables editNumber editedState portSet runBy calm
 lamp-timing-run = refl
 
 -- Which outputs moved: in round 1 the Nor's and the Output's, in round 2 none; after the Switch is set, in rounds 3 to 7, its own bit stays 0 and those two
@@ -73,7 +73,7 @@ pub lamp-moved :
     (roundBits 0 lampLoaded ∷ roundBits 0 (roundTables lampLoaded 0) ∷ map (λ k. roundBits 0 (lampSet stands k)) (from 0 5)
     ≡ (0 ∷ 0 ∷ 1 ∷ 1 ∷ []) ∷ (0 ∷ []) ∷ [] ∷ [] ∷ (0 ∷ []) ∷ (0 ∷ 1 ∷ []) ∷ (1 ∷ []) ∷ [])
     × (run 16 0 lampLoaded .moved ∷ run 16 0 (lampSet stands 0) .moved ∷ [] ≡ 2 ∷ 2 ∷ [])
-unfolding loadTables loadVerdict drawingTables judgement verdict overlay fullSize deepest obeys outputBelow inputsBelow comesFrom goesTo roundTables netNumber isNet countsWithin kindsObeyed idsDistinct portsFollow valuesFit constsHeld wiresFit inputsOnce names roundOf leave round visit evaluated send outputsAfter functionOf appendNew strike editTables editNumber editedState portSet run calm roundBits movedOutputs bitsSet
+unfolding loadTables loadVerdict drawingTables judgement verdict overlay fullSize deepest obeys outputBelow inputsBelow comesFrom goesTo roundTables netNumber isNet countsWithin kindsObeyed idsDistinct portsFollow valuesFit constsHeld wiresFit inputsOnce names roundOf leave round visit evaluated send outputsAfter functionOf appendNew strike editTables editNumber editedState portSet runBy calm roundBits movedOutputs bitsSet
 lamp-moved = (refl, refl)
 
 -- The same with an edit that goes first: the current lists of rounds 3 to 5, and of round 6; calm before each; a run until calm from there: rounds,
@@ -82,5 +82,5 @@ pub lamp-first :
     (map (λ k. currentList (lampSet goesFirst k)) (from 0 4) ≡ (0 ∷ []) ∷ (2 ∷ []) ∷ (3 ∷ []) ∷ [] ∷ [])
     × (map (λ k. calm (lampSet goesFirst k)) (from 0 4) ≡ false ∷ false ∷ false ∷ true ∷ [])
     × (run 16 0 (lampSet goesFirst 0) .rounds ∷ run 16 0 (lampSet goesFirst 0) .evaluations ∷ run 16 0 (lampSet goesFirst 0) .moved ∷ [] ≡ 3 ∷ 3 ∷ 2 ∷ [])
-unfolding loadTables loadVerdict drawingTables judgement verdict overlay fullSize deepest obeys outputBelow inputsBelow comesFrom goesTo roundTables netNumber isNet countsWithin kindsObeyed idsDistinct portsFollow valuesFit constsHeld wiresFit inputsOnce names roundOf leave round visit evaluated send outputsAfter functionOf appendNew strike editTables editNumber editedState portSet run calm roundBits movedOutputs bitsSet
+unfolding loadTables loadVerdict drawingTables judgement verdict overlay fullSize deepest obeys outputBelow inputsBelow comesFrom goesTo roundTables netNumber isNet countsWithin kindsObeyed idsDistinct portsFollow valuesFit constsHeld wiresFit inputsOnce names roundOf leave round visit evaluated send outputsAfter functionOf appendNew strike editTables editNumber editedState portSet runBy calm roundBits movedOutputs bitsSet
 lamp-first = (refl, refl, refl)

@@ -22,7 +22,7 @@ use Rattle.tables.specs.Tables.{Tables, fullSize}
 use Rattle.load.specs.Load.{drawingTables, loadVerdict, loadTables}
 use Rattle.net.specs.Net.{countsWithin, kindsObeyed, idsDistinct, portsFollow, valuesFit, constsHeld, wiresFit, inputsOnce, names, isNet, netNumber}
 use Rattle.rounds.specs.Round.{leave, evaluated, send, visit, round, calm, roundOf}
-use Rattle.simulator.specs.Calls.{roundTables, run, runTables}
+use Rattle.simulator.specs.Calls.{roundTables, runBy, run, runTables}
 use Rattle.component.proofs.Drawings.{lamp}
 use Rattle.demands.proofs.Lamp.{sevens, lampLoaded}
 use Rattle.demands.specs.Reached.{Reached, untilCalm, called}
@@ -47,7 +47,7 @@ lamp-reached b =
 
 -- It leaves calm.
 lamp-left-calm : calm lampCalm ≡ true
-unfolding loadTables loadVerdict drawingTables judgement verdict overlay fullSize deepest obeys outputBelow inputsBelow comesFrom goesTo roundTables netNumber isNet countsWithin kindsObeyed idsDistinct portsFollow valuesFit constsHeld wiresFit inputsOnce names roundOf leave round visit evaluated send outputsAfter functionOf appendNew strike runTables run calm
+unfolding loadTables loadVerdict drawingTables judgement verdict overlay fullSize deepest obeys outputBelow inputsBelow comesFrom goesTo roundTables netNumber isNet countsWithin kindsObeyed idsDistinct portsFollow valuesFit constsHeld wiresFit inputsOnce names roundOf leave round visit evaluated send outputsAfter functionOf appendNew strike runTables runBy calm
 lamp-left-calm = refl
 
 bytes-below : (xs : List ℕ) → every (λ x. ltb x 256) xs ≡ true → (i : ℕ) → getD xs i 0 < 256

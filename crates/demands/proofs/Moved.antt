@@ -22,7 +22,7 @@ use Rattle.primitive.proofs.FitLaws.{outputsAfter-length}
 use Rattle.primitive.proofs.EvaluateLaws.{passed-own, done-outputs}
 use Rattle.tables.specs.Tables.{Tables, fieldsAt, currentList}
 use Rattle.rounds.specs.Round.{calm, roundBits}
-use Rattle.simulator.specs.Calls.{roundTables, roundMoved, bitsSet, noRound, run}
+use Rattle.simulator.specs.Calls.{roundTables, roundMoved, bitsSet, noRound, runBy, run}
 use Rattle.simulator.proofs.Kept.{roundTables-done}
 use Rattle.simulator.proofs.CallsLaws.{roundNumber-room, roundCall-room}
 use Rattle.quiet.proofs.Moved.{round-bits-length, round-bit, round-still}
@@ -79,7 +79,7 @@ bits-beside T bits t = (
 )
 
 pub run-sum : RunSum
-unfolding run
+unfolding runBy
 run-sum zero t T = refl
 run-sum (suc k) t T = ap (λ (x : ℕ). total bitsSet (roundBits t T) + x) (by-calm (calm (roundTables T t)) (run-sum k t (roundTables T t)))
   where

@@ -23,7 +23,7 @@ use Rattle.tables.specs.Tables.{Tables, tablesOf, fullSize}
 use Rattle.load.specs.Load.{drawingTables, loadVerdict, loadTables}
 use Rattle.net.specs.Net.{countsWithin, kindsObeyed, idsDistinct, portsFollow, valuesFit, constsHeld, wiresFit, inputsOnce, names, isNet, netNumber}
 use Rattle.rounds.specs.Round.{leave, evaluated, send, visit, round, calm, roundOf}
-use Rattle.simulator.specs.Calls.{roundTables, run}
+use Rattle.simulator.specs.Calls.{roundTables, runBy, run}
 use Rattle.demands.proofs.Lamp.{sevens}
 use Rattle.demands.proofs.Marked.{evaluating}
 use Rattle.earlier.specs.Wider.{fileWithin}
@@ -77,7 +77,7 @@ pub snow-run :
     (run 16 0 snowLoaded .rounds ∷ run 16 0 snowLoaded .evaluations ∷ [])
     ∷ take 2 (roundTables (roundTables snowLoaded 0) 0 .outputs) ∷ []
     ≡ (2 ∷ 4 ∷ []) ∷ (ones 64 ∷ ones 64 ∷ []) ∷ []
-unfolding loadTables loadVerdict drawingTables judgement verdict overlay fullSize deepest obeys outputBelow inputsBelow comesFrom goesTo roundTables netNumber isNet countsWithin kindsObeyed idsDistinct portsFollow valuesFit constsHeld wiresFit inputsOnce names roundOf leave round visit evaluated send outputsAfter functionOf appendNew strike run calm
+unfolding loadTables loadVerdict drawingTables judgement verdict overlay fullSize deepest obeys outputBelow inputsBelow comesFrom goesTo roundTables netNumber isNet countsWithin kindsObeyed idsDistinct portsFollow valuesFit constsHeld wiresFit inputsOnce names roundOf leave round visit evaluated send outputsAfter functionOf appendNew strike runBy calm
 snow-run = refl
 
 -- Evaluated alone: 64 bits and 63 are copied, split and joined; 65 bits are 9; a value of another width, and 2^63 in 63 bits, are 19.

@@ -5,8 +5,9 @@ use Prim.Native.Nat.{ℕ}
 use mathlib.Core.Bool.{Bool, cond}
 use mathlib.Core.List.{List, [], _∷_}
 use mathlib.Core.Option.{Option, none, some}
+use lib.Dec.{eqb}
 use Rattle.lists.specs.Lists.{from, first, overlay}
-use Rattle.kinds.specs.Given.{Given, done, declined, spoken}
+use Rattle.kinds.specs.Given.{Given, done, declined, refusedBy, spoken}
 use Rattle.component.specs.declared.Record.{Record}
 use Rattle.component.specs.declared.Verdict.{Verdict}
 use Rattle.component.specs.declared.Verdict.the-variants.{Accepted, Refused}
@@ -42,6 +43,11 @@ verdict file = cond (sized file) (judged (recordCount file) (checks (recordAt fi
 abbrev pub verdictGives : Verdict → List ℕ → Given
 verdictGives Accepted xs = done xs
 verdictGives (Refused r) xs = declined r
+
+-- A load's own refusal, or else, at position 0, the call's number k.
+abbrev pub andThen : Verdict → ℕ → Verdict
+andThen (Refused r) k = Refused r
+andThen Accepted k = cond (eqb k 0) Accepted (Refused (refusedBy k))
 
 -- A lent list after a call of that verdict: xs at its front; a refusal changes none of it.
 abbrev pub listBy : Verdict → List ℕ → List ℕ → List ℕ

@@ -12,7 +12,7 @@ use Rattle.kinds.specs.Given.{Given, refusedBy, spoken}
 use Rattle.component.specs.declared.Verdict.{Verdict}
 use Rattle.component.specs.declared.Verdict.the-variants.{Accepted, Refused as Judged}
 use Rattle.component.specs.Record.{recordAt, recordCount, sized}
-use Rattle.flatten.specs.Verdict.{refused, verdictGives}
+use Rattle.flatten.specs.Verdict.{refused, verdictGives, andThen}
 use Rattle.tables.specs.declared.Counts.{Counts}
 use Rattle.tables.specs.Tables.{Tables}
 use Rattle.load.specs.Load.{loadVerdict}
@@ -20,7 +20,7 @@ use Rattle.net.specs.Net.{isNet}
 use Rattle.look.specs.declared.Looked.{Looked}
 use Rattle.look.specs.declared.Looked.the-variants.{Refused as NotShown}
 use Rattle.boxes.specs.Boxes.{matched, dangling}
-use Rattle.look.specs.Look.{lookNumber, andThen, loadsOwn, lookedAt, lookVerdict, lookGives, Looks}
+use Rattle.look.specs.Look.{lookNumber, loadsOwn, lookedAt, lookVerdict, lookGives, Looks}
 use Rattle.words.specs.Words.{countsIn, valuesIn}
 use Rattle.words.specs.Said.{short}
 use Rattle.words.proofs.WordsLaws.{none-laid}

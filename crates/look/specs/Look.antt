@@ -5,16 +5,16 @@ use Prim.Native.Nat.{ℕ}
 use mathlib.Core.Bool.{cond, not, _&&_, _||_}
 use mathlib.Core.List.{List, [], _∷_, _++_, map}
 use lib.ListN.{length}
-use lib.Dec.{eqb, leb, ltb}
+use lib.Dec.{leb, ltb}
 use Rattle.lists.specs.Lists.{from, refusal, _if_}
 use Rattle.value.specs.declared.Value.{Value}
-use Rattle.kinds.specs.Given.{Given, done, declined, refusedBy}
+use Rattle.kinds.specs.Given.{Given, done, declined}
 use Rattle.component.specs.declared.Record.{Record}
 use Rattle.component.specs.declared.Verdict.{Verdict}
 use Rattle.component.specs.declared.Verdict.the-variants.{Accepted, Refused}
 use Rattle.component.specs.Record.{recordAt, recordCount, inputsOf, outputsOf, sized}
 use Rattle.flatten.specs.Descent.{flat}
-use Rattle.flatten.specs.Verdict.{refused, verdictGives, listBy}
+use Rattle.flatten.specs.Verdict.{refused, verdictGives, andThen, listBy}
 use Rattle.tables.specs.Tables.{Tables}
 use Rattle.load.specs.Load.{loadVerdict}
 use Rattle.net.specs.Net.{isNet}
@@ -38,11 +38,6 @@ module _ (at : ℕ → Record) (n : ℕ) where
   -- What is checked "after a load's own" of a look at component c: 16; 20, file and tables do not match, or no such path; 21.
   unfoldable pub lookNumber : Tables → ℕ → ℕ
   lookNumber T c = refusal ((16 if not (isNet T)) ∷ (20 if not (matched at n T) || leb n c) ∷ (21 if dangling at n c) ∷ [])
-
--- A load's own refusal, or else, at position 0, the call's number k.
-abbrev pub andThen : Verdict → ℕ → Verdict
-andThen (Refused r) k = Refused r
-andThen Accepted k = cond (eqb k 0) Accepted (Refused (refusedBy k))
 
 -- The component that is looked at.
 abbrev pub lookedAt : List ℕ → List ℕ → ℕ

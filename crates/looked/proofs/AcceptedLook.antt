@@ -21,12 +21,12 @@ use Rattle.component.specs.declared.Verdict.the-variants.{Accepted, Refused}
 use Rattle.component.specs.Record.{recordAt, recordCount, ownedAs, sized}
 use Rattle.component.specs.Reading.{formOf, ownerOf, idOf}
 use Rattle.component.specs.Drawing.{deepest}
-use Rattle.flatten.specs.Verdict.{refused}
+use Rattle.flatten.specs.Verdict.{refused, andThen}
 use Rattle.flatten.proofs.Accepted.{Passed, not-accepted, refused-not, accepted-passed}
 use Rattle.flatten.proofs.DescentLeads.{source-sound}
 use Rattle.load.specs.Load.{loadVerdict}
 use Rattle.boxes.specs.Boxes.{childNamed, placeOf}
-use Rattle.look.specs.Look.{lookNumber, andThen, lookedAt, loadsOwn, lookVerdict}
+use Rattle.look.specs.Look.{lookNumber, lookedAt, loadsOwn, lookVerdict}
 use Rattle.look.proofs.LookLaws.{own-passed, number-passed}
 use Rattle.looked.specs.Owed.{LookAsLoad, LookAccepted}
 use Rattle.looked.proofs.Shows.{no-open-input}

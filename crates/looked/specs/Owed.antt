@@ -21,12 +21,12 @@ use Rattle.component.specs.Drawing.{child, mapsIn}
 use Rattle.flatten.specs.declared.Pin.{Pin}
 use Rattle.flatten.specs.Descent.{pin}
 use Rattle.flatten.specs.Leads.{From, Into}
-use Rattle.flatten.specs.Verdict.{verdict}
+use Rattle.flatten.specs.Verdict.{verdict, andThen}
 use Rattle.tables.specs.Tables.{Tables}
 use Rattle.load.specs.Load.{loadVerdict}
 use Rattle.questions.specs.declared.Side.the-variants.{Inputs, Outputs}
 use Rattle.boxes.specs.Boxes.{matched, dangling, portShown}
-use Rattle.look.specs.Look.{andThen, lookedAt, lookVerdict}
+use Rattle.look.specs.Look.{lookedAt, lookVerdict}
 use Rattle.demands.specs.Reached.{Reached}
 
 -- "the primitive input that its maps reach last": a primitive's own input; else what the last of the maps that reach any reaches last.

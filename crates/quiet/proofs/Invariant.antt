@@ -232,7 +232,7 @@ module _ (T : Tables) (g : Sound T) where
     still-due d ne (in-following e m) = in-following e m
     still-due d ne (in-standing e m) = in-standing e (evaluated-standing T t i d s ne m)
 
-    evaluated-mid : Mid T t rest (wiresFrom i ws) (evaluated T t i s)
+    evaluated-mid : Mid T t rest (wiresFrom ws i) (evaluated T t i s)
     unfolding evaluated
     evaluated-mid =
         record {
@@ -245,7 +245,7 @@ module _ (T : Tables) (g : Sound T) where
       where
         wire : (w : Wire) → In w (wiresIn T) → Dec (w .src .comp .0 ≡ i)
             → Agree T s w ⊎ (Due T (i ∷ rest) s (w .src .comp .0) ⊎ In w [])
-            → Agree T (evaluated T t i s) w ⊎ (Due T rest (evaluated T t i s) (w .src .comp .0) ⊎ In w (wiresFrom i ws))
+            → Agree T (evaluated T t i s) w ⊎ (Due T rest (evaluated T t i s) (w .src .comp .0) ⊎ In w (wiresFrom ws i))
         wire w m (yes e) q =
             inr (inr (keep-complete (λ (v : Wire). eqb (v .src .comp .0) i) w ws (eq-eqb (w .src .comp .0) i e) (o .all w m)))
         wire w m (no ne) (inl q) = inl (others-agree w m ne q)
@@ -261,16 +261,16 @@ module _ (T : Tables) (g : Sound T) where
   -- A round at time u, its wires in any order.
   module _ (ws : List Wire) (o : Order T ws) (u : ℕ) where
     visit-mid : (i : ℕ) (rest : List ℕ) → i < n → (s : State) → Mid T u (i ∷ rest) [] s
-        → Mid T u rest [] (visit T ws u s i)
+        → Mid T u rest [] (visit T (wiresFrom ws) u s i)
     unfolding visit
     visit-mid i rest h s a =
-        sends-mid u rest (wiresFrom i ws) (wiresFrom-in T g ws o u i) (evaluated T u i s)
+        sends-mid u rest (wiresFrom ws i) (wiresFrom-in T g ws o u i) (evaluated T u i s)
         (evaluated-mid ws o u i rest h s a)
 
     visits-mid : (xs : List ℕ) → ((x : ℕ) → In x xs → x < n) → (s : State) → Mid T u xs [] s
-        → Mid T u [] [] (foldl (visit T ws u) s xs)
+        → Mid T u [] [] (foldl (visit T (wiresFrom ws) u) s xs)
     visits-mid [] f s a = a
-    visits-mid (x ∷ xs) f s a = visits-mid xs (λ y m. f y (inr m)) (visit T ws u s x)
+    visits-mid (x ∷ xs) f s a = visits-mid xs (λ y m. f y (inr m)) (visit T (wiresFrom ws) u s x)
         (visit-mid x xs (f x (inl refl)) s a)
 
     round-start : (ran : Bool) (t : ℕ) (s : State) → Held T s → Inv T ran t s → Mid T u (s .current) [] s
@@ -329,10 +329,10 @@ module _ (T : Tables) (g : Sound T) where
         fit i (inr q) = inr (held i q)
 
     -- A round keeps the invariant.
-    pub round-inv : (ran : Bool) (t : ℕ) (s : State) → Held T s → Inv T ran t s → Inv T true u (round T ws u s)
+    pub round-inv : (ran : Bool) (t : ℕ) (s : State) → Held T s → Inv T ran t s → Inv T true u (round T (wiresFrom ws) u s)
     unfolding round
     round-inv ran t s b a =
-        round-end (foldl (visit T ws u) s (s .current))
+        round-end (foldl (visit T (wiresFrom ws) u) s (s .current))
         (visits-mid (s .current) (b .current .exist) s (round-start ran t s b a))
 
 -- The state as a load leaves it: the current list names every component, the two others every Clock.

@@ -51,21 +51,21 @@ module _ (T : Tables) (g : Sound T) (ws : List Wire) (o : Order T ws) (t : ℕ) 
   -- A visit leaves the outputs of every other component, and the component's own are what the evaluation makes them.
   module _ (s : State) (a : Held T s) (i : ℕ) (h : i < n) where
     visit-others : (d j : ℕ) → d < n → (d ≡ i → ⊥) → j < fieldsAt T d .outputs
-        → outputIn T (visit T ws t s i .outputs) d j ≡ outputIn T (s .outputs) d j
+        → outputIn T (visit T (wiresFrom ws) t s i .outputs) d j ≡ outputIn T (s .outputs) d j
     unfolding visit evaluated
     visit-others d j q ne l =
-        ap (λ (os : List ℕ). outputIn T os d j) (sends-outputs T (evaluated T t i s) (wiresFrom i ws))
+        ap (λ (os : List ℕ). outputIn T os d j) (sends-outputs T (evaluated T t i s) (wiresFrom ws i))
         ∙ others-left T g t i h s a d j q ne l
 
-    visit-own : (j : ℕ) → j < fieldsAt T i .outputs → outputIn T (visit T ws t s i .outputs) i j ≡ getD (made T t s i) j 0
+    visit-own : (j : ℕ) → j < fieldsAt T i .outputs → outputIn T (visit T (wiresFrom ws) t s i .outputs) i j ≡ getD (made T t s i) j 0
     unfolding visit evaluated
     visit-own j l =
-        ap (λ (os : List ℕ). outputIn T os i j) (sends-outputs T (evaluated T t i s) (wiresFrom i ws))
+        ap (λ (os : List ℕ). outputIn T os i j) (sends-outputs T (evaluated T t i s) (wiresFrom ws i))
         ∙ own-outputs T g t i h s a j l
 
     -- Bit j of the component's word.
     visit-bit : (j : ℕ) → bitOf (movedAt T t s i) j
-        ≡ level (ltb j (fieldsAt T i .outputs) && not (eqb (outputIn T (s .outputs) i j) (outputIn T (visit T ws t s i .outputs) i j)))
+        ≡ level (ltb j (fieldsAt T i .outputs) && not (eqb (outputIn T (s .outputs) i j) (outputIn T (visit T (wiresFrom ws) t s i .outputs) i j)))
     unfolding movedOutputs
     visit-bit j =
         moved-port (outputsAt T (s .outputs) i) (made T t s i) (fieldsAt T i .outputs)
@@ -76,32 +76,32 @@ module _ (T : Tables) (g : Sound T) (ws : List Wire) (o : Order T ws) (t : ℕ) 
   -- Visits leave the outputs of a component that they do not name.
   visits-others : (xs : List ℕ) (s : State) → Held T s → ((x : ℕ) → In x xs → x < n) → (d j : ℕ) → d < n → (In d xs → ⊥)
       → j < fieldsAt T d .outputs
-      → outputIn T (foldl (visit T ws t) s xs .outputs) d j ≡ outputIn T (s .outputs) d j
+      → outputIn T (foldl (visit T (wiresFrom ws) t) s xs .outputs) d j ≡ outputIn T (s .outputs) d j
   visits-others [] s a f d j q ne l = refl
   visits-others (x ∷ xs) s a f d j q ne l =
-      visits-others xs (visit T ws t s x) (visit-held T g ws o t s x (f x (inl refl)) a) (λ y m. f y (inr m)) d j q (λ m. ne (inr m)) l
+      visits-others xs (visit T (wiresFrom ws) t s x) (visit-held T g ws o t s x (f x (inl refl)) a) (λ y m. f y (inr m)) d j q (λ m. ne (inr m)) l
       ∙ visit-others s a x (f x (inl refl)) d j q (λ e. ne (inl e)) l
 
   -- Output j of component d is not after visits what it was.
   abbrev movedOver : State → List ℕ → ℕ → ℕ → Bool
   movedOver s xs d j =
-      ltb j (fieldsAt T d .outputs) && not (eqb (outputIn T (s .outputs) d j) (outputIn T (foldl (visit T ws t) s xs .outputs) d j))
+      ltb j (fieldsAt T d .outputs) && not (eqb (outputIn T (s .outputs) d j) (outputIn T (foldl (visit T (wiresFrom ws) t) s xs .outputs) d j))
 
   -- Bit j of word k is that of output j of the component at place k.
   visits-bits : (xs : List ℕ) → Names n xs → (s : State) → Held T s → (k j : ℕ) → k < length xs
-      → bitOf (getD (movedBy T ws t s xs) k 0) j ≡ level (movedOver s xs (getD xs k 0) j)
+      → bitOf (getD (movedBy T (wiresFrom ws) t s xs) k 0) j ≡ level (movedOver s xs (getD xs k 0) j)
   visits-bits [] m s a k j h = absurd (omega arith)
   visits-bits (x ∷ xs) m s a zero j h = visit-bit s a x (m .exist x (inl refl)) j ∙ by-port (ltb j (fieldsAt T x .outputs)) refl
     where
       by-port : (b : Bool) → ltb j (fieldsAt T x .outputs) ≡ b
-          → level (b && not (eqb (outputIn T (s .outputs) x j) (outputIn T (visit T ws t s x .outputs) x j)))
-          ≡ level (b && not (eqb (outputIn T (s .outputs) x j) (outputIn T (foldl (visit T ws t) (visit T ws t s x) xs .outputs) x j)))
+          → level (b && not (eqb (outputIn T (s .outputs) x j) (outputIn T (visit T (wiresFrom ws) t s x .outputs) x j)))
+          ≡ level (b && not (eqb (outputIn T (s .outputs) x j) (outputIn T (foldl (visit T (wiresFrom ws) t) (visit T (wiresFrom ws) t s x) xs .outputs) x j)))
       by-port true e =
-          rw (visits-others xs (visit T ws t s x) (visit-held T g ws o t s x (m .exist x (inl refl)) a) (λ y p. m .exist y (inr p)) x j
+          rw (visits-others xs (visit T (wiresFrom ws) t s x) (visit-held T g ws o t s x (m .exist x (inl refl)) a) (λ y p. m .exist y (inr p)) x j
           (m .exist x (inl refl)) (m .once .0) (ltb-true j (fieldsAt T x .outputs) e))
       by-port false e = refl
   visits-bits (x ∷ xs) m s a (suc k) j h =
-      visits-bits xs (record { exist = λ y p. m .exist y (inr p); once = m .once .1 }) (visit T ws t s x)
+      visits-bits xs (record { exist = λ y p. m .exist y (inr p); once = m .once .1 }) (visit T (wiresFrom ws) t s x)
       (visit-held T g ws o t s x (m .exist x (inl refl)) a) k j (omega arith)
       ∙ by-port (ltb j (fieldsAt T (getD xs k 0) .outputs)) refl
     where
@@ -109,8 +109,8 @@ module _ (T : Tables) (g : Sound T) (ws : List Wire) (o : Order T ws) (t : ℕ) 
       there = in-getD xs k 0 (omega arith)
 
       by-port : (b : Bool) → ltb j (fieldsAt T (getD xs k 0) .outputs) ≡ b
-          → level (b && not (eqb (outputIn T (visit T ws t s x .outputs) (getD xs k 0) j) (outputIn T (foldl (visit T ws t) (visit T ws t s x) xs .outputs) (getD xs k 0) j)))
-          ≡ level (b && not (eqb (outputIn T (s .outputs) (getD xs k 0) j) (outputIn T (foldl (visit T ws t) (visit T ws t s x) xs .outputs) (getD xs k 0) j)))
+          → level (b && not (eqb (outputIn T (visit T (wiresFrom ws) t s x .outputs) (getD xs k 0) j) (outputIn T (foldl (visit T (wiresFrom ws) t) (visit T (wiresFrom ws) t s x) xs .outputs) (getD xs k 0) j)))
+          ≡ level (b && not (eqb (outputIn T (s .outputs) (getD xs k 0) j) (outputIn T (foldl (visit T (wiresFrom ws) t) (visit T (wiresFrom ws) t s x) xs .outputs) (getD xs k 0) j)))
       by-port true e =
           rw (visit-others s a x (m .exist x (inl refl)) (getD xs k 0) j (m .exist (getD xs k 0) (inr there)) (λ q. m .once .0 (subst (λ (y : ℕ). In y xs) q there))
           (ltb-true j (fieldsAt T (getD xs k 0) .outputs) e))
@@ -127,7 +127,7 @@ module _ (T : Tables) (z : netNumber T ≡ 0) (t : ℕ) where
 
   pub round-bits-length : length (roundBits t T) ≡ length (currentList T)
   unfolding roundBits
-  round-bits-length = movedBy-length T (wiresIn T) t (stateOf T) (currentList T)
+  round-bits-length = movedBy-length T (wiresFrom (wiresIn T)) t (stateOf T) (currentList T)
 
   pub round-bit : (k j : ℕ) → k < length (currentList T)
       → bitOf (getD (roundBits t T) k 0) j ≡ level (ltb j (fieldsAt T (getD (currentList T) k 0) .outputs) && movedIn (getD (currentList T) k 0) j)

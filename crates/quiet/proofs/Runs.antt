@@ -9,7 +9,7 @@ use lib.Dec.{ltb}
 use Rattle.tables.specs.Tables.{Tables}
 use Rattle.net.specs.Net.{netNumber}
 use Rattle.rounds.specs.Round.{calm}
-use Rattle.simulator.specs.Calls.{roundTables, noRound, run, runTables}
+use Rattle.simulator.specs.Calls.{roundTables, noRound, runBy, run, runTables}
 use Rattle.tables.proofs.SameLaws.{SameWiring, sameWiring-none, sameWiring-more}
 use Rattle.simulator.proofs.Kept.{by-number, roundTables-wiring, roundTables-net}
 use Rattle.quiet.proofs.Since.{Unbroken, roundTables-unbroken}
@@ -17,7 +17,7 @@ use Rattle.quiet.proofs.Since.{Unbroken, roundTables-unbroken}
 -- A run of one round or more stops after its first, or goes on.
 run-or : (P : Tables → Type 0) (k t : ℕ) (T : Tables) → P (roundTables T t) → P (run k t (roundTables T t) .tables)
     → P (run (suc k) t T .tables)
-unfolding run
+unfolding runBy
 run-or P k t T a r = by-calm (calm (roundTables T t))
   where
     by-calm : (b : Bool) → P (cond b (noRound (roundTables T t)) (run k t (roundTables T t)) .tables)
@@ -27,7 +27,7 @@ run-or P k t T a r = by-calm (calm (roundTables T t))
 -- What every round at time t hands on, so many of them hand on.
 run-tables : (P : Tables → Type 0) (k t : ℕ) → ((T : Tables) → P T → P (roundTables T t)) → (T : Tables) → P T
     → P (run k t T .tables)
-unfolding run
+unfolding runBy
 run-tables P zero t f T a = a
 run-tables P (suc k) t f T a = run-or P k t T (f T a) (run-tables P k t f (roundTables T t) (f T a))
 
@@ -69,7 +69,7 @@ roundTables-ran T ran t u z a =
 -- A run of a net keeps the invariant: its last round is at its time, unless the limit is 0 and no round runs.
 pub runTables-unbroken : (T : Tables) (ran : Bool) (t u limit : ℕ) → netNumber T ≡ 0 → Unbroken T ran t
     → Unbroken (runTables T u limit) (ran || ltb 0 limit) (cond (ltb 0 limit) u t)
-unfolding run
+unfolding runBy
 runTables-unbroken T ran t u zero z a =
     subst (λ (b : Bool). Unbroken (runTables T u zero) (ran || b) (cond b u t)) (sym (le-ltb 0 zero (omega arith)))
     (subst (λ (b : Bool). Unbroken (runTables T u zero) b t) (sym (or-false ran))

@@ -15,7 +15,7 @@ use Rattle.kinds.specs.Kinds.{is}
 use Rattle.tables.specs.declared.Wire.{Wire}
 use Rattle.tables.specs.Tables.{Tables, fieldsAt, wiresIn, currentList, followingList, standingList}
 use Rattle.net.specs.Net.{netNumber}
-use Rattle.rounds.specs.Round.{State, stateOf, leave, round, roundOf}
+use Rattle.rounds.specs.Round.{State, stateOf, leave, wiresFrom, round, roundOf}
 use Rattle.simulator.specs.Edit.{Way, editedState}
 use Rattle.simulator.specs.Calls.{roundTables, editNumber, editTables}
 use Rattle.rounds.proofs.Sound.{net-sound}
@@ -66,9 +66,9 @@ fresh-unbroken T f =
 -- A round of a net keeps it, its wires in any order.
 pub round-unbroken : (T : Tables) (ws : List Wire) → Order T ws → (ran : Bool) (t u : ℕ) → netNumber T ≡ 0
     → Unbroken T ran t
-    → Unbroken (leave T (round T ws u (stateOf T))) true u
+    → Unbroken (leave T (round T (wiresFrom ws) u (stateOf T))) true u
 round-unbroken T ws o ran t u e a =
-    leave-unbroken T true u (round T ws u (stateOf T))
+    leave-unbroken T true u (round T (wiresFrom ws) u (stateOf T))
     (round-inv T (net-sound T e) ws o u ran t (stateOf T) (net-held T e) a)
 
 -- A round as a call keeps it: refused, it is none that has run.

@@ -43,52 +43,52 @@ module _ (T : Tables) (x : ℕ) where
   sends-standing : (ws : List Wire) (s : State) → In x (s .standing) → In x (foldl (send T) s ws .standing)
   sends-standing ws = foldl-keeps (λ (s : State). In x (s .standing)) (send T) ws (λ s w k. send-standing s w)
 
-  module _ (ws : List Wire) (t : ℕ) where
-    visit-following : (s : State) (i : ℕ) → In x (s .following) → In x (visit T ws t s i .following)
+  module _ (leaving : ℕ → List Wire) (t : ℕ) where
+    visit-following : (s : State) (i : ℕ) → In x (s .following) → In x (visit T leaving t s i .following)
     unfolding visit evaluated
-    visit-following s i m = sends-following (wiresFrom i ws) (evaluated T t i s) m
+    visit-following s i m = sends-following (leaving i) (evaluated T t i s) m
 
-    visit-standing : (s : State) (i : ℕ) → (x ≡ i → ⊥) → In x (s .standing) → In x (visit T ws t s i .standing)
+    visit-standing : (s : State) (i : ℕ) → (x ≡ i → ⊥) → In x (s .standing) → In x (visit T leaving t s i .standing)
     unfolding visit
-    visit-standing s i ne m = sends-standing (wiresFrom i ws) (evaluated T t i s) (evaluated-standing T t i x s ne m)
+    visit-standing s i ne m = sends-standing (leaving i) (evaluated T t i s) (evaluated-standing T t i x s ne m)
 
-    visits-following : (xs : List ℕ) (s : State) → In x (s .following) → In x (foldl (visit T ws t) s xs .following)
+    visits-following : (xs : List ℕ) (s : State) → In x (s .following) → In x (foldl (visit T leaving t) s xs .following)
     visits-following xs =
-        foldl-keeps (λ (s : State). In x (s .following)) (visit T ws t) xs (λ s i k. visit-following s i)
+        foldl-keeps (λ (s : State). In x (s .following)) (visit T leaving t) xs (λ s i k. visit-following s i)
 
     visits-standing : (xs : List ℕ) (s : State) → In x (s .standing) → In x xs
-        ⊎ In x (foldl (visit T ws t) s xs .standing)
+        ⊎ In x (foldl (visit T leaving t) s xs .standing)
     visits-standing [] s m = inr m
-    visits-standing (i ∷ xs) s m = by-name (ℕ-discrete x i) (λ k. visits-standing xs (visit T ws t s i) k)
+    visits-standing (i ∷ xs) s m = by-name (ℕ-discrete x i) (λ k. visits-standing xs (visit T leaving t s i) k)
       where
         Last : Type 0
-        Last = In x (foldl (visit T ws t) (visit T ws t s i) xs .standing)
+        Last = In x (foldl (visit T leaving t) (visit T leaving t s i) xs .standing)
 
-        by-name : Dec (x ≡ i) → (In x (visit T ws t s i .standing) → In x xs ⊎ Last) → In x (i ∷ xs) ⊎ Last
+        by-name : Dec (x ≡ i) → (In x (visit T leaving t s i .standing) → In x xs ⊎ Last) → In x (i ∷ xs) ⊎ Last
         by-name (yes e) later = inl (inl e)
         by-name (no ne) later = ⊎-elim (λ k. inl (inr k)) (λ k. inr k) (later (visit-standing s i ne m))
 
     -- What stands is evaluated in this round, or is followed after it, whatever the order of the wires.
-    pub round-standing : (s : State) → In x (s .standing) → In x (s .current) ⊎ In x (round T ws t s .following)
+    pub round-standing : (s : State) → In x (s .standing) → In x (s .current) ⊎ In x (round T leaving t s .following)
     unfolding round
     round-standing s m = visits-standing (s .current) s m
 
     -- What is followed is current after it.
-    pub round-following : (s : State) → In x (s .following) → In x (round T ws t s .current)
+    pub round-following : (s : State) → In x (s .following) → In x (round T leaving t s .current)
     unfolding round
     round-following s m = visits-following (s .current) s m
 
 -- The same of the tables after a round.
 module _ (T : Tables) (x t : ℕ) (e : netNumber T ≡ 0) where
-  after-state : stateOf (roundTables T t) ≡ round T (wiresIn T) t (stateOf T)
+  after-state : stateOf (roundTables T t) ≡ round T (wiresFrom (wiresIn T)) t (stateOf T)
   unfolding roundOf
-  after-state = ap stateOf (roundTables-done T t e) ∙ stateOf-leave T (round T (wiresIn T) t (stateOf T))
+  after-state = ap stateOf (roundTables-done T t e) ∙ stateOf-leave T (round T (wiresFrom (wiresIn T)) t (stateOf T))
 
   pub roundTables-standing : In x (standingList T) → In x (currentList T) ⊎ In x (followingList (roundTables T t))
   roundTables-standing m =
       ⊎-elim (λ k. inl k) (λ k. inr (subst (λ (s : State). In x (s .following)) (sym after-state) k))
-      (round-standing T x (wiresIn T) t (stateOf T) m)
+      (round-standing T x (wiresFrom (wiresIn T)) t (stateOf T) m)
 
   pub roundTables-following : In x (followingList T) → In x (currentList (roundTables T t))
   roundTables-following m =
-      subst (λ (s : State). In x (s .current)) (sym after-state) (round-following T x (wiresIn T) t (stateOf T) m)
+      subst (λ (s : State). In x (s .current)) (sym after-state) (round-following T x (wiresFrom (wiresIn T)) t (stateOf T) m)

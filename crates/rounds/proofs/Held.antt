@@ -269,18 +269,18 @@ module _ (T : Tables) (g : Sound T) where
 
   -- A whole round, wires in any order.
   module _ (ws : List Wire) (o : Order T ws) (t : ℕ) where
-    pub wiresFrom-in : (i : ℕ) (w : Wire) → In w (wiresFrom i ws) → In w (wiresIn T)
+    pub wiresFrom-in : (i : ℕ) (w : Wire) → In w (wiresFrom ws i) → In w (wiresIn T)
     wiresFrom-in i w m = o .only w (keep-sound (λ (v : Wire). eqb (v .src .comp .0) i) w ws m .1)
 
-    pub visit-held : (s : State) (i : ℕ) → i < T .counts .components → Held T s → Held T (visit T ws t s i)
+    pub visit-held : (s : State) (i : ℕ) → i < T .counts .components → Held T s → Held T (visit T (wiresFrom ws) t s i)
     unfolding visit
-    visit-held s i h a = sends-held (wiresFrom i ws) (wiresFrom-in i) (evaluated T t i s) (evaluated-held t i h s a)
+    visit-held s i h a = sends-held (wiresFrom ws i) (wiresFrom-in i) (evaluated T t i s) (evaluated-held t i h s a)
 
     pub visits-held : (xs : List ℕ) → ((x : ℕ) → In x xs → x < T .counts .components) → (s : State) → Held T s
-        → Held T (foldl (visit T ws t) s xs)
-    visits-held xs f = foldl-keeps (Held T) (visit T ws t) xs (λ u x m. visit-held u x (f x m))
+        → Held T (foldl (visit T (wiresFrom ws) t) s xs)
+    visits-held xs f = foldl-keeps (Held T) (visit T (wiresFrom ws) t) xs (λ u x m. visit-held u x (f x m))
 
-    pub round-held : (s : State) → Held T s → Held T (round T ws t s)
+    pub round-held : (s : State) → Held T s → Held T (round T (wiresFrom ws) t s)
     unfolding round
     round-held s a =
         let b = visits-held (s .current) (a .current .exist) s a in

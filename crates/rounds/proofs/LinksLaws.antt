@@ -180,9 +180,9 @@ keep-map f g (x ∷ xs) = by-test (f (g x)) (keep-map f g xs)
     by-test false e = e
 
 pub follows-from : (ws : List ℕ) (n : ℕ) (head after : List ℕ) (vs : List Wire) (f : Follows ws n head after vs) (i : ℕ)
-    → wiresFrom i vs ≡ map (wireIn ws) (numbersFrom ws i (f .order))
+    → wiresFrom vs i ≡ map (wireIn ws) (numbersFrom ws i (f .order))
 follows-from ws n head after vs f i =
-    ap (wiresFrom i) (f .these) ∙ keep-map (λ (w : Wire). eqb (w .src .comp .0) i) (wireIn ws) (f .order)
+    ap (λ (us : List Wire). wiresFrom us i) (f .these) ∙ keep-map (λ (w : Wire). eqb (w .src .comp .0) i) (wireIn ws) (f .order)
 
 -- A loop that sends along what it meets, from the wire h on.
 module _ (T : Tables) (ws after : List ℕ) (n h : ℕ) (s : State) where

@@ -16,7 +16,7 @@ use Rattle.tables.proofs.NamedLaws.{overlay-list}
 use Rattle.net.specs.Net.{names, netNumber}
 use Rattle.net.proofs.NetLaws.{names-entry, netNumber-net, netNumber-sizes}
 use Rattle.rounds.specs.declared.Sizes.{Sizes}
-use Rattle.rounds.specs.Round.{State, stateOf, leave, turn, evaluated, send, visit, movedBy, round, calm, roundBits, roundOf}
+use Rattle.rounds.specs.Round.{State, stateOf, leave, wiresFrom, turn, evaluated, send, visit, movedBy, round, calm, roundBits, roundOf}
 use Rattle.rounds.specs.Links.{SourcesFew}
 use Rattle.rounds.specs.Steps.{wiring, stateAt, CanRun, ListFits, ListInside}
 use Rattle.rounds.proofs.Sound.{net-sound, net-within, current-in, following-in, standing-in, wire-in, output-room, input-room}
@@ -125,31 +125,31 @@ round-ended cur fol std next left cur' fol' std' m n h k ec ef es =
     rw (ec, ef, es, a, b)
 
 -- The whole round: both lists copied out, every component of the current list visited, and the three copies at the end.
-module _ (T : Tables) (t : ℕ) (vs : List Wire) where
+module _ (T : Tables) (t : ℕ) (leaving : ℕ → List Wire) where
   abbrev W : Tables
   W = wiring (T .components) (T .wires) (T .counts)
 
   round-visits : (s : State)
-      → s ≡ foldl (visit W vs t) (stateAt (T .inputs) (T .outputs) (followingList T) (standingList T))
+      → s ≡ foldl (visit W leaving t) (stateAt (T .inputs) (T .outputs) (followingList T) (standingList T))
       (currentList T)
-      → leave T (round T vs t (stateOf T)) ≡ leave T (turn s)
+      → leave T (round T leaving t (stateOf T)) ≡ leave T (turn s)
   unfolding round visit evaluated send
   round-visits s e =
       ap (λ (u : State). leave T (turn u))
-      (visits-current T vs t (currentList T)
+      (visits-current T leaving t (currentList T)
       (stateAt (T .inputs) (T .outputs) (followingList T) (standingList T)) (currentList T))
       ∙ ap (λ (u : State). leave T (turn u)) (sym e)
 
   pub round-made : (nx lf ins outs nx' lf' cur fol std : List ℕ) (n : Sizes) (r : Counts)
       → take (T .counts .following) nx ≡ followingList T → take (T .counts .standing) lf ≡ standingList T
       → stateAt ins outs (take (n .following) nx') (take (n .standing) lf')
-      ≡ foldl (visit W vs t)
+      ≡ foldl (visit W leaving t)
       (stateAt (T .inputs) (T .outputs) (take (T .counts .following) nx) (take (T .counts .standing) lf))
       (currentList T)
       → tablesOf [] [] [] [] cur fol std r
       ≡ leave (tablesOf [] [] [] [] (T .current) (T .following) (T .standing) (T .counts))
       (turn (stateAt [] [] (take (n .following) nx') (take (n .standing) lf')))
-      → tablesOf (T .components) ins outs (T .wires) cur fol std r ≡ leave T (round T vs t (stateOf T))
+      → tablesOf (T .components) ins outs (T .wires) cur fol std r ≡ leave T (round T leaving t (stateOf T))
   unfolding leave
   round-made nx lf ins outs nx' lf' cur fol std n r ef es v e =
       let c : cur ≡ overlay (take (n .following) nx') (T .current) = ap (λ (u : Tables). u .current) e in
@@ -161,13 +161,13 @@ module _ (T : Tables) (t : ℕ) (vs : List Wire) where
       l ∙ sym (round-visits s (v ∙ rw (ef, es)))
 
 -- In stored order, which leaves the count of wires.
-pub round-bits : (T : Tables) (t : ℕ) (ms ms′ : List ℕ) → ms′ ≡ overlay (movedBy T (wiresIn T) t (stateOf T) (currentList T)) ms
+pub round-bits : (T : Tables) (t : ℕ) (ms ms′ : List ℕ) → ms′ ≡ overlay (movedBy T (wiresFrom (wiresIn T)) t (stateOf T) (currentList T)) ms
     → ms′ ≡ overlay (roundBits t T) ms
 unfolding roundBits
 round-bits T t ms ms′ e = e
 
 module _ (T U : Tables) (t : ℕ) where
-  pub round-stored : U ≡ leave T (round T (wiresIn T) t (stateOf T)) → U ≡ roundOf t T
+  pub round-stored : U ≡ leave T (round T (wiresFrom (wiresIn T)) t (stateOf T)) → U ≡ roundOf t T
   unfolding roundOf
   round-stored e = e
 

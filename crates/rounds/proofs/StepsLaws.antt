@@ -28,7 +28,7 @@ use Rattle.tables.proofs.NamedLaws.{overlay-list, overlay-count}
 use Rattle.tables.specs.Words.{uncounted, wireIn}
 use Rattle.net.specs.Net.{names}
 use Rattle.net.proofs.NetLaws.{names-entry}
-use Rattle.rounds.specs.Round.{State, withCurrent, withStanding, wiresFrom, evaluated, send, visit, movedAt}
+use Rattle.rounds.specs.Round.{State, withCurrent, withStanding, evaluated, send, visit, movedAt}
 use Rattle.rounds.specs.Steps.{wiring, stateAt, CanEvaluate, CanSend, CanRun, ListFits, Step}
 use Rattle.rounds.proofs.Ports.{numbers-length}
 use Rattle.rounds.proofs.ListedLaws.{strike-none}
@@ -266,30 +266,30 @@ module _ (T : Tables) where
       by-test true = refl
       by-test false = refl
 
-  pub visit-current : (ws : List Wire) (t : ℕ) (d : List ℕ) (s : State) (i : ℕ)
-      → visit T ws t (withCurrent d s) i ≡ withCurrent d (visit T ws t s i)
+  pub visit-current : (leaving : ℕ → List Wire) (t : ℕ) (d : List ℕ) (s : State) (i : ℕ)
+      → visit T leaving t (withCurrent d s) i ≡ withCurrent d (visit T leaving t s i)
   unfolding visit evaluated
-  visit-current ws t d s i =
-      foldl-beside (withCurrent d) (send T) (send-beside (λ l. d) (λ l. l)) (evaluated T t i s) (wiresFrom i ws)
+  visit-current leaving t d s i =
+      foldl-beside (withCurrent d) (send T) (send-beside (λ l. d) (λ l. l)) (evaluated T t i s) (leaving i)
 
-  pub visits-current : (ws : List Wire) (t : ℕ) (d : List ℕ) (s : State) (xs : List ℕ)
-      → foldl (visit T ws t) (withCurrent d s) xs ≡ withCurrent d (foldl (visit T ws t) s xs)
-  visits-current ws t d s xs = foldl-beside (withCurrent d) (visit T ws t) (visit-current ws t d) s xs
+  pub visits-current : (leaving : ℕ → List Wire) (t : ℕ) (d : List ℕ) (s : State) (xs : List ℕ)
+      → foldl (visit T leaving t) (withCurrent d s) xs ≡ withCurrent d (foldl (visit T leaving t) s xs)
+  visits-current leaving t d s xs = foldl-beside (withCurrent d) (visit T leaving t) (visit-current leaving t d) s xs
 
   -- A component of the list, from its evaluation and its wires.
-  pub visited : (ws : List Wire) (t i : ℕ) (ins outs fol std ins' outs' fol' std' : List ℕ)
+  pub visited : (leaving : ℕ → List Wire) (t i : ℕ) (ins outs fol std ins' outs' fol' std' : List ℕ)
       → stateAt ins outs' [] std' ≡ evaluated T t i (stateAt ins outs [] std)
-      → stateAt ins' outs' fol' [] ≡ foldl (send T) (stateAt ins outs' fol []) (wiresFrom i ws)
-      → stateAt ins' outs' fol' std' ≡ visit T ws t (stateAt ins outs fol std) i
+      → stateAt ins' outs' fol' [] ≡ foldl (send T) (stateAt ins outs' fol []) (leaving i)
+      → stateAt ins' outs' fol' std' ≡ visit T leaving t (stateAt ins outs fol std) i
   unfolding visit evaluated
-  visited ws t i ins outs fol std ins' outs' fol' std' e f =
+  visited leaving t i ins outs fol std ins' outs' fol' std' e f =
       let o : outs' ≡ evaluated T t i (stateAt ins outs [] std) .outputs = ap (λ (u : State). u .outputs) e in
       let d : std' ≡ evaluated T t i (stateAt ins outs [] std) .standing = ap (λ (u : State). u .standing) e in
       let v : stateAt ins outs' fol std' ≡ evaluated T t i (stateAt ins outs fol std) = rw (o, d) in
       ap (withStanding std') f
       ∙ sym (foldl-beside (withStanding std') (send T) (send-beside (λ l. l) (λ l. std')) (stateAt ins outs' fol [])
-      (wiresFrom i ws))
-      ∙ ap (λ (u : State). foldl (send T) u (wiresFrom i ws)) v
+      (leaving i))
+      ∙ ap (λ (u : State). foldl (send T) u (leaving i)) v
 
 -- What visits need at a turn.
 module _ (cs ws : List ℕ) (m : Counts) where
@@ -319,14 +319,14 @@ module _ (cs ws : List ℕ) (m : Counts) where
       omega (arith, names-length (m .components) (take n t) (names-sound (m .components) (take n t) (l .named)), length-take-le n t (l .count))
 
 -- A loop over a list of components: what is still to come.
-module _ (T : Tables) (ws : List Wire) (t : ℕ) (list : List ℕ) (q n : ℕ) (s x : State) where
-  pub visits-next : (u : State) (i : ℕ) → q < n → n ≤ length list → i ≡ getD list q 0 → u ≡ visit T ws t s i
-      → foldl (visit T ws t) s (slice q n list) ≡ x → foldl (visit T ws t) u (slice (q + 1) n list) ≡ x
+module _ (T : Tables) (leaving : ℕ → List Wire) (t : ℕ) (list : List ℕ) (q n : ℕ) (s x : State) where
+  pub visits-next : (u : State) (i : ℕ) → q < n → n ≤ length list → i ≡ getD list q 0 → u ≡ visit T leaving t s i
+      → foldl (visit T leaving t) s (slice q n list) ≡ x → foldl (visit T leaving t) u (slice (q + 1) n list) ≡ x
   visits-next u i h l e eu so-far =
-      let y : foldl (visit T ws t) s (slice q n list) ≡ foldl (visit T ws t) (visit T ws t s (getD list q 0))
+      let y : foldl (visit T leaving t) s (slice q n list) ≡ foldl (visit T leaving t) (visit T leaving t s (getD list q 0))
       (slice (q + 1) n list) =
       rw (slice-cons q n list 0 h l, add-one) in
       rw (eu, e) (sym y ∙ so-far)
 
-  pub visits-end : q ≡ n → foldl (visit T ws t) s (slice q n list) ≡ x → s ≡ x
-  visits-end h so-far = ap (foldl (visit T ws t) s) (sym (ap (λ (k : ℕ). slice k n list) h ∙ slice-empty n list)) ∙ so-far
+  pub visits-end : q ≡ n → foldl (visit T leaving t) s (slice q n list) ≡ x → s ≡ x
+  visits-end h so-far = ap (foldl (visit T leaving t) s) (sym (ap (λ (k : ℕ). slice k n list) h ∙ slice-empty n list)) ∙ so-far

@@ -100,7 +100,7 @@ fn send_wires(
     ensures { λ r. ⌜ ((vs : List Wire) → Follows (now (wires .entry)) (counts .wires) (now (head .entry)) (now (after .entry)) vs
         → stateAt (now (inputs .exit)) (now (outputs .entry)) (take r (now (following .exit))) []
         ≡ foldl (send (wiring (now (components .entry)) (now (wires .entry)) counts))
-        (stateAt (now (inputs .entry)) (now (outputs .entry)) (take count (now (following .entry))) []) (wiresFrom i vs))
+        (stateAt (now (inputs .entry)) (now (outputs .entry)) (take count (now (following .entry))) []) (wiresFrom vs i))
         × ListMarked (wiring (now (components .entry)) (now (wires .entry)) counts) r (now (following .exit)) (now (listed .exit)) ⌝ }
 {
     let mut filled = count;
@@ -189,7 +189,7 @@ fn visit(
         ⌜ ((vs : List Wire) → Follows (now (wires .entry)) (counts .wires) (now (head .entry)) (now (after .entry)) vs
         → stateAt (now (inputs .exit)) (now (outputs .exit)) (take (r .sizes .following) (now (following .exit)))
         (take (r .sizes .standing) (now (standing .exit)))
-        ≡ visit (wiring (now (components .entry)) (now (wires .entry)) counts) vs time before i)
+        ≡ visit (wiring (now (components .entry)) (now (wires .entry)) counts) (wiresFrom vs) time before i)
         × ListMarked (wiring (now (components .entry)) (now (wires .entry)) counts) (r .sizes .following) (now (following .exit)) (now (listed .exit))
         × ListCovered (r .sizes .standing) (now (standing .exit)) (now (stood .entry))
         × (r .moved ≡ movedAt (wiring (now (components .entry)) (now (wires .entry)) counts) time before i) ⌝ }
@@ -256,9 +256,9 @@ fn visit_all(
         (take (sizes .standing) (now (standing .entry))) in
         ⌜ ((vs : List Wire) → (0 < count → Follows (now (wires .entry)) (counts .wires) (now (head .entry)) (now (after .entry)) vs)
         → (stateAt (now (inputs .exit)) (now (outputs .exit)) (take (r .following) (now (following .exit))) (take (r .standing) (now (standing .exit)))
-        ≡ foldl (visit (wiring (now (components .entry)) (now (wires .entry)) counts) vs time) before (take count (now (list .entry))))
+        ≡ foldl (visit (wiring (now (components .entry)) (now (wires .entry)) counts) (wiresFrom vs) time) before (take count (now (list .entry))))
         × (now (moved .exit)
-        ≡ overlay (movedBy (wiring (now (components .entry)) (now (wires .entry)) counts) vs time before (take count (now (list .entry))))
+        ≡ overlay (movedBy (wiring (now (components .entry)) (now (wires .entry)) counts) (wiresFrom vs) time before (take count (now (list .entry))))
         (now (moved .entry))))
         × (r .following ≤ length (now (following .exit))) × (r .standing ≤ length (now (standing .exit))) ⌝ }
 {
@@ -344,8 +344,8 @@ pub fn net_round(
         (now (following .entry)) (now (standing .entry)) counts in
         ⌜ ((vs : List Wire) → (0 < counts .current → Follows (now (wires .entry)) (counts .wires) (now (head .entry)) (now (after .entry)) vs)
         → (tablesOf (now (components .entry)) (now (inputs .exit)) (now (outputs .exit)) (now (wires .entry)) (now (current .exit))
-        (now (following .exit)) (now (standing .exit)) r ≡ leave before (round before vs time (stateOf before)))
-        × (now (moved .exit) ≡ overlay (movedBy before vs time (stateOf before) (currentList before)) (now (moved .entry)))) ⌝ }
+        (now (following .exit)) (now (standing .exit)) r ≡ leave before (round before (wiresFrom vs) time (stateOf before)))
+        × (now (moved .exit) ≡ overlay (movedBy before (wiresFrom vs) time (stateOf before) (currentList before)) (now (moved .entry)))) ⌝ }
 {
     let mut next = [0u16; 256];
     let mut left = [0u16; 256];

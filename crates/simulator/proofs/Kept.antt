@@ -11,7 +11,7 @@ use Rattle.tables.specs.declared.Wire.{Wire}
 use Rattle.tables.specs.Tables.{Tables, fullSize, wiresIn}
 use Rattle.net.specs.Net.{isNet, netNumber}
 use Rattle.net.proofs.NetLaws.{netNumber-full, netNumber-isNet, netNumber-0}
-use Rattle.rounds.specs.Round.{stateOf, leave, round, roundOf}
+use Rattle.rounds.specs.Round.{stateOf, leave, wiresFrom, round, roundOf}
 use Rattle.simulator.specs.Calls.{after, roundTables}
 use Rattle.rounds.proofs.Sound.{Sound, isNet-wiring}
 use Rattle.rounds.proofs.Held.{Held, Order, stored-order, round-held}
@@ -25,14 +25,14 @@ module _ (T : Tables) (full : fullSize T ≡ true) (net : isNet T ≡ true) wher
 
   -- A round that takes the wires in any order leaves a net of full size.
   module _ (ws : List Wire) (o : Order T ws) (t : ℕ) where
-    pub round-leaves : Held T (round T ws t (stateOf T))
+    pub round-leaves : Held T (round T (wiresFrom ws) t (stateOf T))
     round-leaves = round-held T sound ws o t (stateOf T) (isNet-held T full net)
 
-    pub round-isNet : isNet (leave T (round T ws t (stateOf T))) ≡ true
-    round-isNet = isNet-kept T full net (round T ws t (stateOf T)) round-leaves
+    pub round-isNet : isNet (leave T (round T (wiresFrom ws) t (stateOf T))) ≡ true
+    round-isNet = isNet-kept T full net (round T (wiresFrom ws) t (stateOf T)) round-leaves
 
-    pub round-fullSize : fullSize (leave T (round T ws t (stateOf T))) ≡ true
-    round-fullSize = fullSize-kept T full net (round T ws t (stateOf T)) round-leaves
+    pub round-fullSize : fullSize (leave T (round T (wiresFrom ws) t (stateOf T))) ≡ true
+    round-fullSize = fullSize-kept T full net (round T (wiresFrom ws) t (stateOf T)) round-leaves
 
   -- In particular in stored order.
   pub roundOf-isNet : (t : ℕ) → isNet (roundOf t T) ≡ true
@@ -60,7 +60,7 @@ roundTables-done T t e = rw e
 pub roundTables-wiring : (T : Tables) (t : ℕ) → SameWiring T (roundTables T t)
 unfolding roundTables roundOf
 roundTables-wiring T t =
-    by-number (SameWiring T) (netNumber T) (roundOf t T) T (λ e. leave-wiring T (round T (wiresIn T) t (stateOf T)))
+    by-number (SameWiring T) (netNumber T) (roundOf t T) T (λ e. leave-wiring T (round T (wiresFrom (wiresIn T)) t (stateOf T)))
     (sameWiring-none T)
 
 -- A round of a net leaves a net: the next call is given neither 2 nor 16.

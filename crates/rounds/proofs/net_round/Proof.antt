@@ -5,6 +5,7 @@ use mathlib.Core.Path.{_∙_}
 use native.Mathlib.Omega.{arith}
 use Rattle.tables.specs.Tables.{Tables, tablesOf}
 use Rattle.net.proofs.NetLaws.{netNumber-sizes}
+use Rattle.rounds.specs.Round.{wiresFrom}
 use Rattle.rounds.proofs.Sound.{net-within, following-in, standing-in}
 use Rattle.rounds.proofs.RoundLaws.{net-runs, net-current, net-copied, net-named, copy-list, round-made}
 use Rattle.rounds.proofs.MovedLaws.{round-moved}
@@ -93,8 +94,8 @@ returns c vs f =
     let fol = copy-list (s .args .counts .following) (s .args .following .now) _ _ (following-in (came s) (s .pre .0)) (at-copy .copy .ensures) in
     let std = copy-list (s .args .counts .standing) (s .args .standing .now) _ _ (standing-in (came s) (s .pre .0)) (at-copy2 .copy2 .ensures) in
     let v = at-visit-all .visit-all .ensures .0 vs f in (
-      round-made (came s) (s .args .time) vs _ _ _ _ _ _ _ _ _ (at-visit-all .visit-all .result) _ fol std (v .0) (at-end-round .end-round .ensures),
-      round-moved (came s) vs (s .args .time) _ _ (s .args .moved .now) _ fol std (v .1),
+      round-made (came s) (s .args .time) (wiresFrom vs) _ _ _ _ _ _ _ _ _ (at-visit-all .visit-all .result) _ fol std (v .0) (at-end-round .end-round .ensures),
+      round-moved (came s) (wiresFrom vs) (s .args .time) _ _ (s .args .moved .now) _ fol std (v .1),
     )
 
 pub net-round-spec : {M : Type 1} → statement M

@@ -2,6 +2,7 @@
 -- Assumes nothing.
 use mathlib.Core.Path.{refl, _∙_}
 use native.Mathlib.Omega.{arith}
+use Rattle.rounds.specs.Round.{wiresFrom}
 use Rattle.rounds.specs.Steps.{wiring}
 use Rattle.rounds.proofs.StepsLaws.{runs-kept, runs-evaluates, evaluated-bare, visited}
 use borrow.Author.Needs.{needs}
@@ -36,7 +37,7 @@ returns c =
     let T = wiring (s .args .components .now) (s .args .wires .now) (s .args .counts) in
     let e = at-evaluate-at .evaluate-at in
     let w = at-send-wires .send-wires in (
-      λ vs f. visited T vs (s .args .time) (s .args .i) (s .args .inputs .now)
+      λ vs f. visited T (wiresFrom vs) (s .args .time) (s .args .i) (s .args .inputs .now)
           (s .args .outputs .now) _ _ _ _ _ _
           (e .ensures .0 .state ∙ evaluated-bare (s .args .components .now) (s .args .wires .now) (s .args .counts) _ _ _)
           (w .ensures .0 vs f),

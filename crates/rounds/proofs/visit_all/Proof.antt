@@ -7,7 +7,7 @@ use native.Mathlib.Omega.{arith}
 use lib.ListN.{length, take, length-set}
 use lib.Seq.{slice}
 use Rattle.tables.specs.declared.Wire.{Wire}
-use Rattle.rounds.specs.Round.{visit}
+use Rattle.rounds.specs.Round.{wiresFrom, visit}
 use Rattle.rounds.specs.Steps.{wiring, stateAt}
 use Rattle.rounds.specs.Links.{Follows, ListMarked, ListCovered}
 use Rattle.rounds.proofs.StepsLaws.{runs-kept, listed-at, listed-few, visits-next, visits-end}
@@ -26,8 +26,8 @@ Inv-loop components wires head after list count inputs₀ outputs₀ following�
     × (length following ≡ length following₀) × (length standing ≡ length standing₀) × (length moved ≡ length moved₀)
     × ListMarked T (reached .following) following listed × ListCovered (reached .standing) standing stood
     × ((vs : List Wire) → (0 < count → Follows wires (counts .wires) head after vs)
-    → (foldl (visit T vs time) now (slice k count list) ≡ foldl (visit T vs time) came (take count list))
-    × BitsSo T vs time list count came moved₀ k now moved)
+    → (foldl (visit T (wiresFrom vs) time) now (slice k count list) ≡ foldl (visit T (wiresFrom vs) time) came (take count list))
+    × BitsSo T (wiresFrom vs) time list count came moved₀ k now moved)
 
 abbrev μ-loop : tie.MeasureT-loop
 μ-loop components wires head after list count inputs₀ outputs₀ following₀ listed₀ standing₀ stood moved₀ counts time reached₀ k₀
@@ -107,9 +107,9 @@ loop-again c =
       λ vs f.
           let so-far = l .inv .8 vs f in
           let u = v .ensures .0 vs (f (omega (arith, b))) in (
-            visits-next T vs (s .args .time) (s .args .list .now) (l .k) (s .args .count) _ _ _ _ b
+            visits-next T (wiresFrom vs) (s .args .time) (s .args .list .now) (l .k) (s .args .count) _ _ _ _ b
                 (s .pre .1 .count) (at-entry .entry .ensures) u (so-far .0),
-            bits-next T vs (s .args .time) (s .args .list .now) (s .args .count) _ (s .args .moved .now) (s .pre .1 .count)
+            bits-next T (wiresFrom vs) (s .args .time) (s .args .list .now) (s .args .count) _ (s .args .moved .now) (s .pre .1 .count)
                 (l .k) _ _ _ _ (l .moved) b (omega (arith, few, s .pre .4)) (at-entry .entry .ensures) u (v .ensures .3) (so-far .1),
           ),
     )
@@ -121,9 +121,9 @@ returns c =
     let l = at-loop .loop in
     let T = wiring (s .args .components .now) (s .args .wires .now) (s .args .counts) in (
       λ vs f. (
-        visits-end T vs (s .args .time) (s .args .list .now) (l .k) (s .args .count) _ _
+        visits-end T (wiresFrom vs) (s .args .time) (s .args .list .now) (l .k) (s .args .count) _ _
             (omega arith) (l .inv .8 vs f .0),
-        bits-end T vs (s .args .time) (s .args .list .now) (s .args .count) _ (s .args .moved .now) (s .pre .1 .count)
+        bits-end T (wiresFrom vs) (s .args .time) (s .args .list .now) (s .args .count) _ (s .args .moved .now) (s .pre .1 .count)
             (l .k) _ (l .moved) (omega arith) (l .inv .8 vs f .1),
       ),
       l .inv .6 .fits .count,

@@ -7,14 +7,14 @@ use lib.ListN.{length}
 use Rattle.lists.specs.Lists.{overlay}
 use Rattle.tables.specs.Tables.{Tables, tablesOf, wiresIn}
 use Rattle.net.specs.Net.{netNumber}
-use Rattle.simulator.specs.Calls.{run}
+use Rattle.simulator.specs.Calls.{roundTables, run}
 use Rattle.rounds.specs.Round.{roundBits, roundOf}
 use Rattle.rounds.specs.Links.{Ready}
 use Rattle.rounds.proofs.Sound.{net-within}
 use Rattle.rounds.proofs.LinksLaws.{linked-none, ready-follows}
 use Rattle.rounds.proofs.RoundLaws.{net-sources, net-wires, net-listed, round-stored, round-bits, round-wires, calm-lists}
 use Rattle.simulator.proofs.MovedLaws.{counted-few}
-use Rattle.simulator.proofs.RunLaws.{onTop, stopped, run-start, round-net, run-turn, test-going, test-below, run-end}
+use Rattle.simulator.proofs.RunLaws.{onTop, stopped, runBy-start, round-net, run-turn, test-going, test-below, runBy-end}
 use borrow.Author.Needs.{needs}
 use Rattle.simulator.proofs.calls.net_run.Statement.{statement}
 use Rattle.simulator.proofs.calls.net_run.Tie as tie
@@ -26,7 +26,7 @@ Inv-loop components inputs₀ outputs₀ wires current₀ following₀ standing�
     × (length outputs ≡ length outputs₀)
     × (length current ≡ length current₀) × (length following ≡ length following₀) × (length standing ≡ length standing₀)
     × (netNumber (tablesOf components inputs outputs wires current following standing reached) ≡ 0)
-    × (onTop rounds evaluations moved (stopped calm (limit - rounds) time
+    × (onTop rounds evaluations moved (stopped time calm (limit - rounds)
     (tablesOf components inputs outputs wires current following standing reached))
     ≡ run limit time (tablesOf components inputs₀ outputs₀ wires current₀ following₀ standing₀ reached₀))
     × Ready linked wires (reached .wires) head after
@@ -60,7 +60,7 @@ loop-holds c =
       refl,
       refl,
       s .pre,
-      run-start (s .args .limit) (s .args .time) _,
+      runBy-start (λ U. roundTables U (s .args .time)) (roundBits (s .args .time)) (s .args .limit) _,
       linked-none (s .args .wires .now) (s .args .counts .wires) (net-within T (s .pre) .wires),
       omega arith,
       refl,
@@ -212,7 +212,8 @@ returns c =
     let at-loop = c .before in
     let s = at-loop .before .before .before .before .before .before .before .before in
     let l = at-loop .loop in
-    run-end (l .calm) (s .args .limit) (l .rounds) (l .evaluations) (l .moved) (s .args .time) (here at-loop) _
+    runBy-end (λ U. roundTables U (s .args .time)) (roundBits (s .args .time)) (l .calm) (s .args .limit) (l .rounds) (l .evaluations) (l .moved)
+    (here at-loop) _
     (c .loop-test .left) (l .inv .8)
 
 pub net-run-spec : {M : Type 1} → statement M
