@@ -29,7 +29,7 @@ use Rattle.tables.specs.Words.{uncounted, wireIn}
 use Rattle.net.specs.Net.{names}
 use Rattle.net.proofs.NetLaws.{names-entry}
 use Rattle.rounds.specs.Round.{State, withCurrent, withStanding, evaluated, send, visit, movedAt}
-use Rattle.rounds.specs.Steps.{wiring, stateAt, CanEvaluate, CanSend, CanRun, ListFits, Step}
+use Rattle.rounds.specs.Steps.{wiring, stateAt, CanEvaluate, CanSend, CanReach, CanRun, ListFits, Step}
 use Rattle.rounds.proofs.Ports.{numbers-length}
 use Rattle.rounds.proofs.ListedLaws.{strike-none}
 use Rattle.rounds.proofs.Held.{carried, received, written, SendCase, agrees, writes, send-case}
@@ -197,37 +197,44 @@ module _ (cs ws : List ℕ) (m : Counts) where
   send-bare s w = refl
 
   -- Wire k of a net can be sent along.
-  pub runs-sends : (ins outs fol : List ℕ) (n k : ℕ) → CanRun (wiring cs ws m) ins outs → ListFits (wiring cs ws m) n fol
-      → k < m .wires
-      → CanSend (uncounted cs []) ins outs n fol (wireIn ws k)
-  runs-sends ins outs fol n k g l h =
+  pub runs-reach : (ins outs : List ℕ) (k : ℕ) → CanRun (wiring cs ws m) ins outs → k < m .wires
+      → CanReach (wiring cs ws m) ins outs (wireIn ws k)
+  runs-reach ins outs k g h =
       record {
-        source-row = omega (arith, g .leaves k h, g .rows);
-        target-row = omega (arith, g .named k h, g .rows);
+        few = g .few;
+        rows = g .rows;
+        leaves = g .leaves k h;
+        named = g .named k h;
         source = g .source k h;
         target = g .target k h;
-        few = omega (arith, g .named k h, g .few);
-        count = l .count;
-        room = append-room (wiring cs ws m) (wireIn ws k .dst .comp .0) (take n fol) fol (l .named)
-            (g .named k h) (g .few) (l .whole);
       }
 
-  -- The list stays one of names.
-  pub sent-listed : (ins outs fol ins' fol' : List ℕ) (n k r : ℕ) → CanRun (wiring cs ws m) ins outs
-      → ListFits (wiring cs ws m) n fol → k < m .wires
-      → Step r fol' (stateAt ins' outs (take r fol') [])
-      (send (uncounted cs []) (stateAt ins outs (take n fol) []) (wireIn ws k))
-      → length fol' ≡ length fol → ListFits (wiring cs ws m) r fol'
-  unfolding send
-  sent-listed ins outs fol ins' fol' n k r g l h d e =
-      record {
-        whole = omega (arith, l .whole);
-        count = d .count;
-        named =
-            ap (λ (u : State). names (wiring cs ws m) (u .following)) (d .state)
-            ∙ send-names (wiring cs ws m) (stateAt ins outs (take n fol) []) (wireIn ws k) (g .named k h)
-            (l .named);
-      }
+  -- The list has room for what a wire enters, and stays one of names.
+  module _ (ins outs : List ℕ) (w : Wire) (g : CanReach (wiring cs ws m) ins outs w) (n : ℕ) (fol : List ℕ) (l : ListFits (wiring cs ws m) n fol) where
+    pub reach-sends : CanSend (uncounted cs []) ins outs n fol w
+    reach-sends =
+        record {
+          source-row = omega (arith, g .leaves, g .rows);
+          target-row = omega (arith, g .named, g .rows);
+          source = g .source;
+          target = g .target;
+          few = omega (arith, g .named, g .few);
+          count = l .count;
+          room = append-room (wiring cs ws m) (w .dst .comp .0) (take n fol) fol (l .named) (g .named) (g .few) (l .whole);
+        }
+
+    pub sent-listed : (ins' fol' : List ℕ) (r : ℕ)
+        → Step r fol' (stateAt ins' outs (take r fol') []) (send (uncounted cs []) (stateAt ins outs (take n fol) []) w)
+        → length fol' ≡ length fol → ListFits (wiring cs ws m) r fol'
+    unfolding send
+    sent-listed ins' fol' r d e =
+        record {
+          whole = omega (arith, l .whole);
+          count = d .count;
+          named =
+              ap (λ (u : State). names (wiring cs ws m) (u .following)) (d .state)
+              ∙ send-names (wiring cs ws m) (stateAt ins outs (take n fol) []) w (g .named) (l .named);
+        }
 
   -- What a net gives depends on the port tables by their lengths only.
   pub runs-kept : (ins outs ins' outs' : List ℕ) → CanRun (wiring cs ws m) ins outs → length ins' ≡ length ins

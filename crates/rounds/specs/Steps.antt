@@ -2,6 +2,7 @@
 --   wiring             the components and the wires, which no round writes
 --   stateAt            the ports and the two lists that a round changes as it goes; no step reads the current list
 --   CanEvaluate, CanSend   component i can be evaluated; wire w can be sent along, and its target appended
+--   CanReach             the wire w can be sent along, whatever is listed
 --   CanRun               all components and all wires can
 --   ListFits T n t       the first n entries of the table t name components of T, none twice
 --   ListInside cs n t    the words of the components that the first n entries of the table t name stand in the table cs
@@ -45,6 +46,15 @@ pub record CanSend (T : Tables) (is os : List ℕ) (n : ℕ) (t : List ℕ) (w :
   pub few : w .dst .comp .0 < 256
   pub count : n ≤ length t
   pub room : length (appendNew (w .dst .comp .0) (take n t)) ≤ length t
+
+-- What a wire of a net gives: it joins components of the net, and both its ends stand in the tables.
+pub record CanReach (T : Tables) (is os : List ℕ) (w : Wire) : Type 0 where
+  pub few : T .counts .components ≤ 256
+  pub rows : RowsInside (T .components) (T .counts .components)
+  pub leaves : w .src .comp .0 < T .counts .components
+  pub named : w .dst .comp .0 < T .counts .components
+  pub source : outputPlace T (w .src) < length os
+  pub target : inputPlace T (w .dst) < length is
 
 -- What a net gives: components obey the table of kinds; their words and those of wires, their ports and the ends of wires stand in the tables.
 pub record CanRun (T : Tables) (is os : List ℕ) : Type 0 where

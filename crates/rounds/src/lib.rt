@@ -18,35 +18,35 @@ ghost use Rattle.rounds.specs.Round.{stateOf, wiresFrom, turn, leave, se
 ghost use Rattle.rounds.specs.Steps.{wiring, stateAt, CanEvaluate, CanSend, CanRun, ListFits, Step};
 ghost use Rattle.rounds.specs.Links.{Follows, HasLinks, IsListed, ListMarked, ListCovered};
 use crate::marks::append_marked;
-use crate::marks::mark;
 pub use calm::net_calm;
 use kinds::Kind;
 pub use links::NO_WIRE;
 pub use links::link_once;
+pub use marks::mark;
 use tables::Counts;
 use tables::Wire;
 
 // How many entries of the following and the standing list are in use.
-struct Sizes {
-    following: usize,
-    standing: usize,
+pub struct Sizes {
+    pub following: usize,
+    pub standing: usize,
 }
 
 // What an evaluation comes to: the standing list's new count, and which outputs changed, bit i for output i.
-struct Outcome {
-    standing: usize,
-    moved: u64,
+pub struct Outcome {
+    pub standing: usize,
+    pub moved: u64,
 }
 
 // What a visit comes to: the new counts of the two lists, and which outputs changed.
-struct Visited {
-    sizes: Sizes,
-    moved: u64,
+pub struct Visited {
+    pub sizes: Sizes,
+    pub moved: u64,
 }
 
 // One wire: if output and input differ, writes the input and appends the target to the following list unless there. The answer is
-// the list's new count.
-fn send_along(
+// the list's new count. Crates rounds and slow call it for a wire of a net.
+pub fn send_along(
     components: &[u64],
     inputs: &mut [u64],
     outputs: &[u64],
@@ -114,8 +114,9 @@ fn send_wires(
 }
 
 // Evaluates component i in the tables of ports and, unless it is a Clock, strikes it from the standing list. What the list named at
-// the round's start is marked in `stood`: any other component is not there to be struck.
-fn evaluate_at(
+// the round's start is marked in `stood`: any other component is not there to be struck. Crates rounds and slow call it for a component of
+// a net.
+pub fn evaluate_at(
     components: &[u64],
     inputs: &[u64],
     outputs: &mut [u64],
@@ -290,8 +291,9 @@ fn visit_all(
 }
 
 // The end of a round: current becomes following, and following becomes a copy of standing. `next` and `left` are the following and
-// the standing list that the round has made; entries past their counts stay what they were in the lent tables.
-fn end_round(
+// the standing list that the round has made; entries past their counts stay what they were in the lent tables. Crates rounds and slow
+// call it where all tables have room.
+pub fn end_round(
     next: &[u16],
     left: &[u16],
     current: &mut [u16],

@@ -6,8 +6,8 @@ ghost use lib.ListN.{length, getD, take};
 ghost use Rattle.lists.specs.Lists.{appendNew, overlay};
 ghost use Rattle.rounds.specs.Links.{IsListed};
 
-// Marks what the first `count` entries of a list name, where nothing is marked yet.
-pub(crate) fn mark(list: &[u16], count: usize, marks: &mut [u8; 256])
+// Marks what the first `count` entries of a list name, where nothing is marked yet. Crates rounds and slow call it for lists of a net.
+pub fn mark(list: &[u16], count: usize, marks: &mut [u8; 256])
     requires { ⌜ (count ≤ length (now list)) × ((j : ℕ) → j < count → getD (now list) j 0 < 256) × IsListed (now marks) [] ⌝ }
     ensures { λ _. ⌜ IsListed (now (marks .exit)) (take count (now (list .entry))) ⌝ }
 {

@@ -41,30 +41,28 @@ driven-entered T i = any-map (λ (w : Wire). eqb (w .dst .comp .0) i) (wireAt T)
 
 -- On a net: 17; then, of a component that is a Switch or not (s), an Input or not (q), driven or not (d), 18; then, of
 -- a value that fits the port or not (b), 19; and 0 where none is given.
-module _ (cs ws : List ℕ) (m : Counts) (i v : ℕ) where
-  pub edit-17 : m .components ≤ i → 17 ≡ editRefusal cs ws m i v
+module _ (cs : List ℕ) (n : ℕ) (d : Bool) (i v : ℕ) where
+  pub edit-17 : n ≤ i → 17 ≡ editRefusal cs n d i v
   unfolding editRefusal
-  edit-17 h = rw (le-leb (m .components) i h)
+  edit-17 h = rw (le-leb n i h)
 
-  module _ (h : i < m .components) (s q d : Bool) (es : s ≡ is Switch (fieldsIn cs i))
-      (eq : q ≡ is Input (fieldsIn cs i))
-      (ed : d ≡ entered ws (m .wires) i) where
-    pub edit-18 : not (s || (q && not d)) ≡ true → 18 ≡ editRefusal cs ws m i v
+  module _ (h : i < n) (s q : Bool) (es : s ≡ is Switch (fieldsIn cs i)) (eq : q ≡ is Input (fieldsIn cs i)) where
+    pub edit-18 : not (s || (q && not d)) ≡ true → 18 ≡ editRefusal cs n d i v
     unfolding editRefusal
-    edit-18 e = rw (lt-leb (m .components) i h, ← es, ← eq, ← ed, e)
+    edit-18 e = rw (lt-leb n i h, ← es, ← eq, e)
 
     module _ (e : not (s || (q && not d)) ≡ false) (f : Fields) (w : ℕ) (b : Bool) (ef : f ≡ fieldsIn cs i)
         (ew : w ≡ cond s (outputWidth f) (inputWidth f)) (eb : b ≡ fits (ofWidth w v)) where
       value : b ≡ fits (ofWidth (cond s (outputWidth (fieldsIn cs i)) (inputWidth (fieldsIn cs i))) v)
       value = eb ∙ ap (λ (u : ℕ). fits (ofWidth u v)) (ew ∙ ap (λ (g : Fields). cond s (outputWidth g) (inputWidth g)) ef)
 
-      pub edit-19 : not b ≡ true → 19 ≡ editRefusal cs ws m i v
+      pub edit-19 : not b ≡ true → 19 ≡ editRefusal cs n d i v
       unfolding editRefusal
-      edit-19 l = rw (lt-leb (m .components) i h, ← es, ← eq, ← ed, e, ← value, l)
+      edit-19 l = rw (lt-leb n i h, ← es, ← eq, e, ← value, l)
 
-      pub edit-0 : not b ≡ false → 0 ≡ editRefusal cs ws m i v
+      pub edit-0 : not b ≡ false → 0 ≡ editRefusal cs n d i v
       unfolding editRefusal
-      edit-0 l = rw (lt-leb (m .components) i h, ← es, ← eq, ← ed, e, ← value, l)
+      edit-0 l = rw (lt-leb n i h, ← es, ← eq, e, ← value, l)
 
 -- On any tables.
 module _ (T : Tables) (i v : ℕ) where
@@ -87,9 +85,10 @@ module _ (T : Tables) (i v : ℕ) where
   unfolding editNumber
   edit-refused k e ne = sym (number-refused T (refusal checks) k e ne)
 
-  pub edit-net : netNumber T ≡ 0 → editRefusal (T .components) (T .wires) (T .counts) i v ≡ editNumber T i v
+  pub edit-net : netNumber T ≡ 0 → (d : Bool) → d ≡ entered (T .wires) (T .counts .wires) i
+      → editRefusal (T .components) (T .counts .components) d i v ≡ editNumber T i v
   unfolding editNumber editRefusal
-  edit-net z = sym (number-net T (refusal checks) z ∙ rw (driven-entered T i))
+  edit-net z d e = rw e (sym (number-net T (refusal checks) z ∙ rw (driven-entered T i)))
 
 -- Where none is given: the component and its port are there, and the current and the standing list have room.
 module _ (T : Tables) (i v : ℕ) (z : editNumber T i v ≡ 0) where

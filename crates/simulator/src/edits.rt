@@ -30,19 +30,18 @@ fn is_driven(wires: &[u16], count: usize, i: usize) -> bool
     false
 }
 
-// What an edit of a net checks: 17 where there is no component i; 18 where it is neither a Switch nor an Input without a wire;
-// 19 where its value does not fit the port that is set.
-fn edit_number(components: &[u64], wires: &[u16], counts: Counts, i: usize, number: u64) -> u32
-    requires { ⌜ (i < counts .components → RowInside (now components) i × (fieldsFit (fieldsIn (now components) i) ≡ true))
-        × WiresInside (now wires) (counts .wires) ⌝ }
-    ensures { λ r. ⌜ r ≡ editRefusal (now (components .entry)) (now (wires .entry)) counts i number ⌝ }
+// What an edit checks of a net of `count` components: 17 where there is no component i; 18 where it is neither a Switch nor an Input that
+// no wire has entered; 19 where its value does not fit the port that is set. Crates simulator and slow call it.
+pub fn edit_number(components: &[u64], count: usize, entered: bool, i: usize, number: u64) -> u32
+    requires { ⌜ (i < count → RowInside (now components) i × (fieldsFit (fieldsIn (now components) i) ≡ true)) ⌝ }
+    ensures { λ r. ⌜ r ≡ editRefusal (now (components .entry)) count entered i number ⌝ }
 {
-    if counts.components <= i {
+    if count <= i {
         return 17;
     }
     let switch = tables::is_kind(components, i, Kind::Switch);
     let input = tables::is_kind(components, i, Kind::Input);
-    if !(switch | (input & !is_driven(wires, counts.wires, i))) {
+    if !(switch | (input & !entered)) {
         return 18;
     }
     let f = tables::fields_at(components, i);
@@ -58,8 +57,8 @@ fn edit_number(components: &[u64], wires: &[u16], counts: Counts, i: usize, numb
     0
 }
 
-// Sets the output of a Switch, and of any other component the first input.
-fn set_port(components: &[u64], inputs: &mut [u64], outputs: &mut [u64], i: usize, number: u64)
+// Sets the output of a Switch, and of any other component the first input. Crates simulator and slow call it where no check refuses.
+pub fn set_port(components: &[u64], inputs: &mut [u64], outputs: &mut [u64], i: usize, number: u64)
     requires { ⌜ RowInside (now components) i
         × (is Switch (fieldsIn (now components) i) ≡ true → firstOutputIn (now components) i < length (now outputs))
         × ((is Switch (fieldsIn (now components) i) ≡ true → ⊥) → firstInputIn (now components) i < length (now inputs)) ⌝ }
@@ -104,7 +103,8 @@ fn edit_checks(
     if refused != 0 {
         return refused;
     }
-    edit_number(components, wires, counts, i, number)
+    let entered = is_driven(wires, counts.wires, i);
+    edit_number(components, counts.components, entered, i, number)
 }
 
 // Makes the checks of an edit, on any tables, and sets the port where none refuses. The answer is the number.

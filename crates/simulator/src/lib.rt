@@ -7,8 +7,11 @@ mod standing;
 
 pub use calls::round;
 pub use calls::run_until_calm;
+pub use edits::edit_number;
+pub use edits::set_port;
 pub use first::edit;
 use kinds::Refusal;
+pub use moved::count_moved;
 pub use standing::edit_standing;
 use tables::Counts;
 

@@ -2,14 +2,16 @@
 -- Assumes nothing.
 use mathlib.Core.Path.{_≡_, refl, sym, ap, _∙_}
 use mathlib.Core.List.{[], foldl}
+use Prim.Native.Nat.{_<_}
 use native.Mathlib.Omega.{arith}
 use lib.ListN.{length, getD, take}
 use Rattle.tables.specs.Tables.{Tables}
+use Rattle.tables.specs.Words.{wireIn}
 use Rattle.rounds.specs.Round.{State, send}
-use Rattle.rounds.specs.Steps.{wiring, stateAt, CanRun}
+use Rattle.rounds.specs.Steps.{wiring, stateAt, CanReach, CanRun}
 use Rattle.rounds.specs.Links.{numbersFrom, ListMarked}
 use Rattle.rounds.proofs.LinksLaws.{met, Sending, sending-start, sending-next, sending-falls, sending-end, follows-from}
-use Rattle.rounds.proofs.StepsLaws.{send-bare, runs-kept, runs-sends, sent-listed}
+use Rattle.rounds.proofs.StepsLaws.{send-bare, runs-kept, runs-reach, reach-sends, sent-listed}
 use borrow.Author.Needs.{needs}
 use Rattle.rounds.proofs.send_wires.Statement.{statement}
 use Rattle.rounds.proofs.send_wires.Tie as tie
@@ -52,6 +54,14 @@ runs c =
     runs-kept (s .args .components .now) (s .args .wires .now) (s .args .counts) (s .args .inputs .now)
     (s .args .outputs .now) (c .loop .inputs) (s .args .outputs .now) (s .pre .0) (c .loop .inv .0) refl
 
+-- So the wire can be sent along.
+reach : (c : tie.At-loop Inv-loop μ-loop) →
+    let s = c .before .before .before .before .before .before .before .before in
+    c .loop .k < s .args .counts .wires → CanReach (T s) (c .loop .inputs) (s .args .outputs .now) (wireIn (s .args .wires .now) (c .loop .k))
+reach c h =
+    let s = c .before .before .before .before .before .before .before .before in
+    runs-reach (s .args .components .now) (s .args .wires .now) (s .args .counts) (c .loop .inputs) (s .args .outputs .now) (c .loop .k) (runs c) h
+
 send-along-requires : tie.Need-send-along-requires Inv-loop μ-loop
 send-along-requires c κs =
     let at-wire-at = c .before .before .before in
@@ -60,8 +70,8 @@ send-along-requires c κs =
     let s = at-loop .before .before .before .before .before .before .before .before in
     let l = at-loop .loop in (
       rw (at-wire-at .wire-at .ensures)
-          (runs-sends (s .args .components .now) (s .args .wires .now) (s .args .counts) (l .inputs) (s .args .outputs .now)
-          (l .following) (l .filled) (l .k) (runs at-loop) (l .inv .2 .fits) (at-if1 .if1 .taken)),
+          (reach-sends (s .args .components .now) (s .args .wires .now) (s .args .counts) (l .inputs) (s .args .outputs .now) _
+          (reach at-loop (at-if1 .if1 .taken)) (l .filled) (l .following) (l .inv .2 .fits)),
       l .inv .2 .marked,
     )
 
@@ -100,8 +110,8 @@ loop-again c =
       r .kept .1 .0 ∙ l .inv .0,
       r .kept .1 .1 .1 .0 ∙ l .inv .1,
       record {
-        fits = sent-listed (s .args .components .now) (s .args .wires .now) (s .args .counts) (l .inputs) (s .args .outputs .now)
-            (l .following) _ _ (l .filled) (l .k) _ (runs at-loop) (l .inv .2 .fits) b (rw w at (r .ensures .0)) (r .kept .1 .1 .1 .0);
+        fits = sent-listed (s .args .components .now) (s .args .wires .now) (s .args .counts) (l .inputs) (s .args .outputs .now) _
+            (reach at-loop b) (l .filled) (l .following) (l .inv .2 .fits) _ _ _ (rw w at (r .ensures .0)) (r .kept .1 .1 .1 .0);
         marked = r .ensures .1;
       },
       sending-next (T s) (s .args .wires .now) (s .args .after .now) (s .args .counts .wires) _ (came s) (l .k) _ _ _ b

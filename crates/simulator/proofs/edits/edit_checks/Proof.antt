@@ -27,21 +27,28 @@ returns c =
     let s = at-net-number .before .before .before .before .before .before .before .before in
     edit-refused (came s) (s .args .i) (s .args .number) _ (at-net-number .net-number .ensures) (c .if1 .taken)
 
-edit-number-requires : tie.Need-edit-number-requires
-edit-number-requires c κs =
+is-driven-requires : tie.Need-is-driven-requires
+is-driven-requires c κs =
     let at-net-number = c .before in
     let s = at-net-number .before .before .before .before .before .before .before .before in
-    let z = passed-net (came s) _ (at-net-number .net-number .ensures) (c .if1 .left) in (
-      λ h. (omega (arith, net-rows (came s) z, h), kindsObeyed-fit (came s) (netNumber-net (came s) z .kinds) (s .args .i) h),
-      net-wires (came s) z,
-    )
+    net-wires (came s) (passed-net (came s) _ (at-net-number .net-number .ensures) (c .if1 .left))
 
-returns-2 : tie.Need-returns-2
-returns-2 c =
+edit-number-requires : tie.Need-edit-number-requires
+edit-number-requires c κs h =
     let at-if1 = c .before in
     let at-net-number = at-if1 .before in
     let s = at-net-number .before .before .before .before .before .before .before .before in
-    c .edit-number .ensures ∙ edit-net (came s) (s .args .i) (s .args .number) (passed-net (came s) _ (at-net-number .net-number .ensures) (at-if1 .if1 .left))
+    let z = passed-net (came s) _ (at-net-number .net-number .ensures) (at-if1 .if1 .left) in
+    (omega (arith, net-rows (came s) z, h), kindsObeyed-fit (came s) (netNumber-net (came s) z .kinds) (s .args .i) h)
+
+returns-2 : tie.Need-returns-2
+returns-2 c =
+    let at-if1 = c .before .before in
+    let at-net-number = at-if1 .before in
+    let s = at-net-number .before .before .before .before .before .before .before .before in
+    c .edit-number .ensures
+    ∙ edit-net (came s) (s .args .i) (s .args .number) (passed-net (came s) _ (at-net-number .net-number .ensures) (at-if1 .if1 .left)) _
+    (c .before .is-driven .ensures)
 
 pub edit-checks-spec : {M : Type 1} → statement M
-edit-checks-spec = tie.close (tie.spec (λ c κs. search needs) returns edit-number-requires returns-2)
+edit-checks-spec = tie.close (tie.spec (λ c κs. search needs) returns is-driven-requires edit-number-requires returns-2)

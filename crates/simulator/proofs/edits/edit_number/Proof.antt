@@ -10,73 +10,53 @@ use borrow.Author.Needs.{needs}
 use Rattle.simulator.proofs.edits.edit_number.Statement.{statement}
 use Rattle.simulator.proofs.edits.edit_number.Tie as tie
 
+-- The width of the port that is set.
 wide : (c : tie.Joined3)
-    → c .if3 .width
-    ≡ cond (c .before .before .before .before .before .is-kind .result) (outputWidth (c .before .fields-at .result))
-    (inputWidth (c .before .fields-at .result))
+    → c .if3 .width ≡ cond (c .before .before .before .before .is-kind .result) (outputWidth (c .before .fields-at .result)) (inputWidth (c .before .fields-at .result))
 wide c =
     ⊎-elim (λ w. rw (w .0 .taken) (w .2 ∙ w .1 .ensures)) (λ w. rw (w .0 .left) (w .2 ∙ w .1 .ensures)) (c .if3 .came)
 
 returns : tie.Need-returns
 returns c =
-    let s = c .before .before .before .before in
-    let a = s .args in edit-17 (a .components .now) (a .wires .now) (a .counts) (a .i) (a .number) (c .if1 .taken)
+    let a = c .before .before .args in
+    edit-17 (a .components .now) (a .count) (a .entered) (a .i) (a .number) (c .if1 .taken)
 
 returns-2 : tie.Need-returns-2
 returns-2 c =
-    let at-if1 = c .before .before .before .before in
-    let s = at-if1 .before .before .before .before in
-    let a = s .args in
-    edit-18 (a .components .now) (a .wires .now) (a .counts) (a .i) (a .number) (at-if1 .if1 .left) _ _ _
-    (c .before .before .before .is-kind .ensures)
-    (c .before .before .is-kind2 .ensures) (c .before .is-driven .ensures) (c .if2 .taken)
+    let a = c .before .before .before .before .before .args in
+    edit-18 (a .components .now) (a .count) (a .entered) (a .i) (a .number) (c .before .before .before .if1 .left) _ _
+    (c .before .before .is-kind .ensures) (c .before .is-kind2 .ensures) (c .if2 .taken)
 
 fields-at-requires : tie.Need-fields-at-requires
-fields-at-requires c κs =
-    let at-if1 = c .before .before .before .before in
-    let s = at-if1 .before .before .before .before in
-    s .pre .0 (at-if1 .if1 .left)
-
--- The width of the port that is set.
+fields-at-requires c κs = c .before .before .before .before .before .pre (c .before .before .before .if1 .left)
 
 returns-3 : tie.Need-returns-3
 returns-3 c =
-    let at-if2 = c .before .before .before .before .before in
-    let at-is-driven = at-if2 .before in
-    let at-is-kind2 = at-is-driven .before in
-    let at-is-kind = at-is-kind2 .before in
-    let at-if1 = at-is-kind .before in
-    let s = at-if1 .before .before .before .before in
-    let a = s .args in
-    edit-19 (a .components .now) (a .wires .now) (a .counts) (a .i) (a .number) (at-if1 .if1 .left) _ _ _
-    (at-is-kind .is-kind .ensures)
-    (at-is-kind2 .is-kind2 .ensures) (at-is-driven .is-driven .ensures) (at-if2 .if2 .left) _ _ _
-    (c .before .before .before .before .fields-at .ensures) (wide (c .before .before .before))
-    (ap (λ (f : Fit). f .fits) (c .before .before .fits2 .ensures)) (c .if4 .taken)
+    let a = c .before .before .before .before .before .before .before .before .before .before .args in
+    edit-19 (a .components .now) (a .count) (a .entered) (a .i) (a .number) (c .before .before .before .before .before .before .before .before .if1 .left) _ _
+    (c .before .before .before .before .before .before .before .is-kind .ensures) (c .before .before .before .before .before .before .is-kind2 .ensures) (c .before .before .before .before .before .if2 .left) _ _ _
+    (c .before .before .before .before .fields-at .ensures) (wide (c .before .before .before)) (ap (λ (f : Fit). f .fits) (c .before .before .fits2 .ensures)) (c .if4 .taken)
 
 returns-4 : tie.Need-returns-4
 returns-4 c =
-    let at-if2 = c .before .before .before .before .before in
-    let at-is-driven = at-if2 .before in
-    let at-is-kind2 = at-is-driven .before in
-    let at-is-kind = at-is-kind2 .before in
-    let at-if1 = at-is-kind .before in
-    let s = at-if1 .before .before .before .before in
-    let a = s .args in
-    edit-0 (a .components .now) (a .wires .now) (a .counts) (a .i) (a .number) (at-if1 .if1 .left) _ _ _
-    (at-is-kind .is-kind .ensures)
-    (at-is-kind2 .is-kind2 .ensures) (at-is-driven .is-driven .ensures) (at-if2 .if2 .left) _ _ _
-    (c .before .before .before .before .fields-at .ensures) (wide (c .before .before .before))
-    (ap (λ (f : Fit). f .fits) (c .before .before .fits2 .ensures)) (c .if4 .left)
+    let a = c .before .before .before .before .before .before .before .before .before .before .args in
+    edit-0 (a .components .now) (a .count) (a .entered) (a .i) (a .number) (c .before .before .before .before .before .before .before .before .if1 .left) _ _
+    (c .before .before .before .before .before .before .before .is-kind .ensures) (c .before .before .before .before .before .before .is-kind2 .ensures) (c .before .before .before .before .before .if2 .left) _ _ _
+    (c .before .before .before .before .fields-at .ensures) (wide (c .before .before .before)) (ap (λ (f : Fit). f .fits) (c .before .before .fits2 .ensures)) (c .if4 .left)
+
+is-kind-requires : tie.Need-is-kind-requires
+is-kind-requires c κs = c .before .before .pre (c .if1 .left) .0
+
+is-kind-requires-2 : tie.Need-is-kind-requires-2
+is-kind-requires-2 c κs = c .before .before .before .pre (c .before .if1 .left) .0
 
 pub edit-number-spec : {M : Type 1} → statement M
 edit-number-spec =
     tie.close
     (tie.spec
     returns
-    (λ c κs. c .before .before .before .before .pre .0 (c .if1 .left) .0)
-    (λ c κs. c .before .before .before .before .before .pre .0 (c .before .if1 .left) .0)
-    (λ c κs. c .before .before .before .before .before .before .pre .1)
+    is-kind-requires
+    is-kind-requires-2
     returns-2
     fields-at-requires
     (λ c κs. search needs)
