@@ -125,19 +125,19 @@ module _ (s ix fs : List ℕ) (ready : Ready s ix fs) (p : ℕ) (l : p < length 
   passed : Passed (recordAt s) count
   passed = accepted-passed s (ready .accepted)
 
-  connects : formOf (recordAt s p) ≡ 2
+  pub connects : formOf (recordAt s p) ≡ 2
   connects = form-is s count p o a b f g e
 
   primitive-number : (c : ℕ) → isPrimitive (recordAt s c) ≡ true → c < 256
   primitive-number c h = component-number (recordAt s) count passed c (primitive-component (recordAt s c) h)
 
-  flat-end : (t : Pin) → t .comp < 256 → endBy fs t ≡ flatPin (recordAt s) count t
+  pub flat-end : (t : Pin) → t .comp < 256 → endBy fs t ≡ flatPin (recordAt s) count t
   flat-end t h = ap (λ (c : ℕ). endAt c (t .port)) (ready .indexes .word (t .comp) h)
 
   -- Its source is a primitive's, and has a number below 256.
   module _ (m c : ℕ) (x : Pin) (em : m ≡ deepest) (ec : c ≡ child (recordAt s) count o (f .0))
       (ex : x ≡ outputBelow (recordAt s) count m c a) where
-    from-source : x ≡ comesFrom (recordAt s) count p
+    pub from-source : x ≡ comesFrom (recordAt s) count p
     from-source = source-is s count p o a b f g e m c x em ec ex
 
     pub source-number : x .comp < 256
@@ -146,10 +146,10 @@ module _ (s ix fs : List ℕ) (ready : Ready s ix fs) (p : ℕ) (l : p < length 
     -- So has each target of a table us in which they are listed; and the wires to them are those of the record.
     module _ (j q : ℕ) (ej : j ≡ deepest) (eq : q ≡ child (recordAt s) count o (g .0)) (ts us : List ℕ) (r : ℕ)
         (listed : Listed ts 0 (inputsBelow (recordAt s) count j q b) us r) (full : length ts ≡ targetPlace 1024) where
-      read : targetsIn us r ≡ goesTo (recordAt s) count p
+      pub read : targetsIn us r ≡ goesTo (recordAt s) count p
       read = connection-read s count passed p l o a b f g e j q ej eq ts us r listed full
 
-      target-number : (t : Pin) → In t (goesTo (recordAt s) count p) → t .comp < 256
+      pub target-number : (t : Pin) → In t (goesTo (recordAt s) count p) → t .comp < 256
       target-number t h = primitive-number (t .comp) (target-there (recordAt s) count passed p l connects t h .of-primitive)
 
       pub targets-small : (k : ℕ) → k < r → targetIn us k .comp < 256

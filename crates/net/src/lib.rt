@@ -9,4 +9,7 @@ mod values;
 mod whole;
 mod wires;
 
+pub use naming::names;
+pub use values::row_fits;
+pub use values::row_held;
 pub use whole::net_number;

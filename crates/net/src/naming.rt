@@ -7,8 +7,9 @@ ghost use Rattle.net.specs.Net.{names};
 ghost use Rattle.net.specs.Parts.{lent};
 use tables::Counts;
 
-// Whether the first `count` entries of a list name components, none twice: each component that is named is marked.
-pub(crate) fn names(list: &[u16], count: usize, counts: Counts) -> bool
+// Whether the first `count` entries of a list name components, none twice: each component that is named is marked. Crates net and slow call it
+// where the counts are within their limits.
+pub fn names(list: &[u16], count: usize, counts: Counts) -> bool
     requires { ⌜ (counts .components ≤ 256) × (count ≤ length (now list)) ⌝ }
     ensures { λ r. ⌜ r ≡ names (lent [] [] [] [] counts) (take count (now (list .entry))) ⌝ }
 {

@@ -31,8 +31,9 @@ fn all_fit(ports: &[u64], start: usize, count: usize, width: u64) -> bool
     true
 }
 
-// Whether the values of component i fit its ports, each of whose inputs has `inward` bits and each output `outward`.
-pub(crate) fn row_fits(
+// Whether the values of component i fit its ports, each of whose inputs has `inward` bits and each output `outward`. Crates net and slow call
+// it, as the next, for a component whose ports stand in the tables.
+pub fn row_fits(
     components: &[u64],
     inputs: &[u64],
     outputs: &[u64],
@@ -55,7 +56,7 @@ pub(crate) fn row_fits(
 }
 
 // Whether component i, where it is a Const, holds its value.
-pub(crate) fn row_held(components: &[u64], outputs: &[u64], i: usize) -> bool
+pub fn row_held(components: &[u64], outputs: &[u64], i: usize) -> bool
     requires { ⌜ RowInside (now components) i × (obeyedAt (now components) i ≡ true) × OutputsInside (now components) (now outputs) i ⌝ }
     ensures { λ r. ⌜ r ≡ heldAt (now (components .entry)) (now (outputs .entry)) i ⌝ }
 {

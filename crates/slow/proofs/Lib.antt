@@ -1,0 +1,4 @@
+pub mod Handed
+pub mod DrawingLaws
+pub mod LeadingLaws
+pub mod RoundsLaws
