@@ -11,8 +11,10 @@ use Rattle.lists.specs.Lists.{joined, overlay}
 use Rattle.lists.proofs.MembersLaws.{In, keep-sound}
 use Rattle.lists.proofs.OverlayLaws.{overlay-length, joined-width}
 use Rattle.component.specs.declared.Record.{Record}
+use Rattle.component.specs.declared.Verdict.the-variants.{Accepted}
 use Rattle.component.specs.Record.{recordAt, recordCount}
 use Rattle.component.specs.Drawing.{inputsBefore, outputsBefore}
+use Rattle.flatten.specs.Verdict.{verdict}
 use Rattle.flatten.proofs.Accepted.{Passed, accepted-passed}
 use Rattle.flatten.proofs.WireTheorems.{accepted-wires-width, accepted-primitives-bound, accepted-inputs-bound, accepted-outputs-bound}
 use Rattle.tables.specs.declared.Wire.{Wire}
@@ -47,7 +49,9 @@ words-long file d few =
     (omega (arith, long, few, length-replicate {A = ℕ} 2048 0))
     ∙ length-replicate {A = ℕ} 2048 0
 
-module _ (file index fs cs is os : List ℕ) (d : Drawing file index fs cs is os) where
+-- An accepted file, the words of its components, and tables of ports of full size.
+module _ (file cs is os : List ℕ) (accepted : verdict file ≡ Accepted) (words : cs ≡ drawnWords (recordAt file) (recordCount file))
+    (ins : 1024 ≤ length is) (outs : 1024 ≤ length os) where
   abbrev at : ℕ → Record
   at = recordAt file
 
@@ -55,7 +59,7 @@ module _ (file index fs cs is os : List ℕ) (d : Drawing file index fs cs is os
   n = recordCount file
 
   passed : Passed at n
-  passed = accepted-passed file (d .ready .accepted)
+  passed = accepted-passed file accepted
 
   -- The components of the file with all its wires.
   abbrev U : Tables
@@ -68,7 +72,7 @@ module _ (file index fs cs is os : List ℕ) (d : Drawing file index fs cs is os
   is-drawn =
       drawn-kept at n (drawingTables at n blank) U
       (record {
-        components = d .words;
+        components = words;
         wires = refl;
         component-count = refl;
         input-count = refl;
@@ -84,28 +88,28 @@ module _ (file index fs cs is os : List ℕ) (d : Drawing file index fs cs is os
   ports = drawn-portsFollow at n passed U is-drawn
 
   few : length (primitives at n) ≤ 256
-  few = accepted-primitives-bound file (d .ready .accepted)
+  few = accepted-primitives-bound file accepted
 
   rows : 8 * 256 ≤ length cs
-  rows = omega (arith, ap (λ (l : List ℕ). length l) (d .words), words-long file passed few)
+  rows = omega (arith, ap (λ (l : List ℕ). length l) (words), words-long file passed few)
 
   -- Each component can be evaluated.
-  pub drawing-evaluates : (i : ℕ) → i < length (primitives at n) → CanEvaluate (uncounted cs []) is os i
-  drawing-evaluates i h =
+  pub words-evaluate : (i : ℕ) → i < length (primitives at n) → CanEvaluate (uncounted cs []) is os i
+  words-evaluate i h =
       record {
         few = omega (arith, few, h);
         row = omega (arith, rows, few, h);
         obeyed = kindsObeyed-at U kinds i h;
-        inputs-in = omega (arith, portsFollow-inputs U ports i h, accepted-inputs-bound file (d .ready .accepted), d .inputs);
-        outputs-in = omega (arith, portsFollow-outputs U ports i h, accepted-outputs-bound file (d .ready .accepted), d .outputs);
+        inputs-in = omega (arith, portsFollow-inputs U ports i h, accepted-inputs-bound file accepted, ins);
+        outputs-in = omega (arith, portsFollow-outputs U ports i h, accepted-outputs-bound file accepted, outs);
       }
 
   fit : wiresFit U ≡ true
-  fit = drawn-wiresFit at n passed U is-drawn (accepted-wires-width file (d .ready .accepted))
+  fit = drawn-wiresFit at n passed U is-drawn (accepted-wires-width file accepted)
 
   -- Along each wire of the drawing can be sent.
-  pub drawing-reach : (w : Wire) → In w (flatWires at n) → CanReach (bare cs) is os w
-  drawing-reach w b =
+  words-reach : (w : Wire) → In w (flatWires at n) → CanReach (bare cs) is os w
+  words-reach w b =
       let c : In w (wiresIn U) = subst (λ (ws : List Wire). In w ws) (sym (is-drawn .wires)) b in
       let s = wiresFit-source U fit w c in
       let t = wiresFit-target U fit w c in
@@ -117,16 +121,23 @@ module _ (file index fs cs is os : List ℕ) (d : Drawing file index fs cs is os
         leaves = omega (arith, u, few);
         named = omega (arith, v, few);
         source = omega (arith, isOutput-port U (w .src) s, portsFollow-outputs U ports (w .src .comp .0) u,
-        accepted-outputs-bound file (d .ready .accepted), d .outputs);
+        accepted-outputs-bound file accepted, outs);
         target = omega (arith, isInput-port U (w .dst) t, portsFollow-inputs U ports (w .dst .comp .0) v,
-        accepted-inputs-bound file (d .ready .accepted), d .inputs);
+        accepted-inputs-bound file accepted, ins);
       }
 
-  pub leaving-reach : (i : ℕ) (w : Wire) → In w (leaving at n i) → CanReach (bare cs) is os w
-  leaving-reach i w b =
-      drawing-reach w
+  pub leaving-wires : (i : ℕ) (w : Wire) → In w (leaving at n i) → CanReach (bare cs) is os w
+  leaving-wires i w b =
+      words-reach w
       (keep-sound (λ (v : Wire). eqb (v .src .comp .0) i) w (flatWires at n)
       (subst (λ (ws : List Wire). In w ws) (leaving-stored at n i) b) .1)
+
+module _ (file index fs cs is os : List ℕ) (d : Drawing file index fs cs is os) where
+  pub drawing-evaluates : (i : ℕ) → i < length (primitives (recordAt file) (recordCount file)) → CanEvaluate (uncounted cs []) is os i
+  drawing-evaluates = words-evaluate file cs is os (d .ready .accepted) (d .words) (d .inputs) (d .outputs)
+
+  pub leaving-reach : (i : ℕ) (w : Wire) → In w (leaving (recordAt file) (recordCount file) i) → CanReach (bare cs) is os w
+  leaving-reach = leaving-wires file cs is os (d .ready .accepted) (d .words) (d .inputs) (d .outputs)
 
 -- It depends on the tables of ports by their lengths only.
 pub drawing-kept : (file index fs cs is os is' os' : List ℕ) → Drawing file index fs cs is os → length is' ≡ length is → length os' ≡ length os

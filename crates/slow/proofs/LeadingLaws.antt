@@ -12,9 +12,9 @@ use types.Run.{OneOf}
 use denote.Enum.Declared.{tagOf}
 use lib.ListN.{length}
 use lib.Dec.{eqb}
-use Rattle.lists.specs.Lists.{from, joined}
+use Rattle.lists.specs.Lists.{from, any, joined}
 use Rattle.lists.proofs.ListsLaws.{from-step, from-end, joined-step}
-use Rattle.lists.proofs.MembersLaws.{In, in-left, map-complete, joined-complete, from0-complete}
+use Rattle.lists.proofs.MembersLaws.{In, any-cong, map-complete, joined-complete, from0-complete}
 use Rattle.component.specs.declared.ChildNo.{ChildNo}
 use Rattle.component.specs.declared.Record.{Record}
 use Rattle.component.specs.declared.Says.{Says}
@@ -37,7 +37,7 @@ use Rattle.laying.specs.Laying.{Ready, endBy}
 use Rattle.laying.proofs.WiresLaws.{connects, flat-end, from-source, source-number, read, target-number, targets-small}
 use Rattle.rounds.specs.Round.{State, send}
 use Rattle.rounds.specs.Steps.{CanReach}
-use Rattle.slow.specs.Slow.{leavingBy, leaving}
+use Rattle.slow.specs.Slow.{leavingBy, leaving, ledInto}
 use Rattle.slow.specs.Sending.{leadTo, entersBy}
 
 -- Loops: what is still to come.
@@ -172,3 +172,33 @@ module _ (s ix fs : List ℕ) (ready : Ready s ix fs) (p : ℕ) (l : p < length 
         joined-complete (leavingBy at n i) (leadTo fs z (targetIn us k)) (from 0 n) p (from0-complete n p l)
         (subst (λ (ws : List Wire). In (leadTo fs z (targetIn us k)) ws) (leaves-here h)
         (map-complete (leadTo fs z) (targetIn us k) (targetsIn us r) (map-complete (targetIn us) k (from 0 r) (from0-complete r k y))))
+
+-- The same record, of which only the targets are asked: whether it leads into primitive i.
+module _ (s ix fs : List ℕ) (ready : Ready s ix fs) (p : ℕ) (l : p < length s / 24) (o a b : ℕ) (f g : ChildNo)
+    (e : recordAt s p ≡ apart o (Connection f a g b)) (j q : ℕ) (ej : j ≡ deepest) (eq : q ≡ child (recordAt s) (length s / 24) o (g .0))
+    (ts us : List ℕ) (r : ℕ) (listed : Listed ts 0 (inputsBelow (recordAt s) (length s / 24) j q b) us r) (full : length ts ≡ targetPlace 1024) where
+  abbrev starts : ℕ
+  starts = child (recordAt s) (length s / 24) o (f .0)
+
+  abbrev source : Pin
+  source = outputBelow (recordAt s) (length s / 24) deepest starts a
+
+  pub entered-small : (k : ℕ) → k < r → targetIn us k .comp < 256
+  entered-small = targets-small s ix fs ready p l o a b f g e deepest starts source refl refl refl j q ej eq ts us r listed full
+
+  pub enters-here : (i : ℕ) → any (λ (t : Pin). eqb (endBy fs t .comp .0) i) (targetsIn us r) ≡ entersBy (recordAt s) (length s / 24) i p
+  enters-here i =
+      ap (any (λ (t : Pin). eqb (endBy fs t .comp .0) i))
+      (read s ix fs ready p l o a b f g e deepest starts source refl refl refl j q ej eq ts us r listed full)
+      ∙ any-cong (λ (t : Pin). eqb (endBy fs t .comp .0) i) (λ (t : Pin). eqb (flat (recordAt s) (length s / 24) (t .comp)) i)
+      (goesTo (recordAt s) (length s / 24) p)
+      (λ t h. ap (λ (y : End). eqb (y .comp .0) i) (flat-end s ix fs ready p l o a b f g e t
+      (target-number s ix fs ready p l o a b f g e deepest starts source refl refl refl j q ej eq ts us r listed full t h)))
+      ∙ sym (ap (λ (y : Bool). y && any (λ (t : Pin). eqb (flat (recordAt s) (length s / 24) (t .comp)) i) (goesTo (recordAt s) (length s / 24) p))
+      (eq-eqb (formOf (recordAt s p)) 2 (connects s ix fs ready p l o a b f g e)))
+
+-- The loop over all records.
+pub ledInto-start : (file : List ℕ) (i : ℕ)
+    → any (entersBy (recordAt file) (recordCount file) i) (from 0 (recordCount file - 0)) ≡ ledInto (recordAt file) (recordCount file) i
+unfolding ledInto
+ledInto-start file i = ap (λ (m : ℕ). any (entersBy (recordAt file) (recordCount file) i) (from 0 m)) (sub-zero (recordCount file))

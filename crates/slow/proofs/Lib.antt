@@ -2,3 +2,4 @@ pub mod Handed
 pub mod DrawingLaws
 pub mod LeadingLaws
 pub mod RoundsLaws
+pub mod PreparingLaws

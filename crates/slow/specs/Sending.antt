@@ -5,7 +5,8 @@
 --   entersBy at n i p   the record at p is a connection that leads into primitive i
 --   heldBy cs is os i   the values of component i fit, and where it is a Const its output is its value
 --   Drawing             an accepted file with its index, its flat indexes and the words of its components, and tables of ports of full size
---   Prepared            the same with tables that 20 does not refuse
+--   preparedVerdict r   the verdict that a preparation comes to
+--   IsPrepared          the same with tables that 20 does not refuse
 -- Assumes nothing.
 use mathlib.Core.Path.{_≡_}
 use Prim.Native.Nat.{ℕ, _≤_}
@@ -15,6 +16,8 @@ use lib.ListN.{length, replicate}
 use lib.Dec.{eqb}
 use Rattle.lists.specs.Lists.{any, joined, overlay}
 use Rattle.component.specs.declared.Record.{Record}
+use Rattle.component.specs.declared.Verdict.{Verdict}
+use Rattle.component.specs.declared.Verdict.the-variants.{Accepted, Refused}
 use Rattle.component.specs.Record.{recordAt, recordCount}
 use Rattle.component.specs.Reading.{formOf}
 use Rattle.flatten.specs.declared.Pin.{Pin}
@@ -24,9 +27,11 @@ use Rattle.tables.specs.declared.End.{End}
 use Rattle.tables.specs.declared.Wire.{Wire}
 use Rattle.tables.specs.Tables.{Tables, countsOf}
 use Rattle.laying.specs.Laid.{primitives, primitiveWords}
-use Rattle.laying.specs.Laying.{endBy, Ready}
+use Rattle.laying.specs.Laying.{endBy, Ready as IsReady}
 use Rattle.rounds.specs.Steps.{wiring}
 use Rattle.slow.specs.declared.SlowCounts.{SlowCounts}
+use Rattle.slow.specs.declared.preparing.Prepared.{Prepared}
+use Rattle.slow.specs.declared.preparing.Prepared.the-variants.{Ready, Refused as NotReady}
 use Rattle.slow.specs.Slow.{SlowTables, slowFull, slowRight, drawn}
 
 abbrev pub leadTo : List ℕ → End → Pin → Wire
@@ -48,13 +53,18 @@ abbrev pub drawnWords : (ℕ → Record) → ℕ → List ℕ
 drawnWords at n = overlay (joined (primitiveWords at n) (primitives at n)) (replicate 2048 0)
 
 pub record Drawing (file index fs cs is os : List ℕ) : Type 0 where
-  pub ready : Ready file index fs
+  pub ready : IsReady file index fs
   pub words : cs ≡ drawnWords (recordAt file) (recordCount file)
   pub inputs : 1024 ≤ length is
   pub outputs : 1024 ≤ length os
 
-pub record Prepared (file index fs cs : List ℕ) (k : ℕ) (S : SlowTables) : Type 0 where
-  pub ready : Ready file index fs
+-- The verdict that a preparation comes to.
+abbrev pub preparedVerdict : Prepared → Verdict
+preparedVerdict (Ready k) = Accepted
+preparedVerdict (NotReady r) = Refused r
+
+pub record IsPrepared (file index fs cs : List ℕ) (k : ℕ) (S : SlowTables) : Type 0 where
+  pub ready : IsReady file index fs
   pub words : cs ≡ drawnWords (recordAt file) (recordCount file)
   pub count : k ≡ length (primitives (recordAt file) (recordCount file))
   pub full : slowFull S ≡ true

@@ -102,10 +102,10 @@ module _ (at : ℕ → Record) (n : ℕ) where
   -- has at most 256 entries.
   unfoldable pub slowRight : SlowTables → Bool
   slowRight S =
-      eqb (S .counts .inputs) (inputsBefore at n) && eqb (S .counts .outputs) (outputsBefore at n)
-      && leb (S .counts .current) 256 && leb (S .counts .following) 256 && leb (S .counts .standing) 256
+      (eqb (S .counts .inputs) (inputsBefore at n) && eqb (S .counts .outputs) (outputsBefore at n)
+      && leb (S .counts .current) 256 && leb (S .counts .following) 256 && leb (S .counts .standing) 256)
       && valuesFit (drawn S) && constsHeld (drawn S)
-      && names (drawn S) (currentList (drawn S)) && names (drawn S) (followingList (drawn S)) && names (drawn S) (standingList (drawn S))
+      && (names (drawn S) (currentList (drawn S)) && names (drawn S) (followingList (drawn S)) && names (drawn S) (standingList (drawn S)))
 
   -- "where 16 stood": 20.
   unfoldable pub slowNumber : SlowTables → ℕ

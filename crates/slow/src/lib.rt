@@ -1,6 +1,8 @@
 // The slow engine: rounds, edits and runs until calm straight from the drawing file, for finding faults. It is lent ports and lists, and keeps
 // no wire: each source and each target is worked out through the maps when it is needed. Rule: docs/SPECIFICATION.md, "The slow engine".
+mod entering;
 mod leading;
+mod preparing;
 mod round;
 
 use kinds::Refusal;
