@@ -33,7 +33,7 @@ use Rattle.slow.specs.Sending.{drawnWords, bare, Drawing}
 use Rattle.slow.proofs.Handed.{leaving-stored}
 
 -- No word of any table.
-abbrev blank : Tables
+abbrev pub blank : Tables
 blank = tablesOf (replicate 2048 0) [] [] (replicate 4096 0) [] [] [] noCounts
 
 -- The words of the components of an accepted file fill no more than a table of full size.

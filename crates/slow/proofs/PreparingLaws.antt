@@ -215,3 +215,16 @@ counted-as (NotReady r) = 0
 
 pub ready-is : (j k : ℕ) → Ready j ≡ Ready k → k ≡ j
 ready-is j k e = sym (ap counted-as e)
+
+-- Accepted with a number behind it, all that is lent is long enough.
+pub lent-room : (file : List ℕ) (long : Bool) (k : ℕ) → Accepted ≡ slowVerdict file long k → long ≡ true
+lent-room file long k e = by-cases (sized file) long e
+  where
+    by-cases : (a b : Bool) → Accepted ≡ cond a (cond b (andThen (judgement file) k) (refused 2 0)) (refused 1 0) → b ≡ true
+    by-cases true true h = refl
+    by-cases true false h = absurd (not-accepted _ (sym h))
+    by-cases false b h = absurd (not-accepted _ (sym h))
+
+-- Where 0 behind a load's own verdict is accepted, any number behind it decides.
+pub accepted-behind : (file : List ℕ) (long : Bool) (j k : ℕ) → j ≡ 0 → Accepted ≡ slowVerdict file long j → slowVerdict file long k ≡ andThen Accepted k
+accepted-behind file long j k z h = lent-then file long (h ∙ ap (slowVerdict file long) z) k

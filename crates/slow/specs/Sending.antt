@@ -5,6 +5,7 @@
 --   entersBy at n i p   the record at p is a connection that leads into primitive i
 --   heldBy cs is os i   the values of component i fit, and where it is a Const its output is its value
 --   Drawing             an accepted file with its index, its flat indexes and the words of its components, and tables of ports of full size
+--   setBy, drawnInputs, drawnOutputs   the ports after an edit
 --   preparedVerdict r   the verdict that a preparation comes to
 --   IsPrepared          the same with tables that 20 does not refuse
 -- Assumes nothing.
@@ -29,6 +30,7 @@ use Rattle.tables.specs.Tables.{Tables, countsOf}
 use Rattle.laying.specs.Laid.{primitives, primitiveWords}
 use Rattle.laying.specs.Laying.{endBy, Ready as IsReady}
 use Rattle.rounds.specs.Steps.{wiring}
+use Rattle.simulator.specs.Asked.{inputsSet, outputsSet}
 use Rattle.slow.specs.declared.SlowCounts.{SlowCounts}
 use Rattle.slow.specs.declared.preparing.Prepared.{Prepared}
 use Rattle.slow.specs.declared.preparing.Prepared.the-variants.{Ready, Refused as NotReady}
@@ -43,6 +45,11 @@ entersBy at n i p = eqb (formOf (at p)) 2 && any (λ (t : Pin). eqb (flat at n (
 -- The counts of the other engine's tables: so many components, and no wire.
 abbrev pub countsFor : SlowCounts → ℕ → Counts
 countsFor m k = countsOf k (m .inputs) (m .outputs) 0 (m .current) (m .following) (m .standing)
+
+-- The counts of the five tables alone.
+abbrev pub slowCountsOf : Counts → SlowCounts
+slowCountsOf m =
+    record { inputs = m .inputs; outputs = m .outputs; current = m .current; following = m .following; standing = m .standing }
 
 -- Components, as many as a table has words of, and no wire: what a step of a round looks at.
 abbrev pub bare : List ℕ → Tables
@@ -69,3 +76,15 @@ pub record IsPrepared (file index fs cs : List ℕ) (k : ℕ) (S : SlowTables) :
   pub count : k ≡ length (primitives (recordAt file) (recordCount file))
   pub full : slowFull S ≡ true
   pub right : slowRight (recordAt file) (recordCount file) S ≡ true
+
+-- A table of ports after an edit of that verdict.
+abbrev pub setBy : Verdict → List ℕ → List ℕ → List ℕ
+setBy Accepted new old = new
+setBy (Refused r) new old = old
+
+-- The inputs, and the outputs, with the port of component i of the file set to v.
+abbrev pub drawnInputs : (ℕ → Record) → ℕ → ℕ → ℕ → List ℕ → List ℕ
+drawnInputs at n i v ins = inputsSet (drawnWords at n) i v ins
+
+abbrev pub drawnOutputs : (ℕ → Record) → ℕ → ℕ → ℕ → List ℕ → List ℕ
+drawnOutputs at n i v outs = outputsSet (drawnWords at n) i v outs

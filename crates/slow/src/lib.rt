@@ -1,11 +1,19 @@
 // The slow engine: rounds, edits and runs until calm straight from the drawing file, for finding faults. It is lent ports and lists, and keeps
 // no wire: each source and each target is worked out through the maps when it is needed. Rule: docs/SPECIFICATION.md, "The slow engine".
+mod editing;
 mod entering;
 mod leading;
+mod loading;
 mod preparing;
-mod round;
+mod rounding;
+mod visiting;
 
+pub use editing::edit;
+pub use editing::edit_standing;
 use kinds::Refusal;
+pub use loading::load;
+pub use rounding::round;
+pub use rounding::run_until_calm;
 
 // How many entries of each lent table are in use.
 pub struct SlowCounts {

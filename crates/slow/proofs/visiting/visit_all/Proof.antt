@@ -18,8 +18,8 @@ use Rattle.slow.specs.Slow.{leaving}
 use Rattle.slow.specs.Sending.{bare}
 use Rattle.slow.proofs.DrawingLaws.{drawing-kept}
 use borrow.Author.Needs.{needs}
-use Rattle.slow.proofs.round.visit_all.Statement.{statement}
-use Rattle.slow.proofs.round.visit_all.Tie as tie
+use Rattle.slow.proofs.visiting.visit_all.Statement.{statement}
+use Rattle.slow.proofs.visiting.visit_all.Tie as tie
 
 abbrev Inv-loop : tie.InvT-loop
 Inv-loop file index indexes components list count inputs₀ outputs₀ following₀ listed₀ standing₀ stood moved₀ time reached₀ k₀

@@ -9,8 +9,8 @@ use Rattle.slow.specs.Slow.{leaving}
 use Rattle.slow.specs.Sending.{bare}
 use Rattle.slow.proofs.DrawingLaws.{drawing-evaluates, drawing-kept}
 use borrow.Author.Needs.{needs}
-use Rattle.slow.proofs.round.visit.Statement.{statement}
-use Rattle.slow.proofs.round.visit.Tie as tie
+use Rattle.slow.proofs.visiting.visit.Statement.{statement}
+use Rattle.slow.proofs.visiting.visit.Tie as tie
 
 evaluate-at-requires : tie.Need-evaluate-at-requires
 evaluate-at-requires c κs =

@@ -16,8 +16,8 @@ use Rattle.rounds.proofs.ListedLaws.{listed-none, listed-covers}
 use Rattle.slow.specs.Slow.{leaving}
 use Rattle.slow.proofs.RoundsLaws.{visits-bare, moved-bare, fits-few, fits-entry, fits-small, fits-copied}
 use borrow.Author.Needs.{needs}
-use Rattle.slow.proofs.round.drawn_round.Statement.{statement}
-use Rattle.slow.proofs.round.drawn_round.Tie as tie
+use Rattle.slow.proofs.visiting.drawn_round.Statement.{statement}
+use Rattle.slow.proofs.visiting.drawn_round.Tie as tie
 
 -- The tables that came in, and the wires that leave each component.
 abbrev came : tie.Start → Tables
