@@ -164,6 +164,13 @@ module _ (file ix fs cs : List ℕ) (k : ℕ) (is os cur fol std : List ℕ) (m 
     pub prepared-count : flat .components ≡ length (primitives (recordAt file) (recordCount file))
     prepared-count = ap (λ (x : Counts). x .components) ef ∙ p .count
 
+    -- The same with the other engine's counts.
+    pub prepared-for : IsPrepared file ix fs cs (flat .components) (slowTablesOf is os cur fol std (slowCountsOf flat)) × (flat .wires ≡ 0)
+    prepared-for = (
+      subst (λ (x : Counts). IsPrepared file ix fs cs (x .components) (slowTablesOf is os cur fol std (slowCountsOf x))) (sym ef) p,
+      ap (λ (x : Counts). x .wires) ef,
+    )
+
     named : (xs : List ℕ) → names (drawn (recordAt file) (recordCount file) S) xs ≡ true → names (wiring cs [] flat) xs ≡ true
     unfolding names
     named xs e = rw prepared-count e

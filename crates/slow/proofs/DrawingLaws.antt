@@ -120,10 +120,20 @@ module _ (file cs is os : List ℕ) (accepted : verdict file ≡ Accepted) (word
         rows = rows;
         leaves = omega (arith, u, few);
         named = omega (arith, v, few);
-        source = omega (arith, isOutput-port U (w .src) s, portsFollow-outputs U ports (w .src .comp .0) u,
-        accepted-outputs-bound file accepted, outs);
-        target = omega (arith, isInput-port U (w .dst) t, portsFollow-inputs U ports (w .dst .comp .0) v,
-        accepted-inputs-bound file accepted, ins);
+        source = omega (
+          arith,
+          isOutput-port U (w .src) s,
+          portsFollow-outputs U ports (w .src .comp .0) u,
+          accepted-outputs-bound file accepted,
+          outs,
+        );
+        target = omega (
+          arith,
+          isInput-port U (w .dst) t,
+          portsFollow-inputs U ports (w .dst .comp .0) v,
+          accepted-inputs-bound file accepted,
+          ins,
+        );
       }
 
   pub leaving-wires : (i : ℕ) (w : Wire) → In w (leaving at n i) → CanReach (bare cs) is os w

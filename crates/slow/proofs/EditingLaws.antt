@@ -21,7 +21,7 @@ use Rattle.component.specs.declared.Record.{Record}
 use Rattle.component.specs.declared.Verdict.{Verdict}
 use Rattle.component.specs.declared.Verdict.the-variants.{Accepted, Refused}
 use Rattle.component.specs.Record.{recordAt, recordCount}
-use Rattle.flatten.specs.Verdict.{verdictGives, andThen}
+use Rattle.flatten.specs.Verdict.{verdict, verdictGives, andThen}
 use Rattle.flatten.proofs.Accepted.{not-accepted}
 use Rattle.flatten.proofs.WireTheorems.{accepted-primitives-bound}
 use Rattle.tables.specs.Tables.{Tables, fieldsAt}
@@ -42,7 +42,7 @@ use Rattle.slow.specs.declared.SlowAnswer.the-variants.{Done, Refused as
 use Rattle.slow.specs.Slow.{SlowTables, slowTablesOf, slowFull, slowOf, drawn, ledInto, slowRight, slowNumber, slowEditNumber, slowVerdict, slowBy, slowEditVerdict, slowEditTables, slowWords, SlowEdits}
 use Rattle.slow.specs.Sending.{drawnWords, IsPrepared, setBy, drawnInputs, drawnOutputs}
 use Rattle.slow.proofs.DrawingLaws.{words-evaluate}
-use Rattle.slow.proofs.PreparingLaws.{SlowSizes, slowFull-sound, lent-refused, accepted-behind}
+use Rattle.slow.proofs.PreparingLaws.{SlowSizes, slowFull-sound, lent-refused, lent-room, lent-number, accepted-behind}
 use Rattle.slow.proofs.WiredLaws.{SlowParts, right-sound}
 
 -- Refused before its own checks.
@@ -162,3 +162,167 @@ module _ (file ix fs cs : List ℕ) (k : ℕ) (ins outs cur fol std : List ℕ) 
           an-input : (s q d : Bool) → (s || (q && not d)) ≡ true → (s ≡ true → ⊥) → q ≡ true
           an-input true q d e h = absurd (h refl)
           an-input false q d e h = and-left q (not d) e
+
+-- A table with its own list at its front.
+overlay-same : (n : ℕ) (t : List ℕ) → n ≤ length t → overlay (take n t) t ≡ t
+unfolding overlay
+overlay-same n t h = rw (length-take-le n t h) (take-append-drop n t)
+
+-- The call, of tables as a function is lent them.
+module _ (file ins outs cur fol std : List ℕ) (m : SlowCounts) (i v : ℕ) where
+  abbrev came : SlowTables
+  came = slowTablesOf ins outs cur fol std m
+
+  abbrev at-file : ℕ → Record
+  at-file = recordAt file
+
+  abbrev many : ℕ
+  many = recordCount file
+
+  abbrev drawing : Tables
+  drawing = drawn at-file many came
+
+  abbrev made : Way → SlowTables
+  made way = slowOf (leave drawing (editedState drawing way i v (stateOf drawing)))
+
+  -- Refused: nothing was written.
+  module _ (u : Verdict) (eu : u ≡ slowEditVerdict file came i v) (ins' outs' : List ℕ) (ei : ins' ≡ setBy u (drawnInputs at-file many i v ins) ins)
+      (eo : outs' ≡ setBy u (drawnOutputs at-file many i v outs) outs) where
+    pub edits-refused : (way : Way) (r : Refusal) → u ≡ Refused r → SlowEdits file way i v came (Declined r) (slowTablesOf ins' outs' cur fol std m)
+    unfolding slowEditTables
+    edits-refused way r e =
+        let d = sym e ∙ eu in (
+          ap (λ (w : Verdict). verdictGives w (slowWords m)) d,
+          (λ j. slowTablesOf ((ei ∙ ap (λ (w : Verdict). setBy w (drawnInputs at-file many i v ins) ins) e) j)
+              ((eo ∙ ap (λ (w : Verdict). setBy w (drawnOutputs at-file many i v outs) outs) e) j) cur fol std m)
+              ∙ ap (λ (w : Verdict). slowBy w (made way) came) d,
+        )
+
+    -- Not refused: the component is there, and its list has room.
+    module _ (e : u ≡ Accepted) where
+      passed : Accepted ≡ slowEditVerdict file came i v
+      passed = sym e ∙ eu
+
+      full : slowFull came ≡ true
+      unfolding slowEditVerdict
+      full = lent-room file (slowFull came) (slowEditNumber at-file many came i v) passed
+
+      numbered : slowEditNumber at-file many came i v ≡ 0
+      unfolding slowEditVerdict
+      numbered = lent-number file (slowFull came) (slowEditNumber at-file many came i v) passed .0
+
+      accepted : verdict file ≡ Accepted
+      unfolding slowEditVerdict
+      accepted = lent-number file (slowFull came) (slowEditNumber at-file many came i v) passed .1
+
+      abbrev own-checks : List (ℕ × Bool)
+      own-checks = editChecks (length (primitives at-file many)) (fieldsAt drawing i) (ledInto at-file many i) i v
+
+      abbrev later-checks : List (ℕ × Bool)
+      later-checks =
+          (18 if not (is Switch (fieldsAt drawing i) || (is Input (fieldsAt drawing i) && not (ledInto at-file many i))))
+          ∷ (19 if not (fits (ofWidth (cond (is Switch (fieldsAt drawing i)) (outputWidth (fieldsAt drawing i)) (inputWidth (fieldsAt drawing i))) v)))
+          ∷ []
+
+      right : slowRight at-file many came ≡ true
+      unfolding slowEditNumber
+      right = not-false (slowRight at-file many came)
+          (refusal-first 20 (not (slowRight at-file many came)) own-checks (λ q. omega arith) numbered)
+
+      there : i < length (primitives at-file many)
+      unfolding slowEditNumber
+      there =
+          leb-false (length (primitives at-file many)) i
+          (refusal-first 17 (leb (length (primitives at-file many)) i) later-checks (λ q. omega arith)
+          (refusal-rest 20 (not (slowRight at-file many came)) own-checks (λ q. omega arith) numbered))
+
+      sizes-are : SlowSizes came
+      sizes-are = slowFull-sound came full
+
+      parts-are : SlowParts at-file many came
+      parts-are = right-sound at-file many came right
+
+      few-there : length (primitives at-file many) ≤ 256
+      few-there = accepted-primitives-bound file accepted
+
+      pub edits-index : i < 65536
+      edits-index = omega (arith, there, few-there)
+
+      in-current : m .current ≤ length cur
+      in-current = omega (arith, parts-are .current, sizes-are .current)
+
+      in-following : m .following ≤ length fol
+      in-following = omega (arith, parts-are .following, sizes-are .following)
+
+      in-standing : m .standing ≤ length std
+      in-standing = omega (arith, parts-are .standing, sizes-are .standing)
+
+      room : (l t : List ℕ) → names drawing l ≡ true → 256 ≤ length t → length (appendNew i l) ≤ length t
+      room l t named size = append-room drawing i l t named there few-there size
+
+      pub edits-room-first : (m .current ≤ length cur) × (length (appendNew i (take (m .current) cur)) ≤ length cur)
+      edits-room-first = (in-current, room (take (m .current) cur) cur (parts-are .names-current) (sizes-are .current))
+
+      pub edits-room-standing : (m .standing ≤ length std) × (length (appendNew i (take (m .standing) std)) ≤ length std)
+      edits-room-standing = (in-standing, room (take (m .standing) std) std (parts-are .names-standing) (sizes-are .standing))
+
+      -- The counts with those of the current and the standing list put anew.
+      abbrev counted : ℕ → ℕ → SlowCounts
+      counted c d = record { inputs = m .inputs; outputs = m .outputs; current = c; following = m .following; standing = d }
+
+      set-inputs : ins' ≡ drawnInputs at-file many i v ins
+      set-inputs = ei ∙ ap (λ (w : Verdict). setBy w (drawnInputs at-file many i v ins) ins) e
+
+      set-outputs : outs' ≡ drawnOutputs at-file many i v outs
+      set-outputs = eo ∙ ap (λ (w : Verdict). setBy w (drawnOutputs at-file many i v outs) outs) e
+
+      done : (way : Way) (L : SlowTables) → L ≡ made way → SlowEdits file way i v came (Done (L .counts)) L
+      unfolding slowEditTables
+      done way L el = (
+        ap (λ (w : Verdict). verdictGives w (slowWords (L .counts))) passed,
+        el ∙ ap (λ (w : Verdict). slowBy w (made way) came) passed,
+      )
+
+      laid-goesFirst : (cur' : List ℕ) (c : ℕ) → c ≡ length (appendNew i (take (m .current) cur)) → cur' ≡ overlay (appendNew i (take (m .current) cur)) cur
+          → slowTablesOf ins' outs' cur' fol std (counted c (m .standing)) ≡ made goesFirst
+      unfolding leave editedState
+      laid-goesFirst cur' c en es =
+          rw (
+            portSet-ports drawing i v (stateOf drawing),
+            set-inputs,
+            set-outputs,
+            en,
+            es,
+            overlay-same (m .following) fol in-following,
+            overlay-same (m .standing) std in-standing,
+            length-take-le (m .following) fol in-following,
+            length-take-le (m .standing) std in-standing,
+          )
+
+      -- The component goes first: the current list has it,
+      pub edits-first : (cur' : List ℕ) (c : ℕ) → c ≡ length (appendNew i (take (m .current) cur))
+          → cur' ≡ overlay (appendNew i (take (m .current) cur)) cur
+          → SlowEdits file goesFirst i v came (Done (counted c (m .standing))) (slowTablesOf ins' outs' cur' fol std (counted c (m .standing)))
+      edits-first cur' c en es = done goesFirst (slowTablesOf ins' outs' cur' fol std (counted c (m .standing))) (laid-goesFirst cur' c en es)
+
+      laid-stands : (std' : List ℕ) (d : ℕ) → d ≡ length (appendNew i (take (m .standing) std)) → std' ≡ overlay (appendNew i (take (m .standing) std)) std
+          → slowTablesOf ins' outs' cur fol std' (counted (m .current) d) ≡ made stands
+      unfolding leave editedState
+      laid-stands std' d en es =
+          rw (
+            portSet-ports drawing i v (stateOf drawing),
+            set-inputs,
+            set-outputs,
+            en,
+            es,
+            overlay-same (m .current) cur in-current,
+            overlay-same (m .following) fol in-following,
+            length-take-le (m .current) cur in-current,
+            length-take-le (m .following) fol in-following,
+          )
+
+      -- or it stands: the standing list has it.
+      pub edits-stand : (std' : List ℕ) (d : ℕ) → d ≡ length (appendNew i (take (m .standing) std))
+          → std' ≡ overlay (appendNew i (take (m .standing) std)) std
+          → SlowEdits file stands i v came (Done (counted (m .current) d)) (slowTablesOf ins' outs' cur fol std' (counted (m .current) d))
+      edits-stand std' d en es = done stands (slowTablesOf ins' outs' cur fol std' (counted (m .current) d)) (laid-stands std' d en es)

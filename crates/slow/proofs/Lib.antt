@@ -6,3 +6,4 @@ pub mod PreparingLaws
 pub mod WiredLaws
 pub mod CallsLaws
 pub mod EditingLaws
+pub mod RunsLaws

@@ -228,3 +228,18 @@ lent-room file long k e = by-cases (sized file) long e
 -- Where 0 behind a load's own verdict is accepted, any number behind it decides.
 pub accepted-behind : (file : List ℕ) (long : Bool) (j k : ℕ) → j ≡ 0 → Accepted ≡ slowVerdict file long j → slowVerdict file long k ≡ andThen Accepted k
 accepted-behind file long j k z h = lent-then file long (h ∙ ap (slowVerdict file long) z) k
+
+-- Accepted with a number behind it, the number is 0, and the file is accepted.
+pub lent-number : (file : List ℕ) (long : Bool) (k : ℕ) → Accepted ≡ slowVerdict file long k → (k ≡ 0) × (verdict file ≡ Accepted)
+lent-number file long k e = by-cases (sized file) long (judgement file) refl e
+  where
+    by-number : (b : Bool) → eqb k 0 ≡ b → Accepted ≡ cond b Accepted (Refused (refusedBy k)) → k ≡ 0
+    by-number true h y = eqb-true k 0 h
+    by-number false h y = absurd (not-accepted _ (sym y))
+
+    by-cases : (a b : Bool) (v : Verdict) → judgement file ≡ v → Accepted ≡ cond a (cond b (andThen v k) (refused 2 0)) (refused 1 0)
+        → (k ≡ 0) × (verdict file ≡ Accepted)
+    by-cases true true (Refused r) j h = absurd (not-accepted r (sym h))
+    by-cases true true Accepted j h = (by-number (eqb k 0) refl h, judgement-accepted file j)
+    by-cases true false v j h = absurd (not-accepted _ (sym h))
+    by-cases false b v j h = absurd (not-accepted _ (sym h))

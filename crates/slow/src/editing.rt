@@ -87,7 +87,15 @@ pub fn edit(
         ⌜ SlowEdits (now (file .entry)) goesFirst (index .0) number before r after ⌝ }
 {
     if let Verdict::Refused(refusal) = set_or_refuse(
-        file, inputs, outputs, current, following, standing, counts, index.0, number,
+        file,
+        inputs,
+        outputs,
+        current,
+        following,
+        standing,
+        counts,
+        index.0,
+        number,
     ) {
         return SlowAnswer::Refused(refusal);
     }
@@ -116,7 +124,15 @@ pub fn edit_standing(
         ⌜ SlowEdits (now (file .entry)) stands (index .0) number before r after ⌝ }
 {
     if let Verdict::Refused(refusal) = set_or_refuse(
-        file, inputs, outputs, current, following, standing, counts, index.0, number,
+        file,
+        inputs,
+        outputs,
+        current,
+        following,
+        standing,
+        counts,
+        index.0,
+        number,
     ) {
         return SlowAnswer::Refused(refusal);
     }

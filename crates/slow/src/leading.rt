@@ -53,7 +53,13 @@ fn send_to(
         let to = flat_pin(indexes, target_at(targets, k));
         let wire = Wire { src: from, dst: to };
         reached = send_along(
-            components, inputs, outputs, following, listed, reached, wire,
+            components,
+            inputs,
+            outputs,
+            following,
+            listed,
+            reached,
+            wire,
         );
         k += 1;
     }
@@ -107,7 +113,16 @@ fn send_connection(
     let goal = child_of(file, index, owner as usize, to);
     let count = targets_from(file, index, goal, input, targets);
     send_to(
-        components, indexes, end, targets, count, inputs, outputs, following, listed, filled,
+        components,
+        indexes,
+        end,
+        targets,
+        count,
+        inputs,
+        outputs,
+        following,
+        listed,
+        filled,
     )
 }
 

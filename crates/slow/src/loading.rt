@@ -71,7 +71,5 @@ pub fn load(
     if let Verdict::Refused(refusal) = judge_lent(file, long, &mut index) {
         return SlowAnswer::Refused(refusal);
     }
-    SlowAnswer::Done(fill(
-        file, inputs, outputs, current, following, standing,
-    ))
+    SlowAnswer::Done(fill(file, inputs, outputs, current, following, standing))
 }

@@ -173,8 +173,7 @@ pub(crate) fn prepare(
     let flat = counts_for(counts, count);
     if !(names(current, counts.current, flat)
         & names(following, counts.following, flat)
-        & names(standing, counts.standing, flat))
-    {
+        & names(standing, counts.standing, flat)) {
         return Prepared::Refused(refused_by(20));
     }
     index_flat(file, indexes);

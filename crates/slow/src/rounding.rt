@@ -137,8 +137,18 @@ fn drawn_run(
         let evaluated = reached.current;
         evaluations += evaluated as u32;
         reached = drawn_round(
-            file, index, indexes, components, inputs, outputs, current, following, standing,
-            &mut bits, reached, time,
+            file,
+            index,
+            indexes,
+            components,
+            inputs,
+            outputs,
+            current,
+            following,
+            standing,
+            &mut bits,
+            reached,
+            time,
         );
         moved += count_moved(&bits, evaluated);
         rounds += 1;

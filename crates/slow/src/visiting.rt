@@ -123,8 +123,19 @@ fn visit_all(
     while k < count {
         let i = tables::entry(list, k);
         let visited = visit(
-            file, index, indexes, components, inputs, outputs, following, listed, standing, stood,
-            reached, i, time,
+            file,
+            index,
+            indexes,
+            components,
+            inputs,
+            outputs,
+            following,
+            listed,
+            standing,
+            stood,
+            reached,
+            i,
+            time,
         );
         reached = visited.sizes;
         moved[k] = visited.moved;

@@ -26,8 +26,7 @@ returns c m =
 fill-requires : tie.Need-fill-requires
 fill-requires c κs =
     let s = c .before .before .before .before .before .before .before .before .before .before .before .before .before .before .before .before .before .before .before .before .before .before in
-    let h = sym (c .before .before .before .before .before .enum-told .given .1) ∙ c .before .before .before .before .before .before .before .before .judge-lent .ensures .0 in
-    (
+    let h = sym (c .before .before .before .before .before .enum-told .given .1) ∙ c .before .before .before .before .before .before .before .before .judge-lent .ensures .0 in (
       lent-accepted (s .args .file .now) (c .before .before .before .before .before .before .before .before .before .before .are-full .result) h,
       λ m. sym (c .before .before .before .before .before .before .before .before .before .before .are-full .ensures m) ∙ lent-long (s .args .file .now) (c .before .before .before .before .before .before .before .before .before .before .are-full .result) h,
     )
