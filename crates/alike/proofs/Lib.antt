@@ -1,0 +1,6 @@
+pub mod Handed
+pub mod SameRound
+pub mod Drawn
+pub mod SameCalls
+pub mod Alike
+pub mod Cases
