@@ -1,7 +1,7 @@
 -- The slow engine is alike to the flat engine: the load, every call on tables that calls reach from a load (`SlowEqual`), and so any list of calls made
 -- on both side by side (`SlowAlong`).
 -- Assumes nothing.
-use mathlib.Core.Path.{_≡_, refl, ap, _∙_}
+use mathlib.Core.Path.{_≡_, refl, sym, ap, _∙_}
 use Prim.Native.Nat.{ℕ}
 use mathlib.Core.Bool.{Bool, true, false, cond, _&&_}
 use mathlib.Core.List.{List, [], _∷_}
@@ -17,13 +17,15 @@ use Rattle.meeting.specs.Meeting.{judgement}
 use Rattle.tables.specs.Tables.{Tables, tablesOf, countsOf, fullSize}
 use Rattle.load.specs.Load.{drawingTables, tablesBy, loadVerdict, loadTables}
 use Rattle.load.proofs.LoadLaws.{load-passed}
+use Rattle.net.proofs.NetLaws.{netNumber-0, netNumber-full, netNumber-net}
 use Rattle.demands.specs.Reached.{Call, rounded, edited, untilCalm, callNumber, callTables, Reached, loaded, called}
 use Rattle.demands.proofs.Called.{reached-kept}
 use Rattle.demands.proofs.Demand3.{load-fresh}
 use Rattle.slow.specs.Slow.{SlowTables, slowFull, slowOf, drawn, slowBy, slowLoadVerdict, slowLoadTables}
-use Rattle.alike.specs.Alike.{LedIntoStored, SlowAsLoad, SameCalls, SlowEqual, SlowAlong, callWords, callsTables, callsTold}
+use Rattle.alike.specs.Alike.{LedIntoStored, SlowAsLoad, SameCalls, SlowEqual, beside, Where16Stood, SlowAlong, callWords, callsTables, callsTold}
 use Rattle.alike.specs.Alike.{slowCallVerdict, slowCallTables, slowCallWords, slowCallsTables, slowCallsTold}
 use Rattle.alike.proofs.Drawn.{slowFull-five, ledInto-driven}
+use Rattle.alike.proofs.Stood.{net-origin, right-isNet, beside-fullSize}
 use Rattle.alike.proofs.SameCalls.{same-calls}
 
 -- The load.
@@ -82,6 +84,18 @@ reached-same file ran t T r =
 
 pub slow-equal : SlowEqual
 slow-equal = (slow-as-load, reached-same)
+
+pub where-16-stood : Where16Stood
+where-16-stood file ran t T r S =
+    let kept = reached-kept file (load-fresh file) r in
+    let o = kept .0 in
+    let z = kept .1 .net in
+    let N = netNumber-net T z in (
+      right-isNet file T o N S,
+      λ f e.
+          same-calls file (beside S T) (net-origin file T o N S e)
+          (sym (netNumber-0 (beside S T) (beside-fullSize file T o N S (netNumber-full T z) f) e)),
+    )
 
 -- One call.
 record SameCall (file : List ℕ) (T : Tables) (c : Call) : Type 0 where

@@ -1,12 +1,12 @@
--- A net that calls reach from a load of a file, and what the file itself gives with the net's ports and lists: below their count the components are the
--- same, so the rounds, the bits, the edits and calm are; the wires handed in are the stored ones; and 20 is not given.
+-- Tables with the components and wires of a load of a file, and what the file itself gives with their ports and lists: below their count the components
+-- are the same, so values, Consts and edits are; the wires handed in are the stored ones; and of a net the rounds, their bits and calm are the same.
 -- Assumes nothing.
 use mathlib.Core.Path.{_≡_, refl, sym, ap, _∙_}
 use Prim.Native.Nat.{ℕ, _+_, _*_, _<_}
 use native.Mathlib.Omega.{arith}
 use mathlib.Core.Bool.{Bool, true, false, _&&_}
 use mathlib.Core.List.{List}
-use borrow.Author.Tests.{eq-eqb, le-leb, leb-false}
+use borrow.Author.Tests.{le-leb, leb-false}
 use lib.ListN.{length, replicate}
 use lib.Dec.{eqb, leb, ltb}
 use Rattle.lists.specs.Lists.{every, any, joined, distinct, overlay, refusal}
@@ -15,7 +15,6 @@ use Rattle.lists.proofs.OverlayLaws.{overlay-at, joined-width}
 use Rattle.component.specs.declared.Record.{Record}
 use Rattle.component.specs.declared.Verdict.the-variants.{Accepted}
 use Rattle.component.specs.Record.{recordAt, recordCount, sized}
-use Rattle.component.specs.Drawing.{inputsBefore, outputsBefore}
 use Rattle.flatten.specs.Verdict.{verdict}
 use Rattle.flatten.proofs.Accepted.{accepted-sized}
 use Rattle.meeting.specs.Meeting.{judgement}
@@ -24,8 +23,9 @@ use Rattle.kinds.specs.declared.table.Fields.{Fields}
 use Rattle.tables.specs.declared.Wire.{Wire}
 use Rattle.tables.specs.Tables.{Tables, wordIn, fieldsAt, fullSize, wiresIn, currentList, followingList, standingList}
 use Rattle.tables.proofs.SizesLaws.{fullSize-sound}
+use Rattle.tables.proofs.SameLaws.{SameWiring, sameWiring-more}
 use Rattle.laying.specs.Laid.{primitives, primitiveWords}
-use Rattle.load.specs.Load.{drawingTables}
+use Rattle.load.specs.Load.{drawingTables, loadTables}
 use Rattle.load.proofs.LoadLaws.{load-passed}
 use Rattle.loaded.proofs.LoadNet.{load-loaded}
 use Rattle.loaded.proofs.Drawn.{IsDrawn}
@@ -33,11 +33,11 @@ use Rattle.loaded.proofs.LoadTheorems.{accepted-drawn}
 use Rattle.net.specs.Net.{valuesFit, constsHeld, names, netNumber}
 use Rattle.net.proofs.NetLaws.{Net, names-existing, netNumber-full, netNumber-net}
 use Rattle.rounds.specs.Round.{State, stateOf, wiresFrom, movedBy, round, calm, roundBits, onlyClocks}
-use Rattle.rounds.proofs.Sound.{net-sound, net-within}
+use Rattle.rounds.proofs.Sound.{net-sound}
 use Rattle.simulator.specs.Edit.{Way, editedState}
 use Rattle.simulator.specs.Calls.{driven, editChecks}
 use Rattle.demands.proofs.Called.{Origin}
-use Rattle.slow.specs.Slow.{slowFull, slowOf, drawn, leaving, ledInto, slowBits, slowRight}
+use Rattle.slow.specs.Slow.{slowFull, slowOf, drawn, leaving, ledInto, slowBits}
 use Rattle.alike.proofs.Handed.{leaving-stored, ledInto-wires}
 use Rattle.alike.proofs.SameRound.{SameWords, fields-same, round-same, movedBy-same, edited-same, onlyClocks-same, every-fit, every-held}
 
@@ -53,6 +53,16 @@ slowFull-five T e =
       le-leb 256 (length (T .following)) (f .following),
       le-leb 256 (length (T .standing)) (f .standing),
     )
+
+-- A call leaves tables that come from the same load.
+pub origin-on : (file : List ℕ) (T U : Tables) → Origin file T → SameWiring T U → Origin file U
+origin-on file T U o s =
+    record {
+      lent = o .lent;
+      bytes = o .bytes;
+      accepted = o .accepted;
+      wiring = sameWiring-more (loadTables file (o .lent)) T U (o .wiring) s;
+    }
 
 module _ (file : List ℕ) (T : Tables) (o : Origin file T) where
   abbrev at : ℕ → Record
@@ -81,7 +91,7 @@ module _ (file : List ℕ) (T : Tables) (o : Origin file T) where
   pub origin-judged : judgement file ≡ Accepted
   origin-judged = accepted-judgement file judged
 
-  is-drawn : IsDrawn at n T
+  pub is-drawn : IsDrawn at n T
   is-drawn = accepted-drawn file (o .lent) (o .accepted) T (o .wiring)
 
   count : m ≡ length (primitives at n)
@@ -119,6 +129,19 @@ module _ (file : List ℕ) (T : Tables) (o : Origin file T) where
   pub editedState-same : (way : Way) (i v : ℕ) (s : State) → i < m → editedState D way i v s ≡ editedState T way i v s
   editedState-same way i v s h = sym (edited-same T D m same-words i h way v s)
 
+  -- What 16 and 20 both ask.
+  pub names-drawn : (l : List ℕ) → names D l ≡ names T l
+  unfolding names
+  names-drawn l = λ j. every (λ i. ltb i (sym count j)) l && distinct l
+
+  pub values-drawn : valuesFit D ≡ valuesFit T
+  unfolding valuesFit
+  values-drawn = rw (← count) (sym (every-fit T D m same-words (T .inputs) (T .outputs)))
+
+  pub consts-drawn : constsHeld D ≡ constsHeld T
+  unfolding constsHeld
+  consts-drawn = rw (← count) (sym (every-held T D m same-words (T .outputs)))
+
   -- The tables are a net.
   module _ (z : netNumber T ≡ 0) where
     N : Net T
@@ -150,33 +173,3 @@ module _ (file : List ℕ) (T : Tables) (o : Origin file T) where
         λ l e. sym (onlyClocks-same T D m same-words l (names-existing T l e)) in
         λ j.
         clocks (currentList T) (N .current) j && clocks (followingList T) (N .following) j && clocks (standingList T) (N .standing) j
-
-    names-drawn : (l : List ℕ) → names D l ≡ names T l
-    unfolding names
-    names-drawn l = λ j. every (λ i. ltb i (sym count j)) l && distinct l
-
-    values : valuesFit D ≡ true
-    unfolding valuesFit
-    values = rw (← count) (sym (every-fit T D m same-words (T .inputs) (T .outputs)) ∙ N .values)
-
-    consts : constsHeld D ≡ true
-    unfolding constsHeld
-    consts = rw (← count) (sym (every-held T D m same-words (T .outputs)) ∙ N .consts)
-
-    -- Not 20.
-    pub right : slowRight at n (slowOf T) ≡ true
-    unfolding slowRight
-    right =
-        let c = net-within T z in
-        rw (
-          eq-eqb (T .counts .inputs) (inputsBefore at n) (is-drawn .input-count),
-          eq-eqb (T .counts .outputs) (outputsBefore at n) (is-drawn .output-count),
-          le-leb (T .counts .current) 256 (c .current),
-          le-leb (T .counts .following) 256 (c .following),
-          le-leb (T .counts .standing) 256 (c .standing),
-          values,
-          consts,
-          names-drawn (currentList T) ∙ N .current,
-          names-drawn (followingList T) ∙ N .following,
-          names-drawn (standingList T) ∙ N .standing,
-        )

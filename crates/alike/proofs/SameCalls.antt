@@ -15,9 +15,8 @@ use Rattle.component.specs.declared.Verdict.the-variants.{Accepted, Refused}
 use Rattle.component.specs.Record.{recordAt, recordCount}
 use Rattle.flatten.specs.Verdict.{andThen, listBy}
 use Rattle.tables.specs.Tables.{Tables, currentList, wiresIn}
-use Rattle.tables.proofs.SameLaws.{SameWiring, sameWiring-more}
-use Rattle.load.specs.Load.{loadTables}
 use Rattle.net.specs.Net.{netNumber}
+use Rattle.net.proofs.NetLaws.{netNumber-net}
 use Rattle.rounds.specs.Round.{State, stateOf, leave, wiresFrom, round, calm, roundBits, roundOf}
 use Rattle.simulator.specs.Edit.{editedState}
 use Rattle.simulator.specs.Calls.{after, roundTables, roundNumber, roundMoved, editNumber, editTables, bitsSet, Run, noRound, onceMore, runBy, run}
@@ -28,17 +27,8 @@ use Rattle.demands.proofs.Called.{Origin}
 use Rattle.slow.specs.Slow.{SlowTables, slowOf, drawn, slowRoundOf, slowBits, slowNumber, slowEditNumber, slowBy, slowRoundVerdict, slowRoundTables, slowMoved}
 use Rattle.slow.specs.Slow.{slowEditVerdict, slowEditTables, slowRunVerdict, slowRun, slowRunTables}
 use Rattle.alike.specs.Alike.{SameRounds, SameEdits, SameRuns, SameCalls}
-use Rattle.alike.proofs.Drawn.{origin-sized, origin-judged, editChecks-same, editedState-same, full, round-drawn, bits-drawn, calm-drawn, right}
-
--- A call leaves a net that was reached from the same load.
-pub origin-on : (file : List ℕ) (T U : Tables) → Origin file T → SameWiring T U → Origin file U
-origin-on file T U o s =
-    record {
-      lent = o .lent;
-      bytes = o .bytes;
-      accepted = o .accepted;
-      wiring = sameWiring-more (loadTables file (o .lent)) T U (o .wiring) s;
-    }
+use Rattle.alike.proofs.Drawn.{origin-on, origin-sized, origin-judged, editChecks-same, editedState-same, full, round-drawn, bits-drawn, calm-drawn}
+use Rattle.alike.proofs.Stood.{net-right}
 
 -- What a call of number k leaves, on either engine.
 left-by : (k : ℕ) (new : SlowTables) (T U : Tables) → (k ≡ 0 → new ≡ slowOf U) → slowBy (andThen Accepted k) new (slowOf T) ≡ slowOf (after k U T)
@@ -63,12 +53,13 @@ module _ (file : List ℕ) (T : Tables) (o : Origin file T) (z : netNumber T ≡
   abbrev D : Tables
   D = drawn at n (slowOf T)
 
+  -- No number is given for the tables.
   number : slowNumber at n (slowOf T) ≡ 0
   unfolding slowNumber
-  number = rw (right file T o z)
+  number = rw (net-right file T o (netNumber-net T z))
 
   -- The round of what the file gives is that of the tables.
-  pub round-step : (t : ℕ) → slowRoundOf at n t D ≡ drawn at n (slowOf (roundTables T t))
+  round-step : (t : ℕ) → slowRoundOf at n t D ≡ drawn at n (slowOf (roundTables T t))
   unfolding slowRoundOf roundOf
   round-step t =
       ap (leave D) (round-drawn file T o z t) ∙ leave-drawn at n T (round T (wiresFrom (wiresIn T)) t (stateOf T))
@@ -84,7 +75,7 @@ module _ (file : List ℕ) (T : Tables) (o : Origin file T) (z : netNumber T ≡
       by-room true e = rw (lt-leb 256 (length bits) (ltb-true (length bits) 256 e))
       by-room false e = rw (le-leb 256 (length bits) (ltb-false (length bits) 256 e))
 
-  pub same-rounds : SameRounds file T
+  same-rounds : SameRounds file T
   unfolding slowRoundTables slowMoved roundMoved
   same-rounds bits t = (
     round-verdict bits,
@@ -105,13 +96,13 @@ module _ (file : List ℕ) (T : Tables) (o : Origin file T) (z : netNumber T ≡
   -- An edit.
   edit-number : (i v : ℕ) → slowEditNumber at n (slowOf T) i v ≡ editNumber T i v
   unfolding slowEditNumber editNumber
-  edit-number i v = rw (right file T o z, z) (editChecks-same file T o i v)
+  edit-number i v = rw (net-right file T o (netNumber-net T z), z) (editChecks-same file T o i v)
 
   edit-verdict : (i v : ℕ) → slowEditVerdict file (slowOf T) i v ≡ andThen Accepted (editNumber T i v)
   unfolding slowEditVerdict
   edit-verdict i v = rw (origin-sized file T o, full file T o z, origin-judged file T o, edit-number i v)
 
-  pub same-edits : SameEdits file T
+  same-edits : SameEdits file T
   unfolding slowEditTables editTables
   same-edits way i v = (edit-verdict i v, rw (edit-verdict i v) (left-by (editNumber T i v) _ T (leave T (editedState T way i v (stateOf T))) made))
     where
@@ -170,7 +161,7 @@ module _ (file : List ℕ) (T : Tables) (o : Origin file T) (z : netNumber T ≡
   unfolding slowRunVerdict
   run-verdict = rw (origin-sized file T o, full file T o z, origin-judged file T o, number file T o z, z)
 
-  pub same-runs : SameRuns file T
+  same-runs : SameRuns file T
   unfolding slowRunTables
   same-runs t limit =
       let e = run-drawn file t limit T o z in (

@@ -4,8 +4,9 @@
 --   LeavingStored, LedIntoStored   the wires that are worked out are the stored ones
 --   SlowAsLoad                     a load is refused alike, and leaves the same
 --   SameCalls file T               each call on these tables is refused alike, leaves the same and tells the same
---   SlowEqual                      all of that, of every table that calls reach from a load
---   SlowAlong                      the same of any list of calls, made on both engines side by side
+--   SlowEqual                      all of that, of any tables that calls reach from a load
+--   SlowAlong                      the same said of any list of calls, made on both engines side by side
+--   Where16Stood                   lent any ports and lists, it gives 20 where the flat engine gives 16, and else the calls are the same
 -- Assumes nothing.
 use mathlib.Core.Path.{_≡_}
 use Prim.Native.Nat.{ℕ}
@@ -16,15 +17,15 @@ use Rattle.component.specs.declared.Verdict.{Verdict}
 use Rattle.component.specs.declared.Verdict.the-variants.{Accepted}
 use Rattle.component.specs.Record.{recordAt, recordCount, IsBytes}
 use Rattle.flatten.specs.Verdict.{andThen}
-use Rattle.tables.specs.Tables.{Tables, fullSize}
+use Rattle.tables.specs.Tables.{Tables, tablesOf, countsOf, fullSize}
 use Rattle.laying.specs.Laid.{flatWires}
 use Rattle.load.specs.Load.{loadVerdict, loadTables}
-use Rattle.net.specs.Net.{netNumber}
+use Rattle.net.specs.Net.{isNet, netNumber}
 use Rattle.rounds.specs.Round.{wiresFrom}
 use Rattle.simulator.specs.Edit.{Way}
 use Rattle.simulator.specs.Calls.{roundNumber, roundCall, roundMoved, driven, editNumber, editTables, Run, run, runTables}
-use Rattle.slow.specs.Slow.{SlowTables, slowFull, slowOf, leaving, ledInto, slowLoadVerdict, slowLoadTables, slowRoundVerdict, slowRoundTables, slowMoved}
-use Rattle.slow.specs.Slow.{slowEditVerdict, slowEditTables, slowRunVerdict, slowRun, slowRunTables}
+use Rattle.slow.specs.Slow.{SlowTables, slowFull, slowOf, leaving, ledInto, slowRight, slowLoadVerdict, slowLoadTables, slowRoundVerdict, slowRoundTables}
+use Rattle.slow.specs.Slow.{slowMoved, slowEditVerdict, slowEditTables, slowRunVerdict, slowRun, slowRunTables}
 use Rattle.demands.specs.Reached.{Call, rounded, edited, untilCalm, callNumber, callTables, Reached}
 
 -- "working out each source and target through the maps when needed": for any records, what is worked out of primitive i are the wires that a load
@@ -82,7 +83,7 @@ SlowEqual = SlowAsLoad × ((file : List ℕ) (ran : Bool) (t : ℕ) (T : Tables)
 
 -- The calls one by one, on either engine: the verdict of each, and the words that it gives beside the tables and the counts: the table of bits after a
 -- round; the rounds, evaluations and changes of a run.
-abbrev runWords : Run → List ℕ
+abbrev pub runWords : Run → List ℕ
 runWords r = r .rounds ∷ r .evaluations ∷ r .moved ∷ []
 
 pub record Told : Type 0 where
@@ -129,9 +130,24 @@ module _ (file : List ℕ) where
   slowCallsTold (c ∷ cs) S = record { verdict = slowCallVerdict c S; words = slowCallWords c S } ∷ slowCallsTold cs (slowCallTables c S)
 
 -- One file is loaded on both engines, lent the same ports and lists, and accepted; then the same calls are made on both, refused ones among them, each
--- engine going on from what its own last call left. Both told the same after each call, and their ports and lists are the same.
+-- engine going on from what its own last call left. Each call told the same on both, and after the last, and so after each, ports and lists are the same.
 abbrev pub SlowAlong : Type 0
 SlowAlong =
     (file : List ℕ) (T : Tables) (cs : List Call) → IsBytes file → loadVerdict file T ≡ Accepted
     → let slow = slowLoadTables file (slowOf T) in let flat = loadTables file T in
     (slowCallsTold file cs slow ≡ callsTold cs flat) × (slowCallsTables file cs slow ≡ slowOf (callsTables cs flat))
+
+-- Ports and lists S, beside the components and wires of T.
+abbrev pub beside : SlowTables → Tables → Tables
+beside S T =
+    tablesOf (T .components) (S .inputs) (S .outputs) (T .wires) (S .current) (S .following) (S .standing)
+    (countsOf (T .counts .components) (S .counts .inputs) (S .counts .outputs) (T .counts .wires) (S .counts .current) (S .counts .following)
+    (S .counts .standing))
+
+-- "then, where 16 stood, 20": lent any ports and lists, whatever wrote them, the slow engine gives 20 where the flat engine, lent the same beside the
+-- components and wires of a load, gives 16; and where neither is given, and none is too short, the calls are the same.
+abbrev pub Where16Stood : Type 0
+Where16Stood =
+    (file : List ℕ) (ran : Bool) (t : ℕ) (T : Tables) → Reached file ran t T → (S : SlowTables)
+    → (slowRight (recordAt file) (recordCount file) S ≡ isNet (beside S T))
+    × (slowFull S ≡ true → isNet (beside S T) ≡ true → SameCalls file (beside S T))
