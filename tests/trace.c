@@ -13,8 +13,12 @@ long write(int file, const void *from, size_t count);
 
 enum {
     COMPONENTS, INPUTS, OUTPUTS, WIRES, CURRENT, FOLLOWING, STANDING, TABLES,
-    LIST = TABLES, NUMBERS, WIDTHS, MOVED, MENDED, DROPPED, LENT
+    LIST = TABLES, NUMBERS, WIDTHS, MOVED, MENDED, DROPPED,
+    SLOW_INPUTS, SLOW_OUTPUTS, SLOW_CURRENT, SLOW_FOLLOWING, SLOW_STANDING, LENT
 };
+
+/* The counts of the slow engine, each in the place that its table has among the five. */
+#define SLOW_COUNTS (LENT - SLOW_INPUTS)
 
 /* Of a file of more bytes, which is read to its end, so many stand for it: they are too many as well. */
 #define LONGEST 30000
@@ -28,7 +32,7 @@ enum {
 
 static const size_t full_words[LENT] = { BERXUNDAR_COMPONENT_WORDS, BERXUNDAR_INPUTS, BERXUNDAR_OUTPUTS, BERXUNDAR_WIRE_WORDS,
     BERXUNDAR_NAMES, BERXUNDAR_NAMES, BERXUNDAR_NAMES, BERXUNDAR_NAMES, BERXUNDAR_SHOWN, BERXUNDAR_SHOWN, BERXUNDAR_MOVED,
-    LONGEST, BERXUNDAR_DROPPED };
+    LONGEST, BERXUNDAR_DROPPED, BERXUNDAR_INPUTS, BERXUNDAR_OUTPUTS, BERXUNDAR_NAMES, BERXUNDAR_NAMES, BERXUNDAR_NAMES };
 static const size_t full_entries[TABLES] = { BERXUNDAR_COMPONENTS, BERXUNDAR_INPUTS, BERXUNDAR_OUTPUTS, BERXUNDAR_WIRES,
     BERXUNDAR_NAMES, BERXUNDAR_NAMES, BERXUNDAR_NAMES };
 static const char *const table_names[TABLES]
@@ -41,6 +45,11 @@ static uint64_t moved[BERXUNDAR_MOVED];
 static uint64_t found[3];
 static uint8_t file[LONGEST], kept[LONGEST], mended[LONGEST];
 static uint16_t dropped[BERXUNDAR_DROPPED];
+/* The slow engine's own tables and counts. */
+static struct {
+    uint64_t inputs[BERXUNDAR_INPUTS], outputs[BERXUNDAR_OUTPUTS], counts[SLOW_COUNTS];
+    uint16_t current[BERXUNDAR_NAMES], following[BERXUNDAR_NAMES], standing[BERXUNDAR_NAMES];
+} slow;
 static size_t kept_length;
 static size_t lent[LENT];
 
@@ -177,7 +186,7 @@ int mprotect(void *at, size_t length, int allowed);
 
 #define PAGE 4096
 #define ROOM (8 * PAGE)
-#define PLACES 23
+#define PLACES 29
 
 static uint8_t *places[PLACES];
 
@@ -259,7 +268,40 @@ static void back_all(size_t found_words)
     now.components, lent[COMPONENTS], now.inputs, lent[INPUTS], now.outputs, lent[OUTPUTS], now.wires, lent[WIRES],            \
         now.current, lent[CURRENT], now.following, lent[FOLLOWING], now.standing, lent[STANDING], now.counts, BERXUNDAR_COUNTS
 
-/* ---- The earlier record of two that meet, in the answer of a load or a look, with the file as it was lent to the call. ---- */
+/* What the slow engine is lent for one call: its tables and the kept file. */
+static struct {
+    uint64_t *inputs, *outputs, *counts;
+    uint16_t *current, *following, *standing;
+    uint8_t *file;
+} slowly;
+
+static void lend_slow(void)
+{
+    slowly.file = (uint8_t *)lend(17, kept, kept_length);
+    slowly.inputs = (uint64_t *)lend(23, slow.inputs, 8 * lent[SLOW_INPUTS]);
+    slowly.outputs = (uint64_t *)lend(24, slow.outputs, 8 * lent[SLOW_OUTPUTS]);
+    slowly.current = (uint16_t *)lend(25, slow.current, 2 * lent[SLOW_CURRENT]);
+    slowly.following = (uint16_t *)lend(26, slow.following, 2 * lent[SLOW_FOLLOWING]);
+    slowly.standing = (uint16_t *)lend(27, slow.standing, 2 * lent[SLOW_STANDING]);
+    slowly.counts = (uint64_t *)lend(28, slow.counts, sizeof slow.counts);
+}
+
+static void back_slow(void)
+{
+    back(slow.inputs, slowly.inputs, 8 * lent[SLOW_INPUTS]);
+    back(slow.outputs, slowly.outputs, 8 * lent[SLOW_OUTPUTS]);
+    back(slow.current, slowly.current, 2 * lent[SLOW_CURRENT]);
+    back(slow.following, slowly.following, 2 * lent[SLOW_FOLLOWING]);
+    back(slow.standing, slowly.standing, 2 * lent[SLOW_STANDING]);
+    back(slow.counts, slowly.counts, sizeof slow.counts);
+}
+
+#define SLOWLY                                                                                                                \
+    slowly.file, kept_length, slowly.inputs, lent[SLOW_INPUTS], slowly.outputs, lent[SLOW_OUTPUTS], slowly.current,            \
+        lent[SLOW_CURRENT], slowly.following, lent[SLOW_FOLLOWING], slowly.standing, lent[SLOW_STANDING], slowly.counts,       \
+        SLOW_COUNTS
+
+/* ---- The earlier record of two that meet, in the answer of a call that judges, with the file as it was lent to the call. ---- */
 
 /* Where records meet, the second judgement must give the same number and position, or the line says that it does not. */
 static int as_judged(uint32_t answer, const uint8_t *bytes, size_t length)
@@ -535,6 +577,88 @@ static int mend(void)
     return 1;
 }
 
+/* ---- The slow engine: its calls are lent the kept file and its own tables, and none of the seven. ---- */
+
+/* The word of a call and its answer's number and position, with the earlier record. The line is still open. */
+static void slow_answer(const char *word, uint32_t answer)
+{
+    put_words(as_judged(answer, slowly.file, kept_length) ? word : "slow and judge differ");
+    put_number(berxundar_number(answer));
+    put_number(berxundar_position(answer));
+    put_number(earlier_in(answer, slowly.file, kept_length));
+}
+
+static int slow_load(void)
+{
+    uint32_t answer;
+    lend_slow();
+    answer = berxundar_slow_load(SLOWLY);
+    back_slow();
+    slow_answer("load", answer);
+    put('\n');
+    return 1;
+}
+
+static int slow_round(void)
+{
+    uint8_t bytes[8];
+    uint64_t *bits, evaluated = slow.counts[SLOW_CURRENT - SLOW_INPUTS], i;
+    uint32_t answer;
+    if (!take(bytes, 8))
+        return 0;
+    lend_slow();
+    bits = (uint64_t *)lend(19, moved, 8 * lent[MOVED]);
+    answer = berxundar_slow_round(SLOWLY, number_in(bytes, 8), bits, lent[MOVED]);
+    back_slow();
+    back(moved, bits, 8 * lent[MOVED]);
+    slow_answer("round", answer);
+    for (i = 0; answer == 0 && i < evaluated && i < BERXUNDAR_MOVED; i++)
+        put_number(moved[i]);
+    put('\n');
+    return 1;
+}
+
+static int slow_edit(int first)
+{
+    uint8_t bytes[10];
+    uint32_t answer;
+    size_t index;
+    uint64_t number;
+    if (!take(bytes, 10))
+        return 0;
+    index = (size_t)number_in(bytes, 2);
+    number = number_in(bytes + 2, 8);
+    lend_slow();
+    answer = first ? berxundar_slow_edit(SLOWLY, index, number) : berxundar_slow_edit_standing(SLOWLY, index, number);
+    back_slow();
+    slow_answer(first ? "first" : "edit", answer);
+    put('\n');
+    return 1;
+}
+
+static int slow_run(void)
+{
+    uint8_t bytes[10];
+    uint64_t *words;
+    uint32_t answer;
+    if (!take(bytes, 10))
+        return 0;
+    found[0] = found[1] = found[2] = 0;
+    lend_slow();
+    words = (uint64_t *)lend(9, found, sizeof found);
+    answer = berxundar_slow_run_until_calm(SLOWLY, number_in(bytes, 8), (uint16_t)number_in(bytes + 8, 2), words, 3);
+    back_slow();
+    back(found, words, sizeof found);
+    slow_answer("run", answer);
+    put_number(found[0]);
+    put_number(found[1]);
+    put_number(found[2]);
+    put('\n');
+    return 1;
+}
+
+/* ---- One component alone. ---- */
+
 /* So many values, each a number of 64 bits and a width of 8. */
 static int take_values(size_t *count, uint64_t *numbers, uint64_t *widths)
 {
@@ -581,17 +705,21 @@ static int evaluate(void)
     return 1;
 }
 
-/* What is shown is the program's own tables, whatever is lent. */
-static int within(void)
+/* ---- What is shown is the program's own tables, whatever is lent. ---- */
+
+/* Whether each of so many counts is within its table. */
+static int all_within(size_t count, const uint64_t *counts, const size_t *full)
 {
     size_t i;
-    for (i = 0; i < TABLES; i++)
-        if (full_entries[i] < net.counts[i]) {
+    for (i = 0; i < count; i++)
+        if (full[i] < counts[i]) {
             put_words("counts past the tables\n");
             return 0;
         }
     return 1;
 }
+
+static int within(void) { return all_within(TABLES, net.counts, full_entries); }
 
 static void show_net(void)
 {
@@ -623,6 +751,18 @@ static void show_state(void)
             (size_t)net.counts[FOLLOWING], (size_t)net.counts[STANDING], 0);
 }
 
+/* The slow engine's state, in the same words. A table of its has as many words as entries. */
+static void show_slow_state(void)
+{
+    if (!all_within(SLOW_COUNTS, slow.counts, full_words + SLOW_INPUTS))
+        return;
+    line(table_names[INPUTS], (size_t)slow.counts[0], slow.inputs);
+    line(table_names[OUTPUTS], (size_t)slow.counts[1], slow.outputs);
+    short_line(table_names[CURRENT], (size_t)slow.counts[2], slow.current);
+    short_line(table_names[FOLLOWING], (size_t)slow.counts[3], slow.following);
+    short_line(table_names[STANDING], (size_t)slow.counts[4], slow.standing);
+}
+
 static void show_all(void)
 {
     line(table_names[COMPONENTS], BERXUNDAR_COMPONENT_WORDS, net.components);
@@ -639,6 +779,8 @@ static uint64_t *longs_of(unsigned table)
     case NUMBERS: return box.numbers;
     case WIDTHS: return box.widths;
     case MOVED: return moved;
+    case SLOW_INPUTS: return slow.inputs;
+    case SLOW_OUTPUTS: return slow.outputs;
     default: return NULL;
     }
 }
@@ -653,6 +795,9 @@ static uint16_t *shorts_of(unsigned table)
     case STANDING: return net.standing;
     case LIST: return list;
     case DROPPED: return dropped;
+    case SLOW_CURRENT: return slow.current;
+    case SLOW_FOLLOWING: return slow.following;
+    case SLOW_STANDING: return slow.standing;
     default: return NULL;
     }
 }
@@ -725,6 +870,8 @@ static int set_count(void)
         return 0;
     if (bytes[0] < TABLES)
         net.counts[bytes[0]] = number_in(bytes + 1, 8);
+    else if (SLOW_INPUTS <= bytes[0] && bytes[0] < LENT)
+        slow.counts[bytes[0] - SLOW_INPUTS] = number_in(bytes + 1, 8);
     return 1;
 }
 
@@ -768,6 +915,12 @@ static int answer_one(uint8_t letter)
     case 'Y': return write_words();
     case 'B': return look();
     case 'M': return mend();
+    case 'l': return slow_load();
+    case 'r': return slow_round();
+    case 'e': return slow_edit(0);
+    case 'g': return slow_edit(1);
+    case 'u': return slow_run();
+    case 'p': show_slow_state(); return 1;
     default: return 0;
     }
 }

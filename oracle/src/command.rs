@@ -51,6 +51,12 @@ pub enum Command {
     WriteWords { table: u8, place: u16, words: Vec<u64> },
     Look { path: Vec<Id> },
     Mend,
+    SlowLoad,
+    SlowRound { time: u64 },
+    SlowEdit { index: u16, number: u64 },
+    SlowEditFirst { index: u16, number: u64 },
+    SlowRun { time: u64, limit: u16 },
+    SlowState,
 }
 
 impl Command {
@@ -94,6 +100,12 @@ impl Command {
             },
             b'B' => Command::Look { path: read_path(from)? },
             b'M' => Command::Mend,
+            b'l' => Command::SlowLoad,
+            b'r' => Command::SlowRound { time: from.number::<8>()? },
+            b'e' => Command::SlowEdit { index: from.number::<2>()? as u16, number: from.number::<8>()? },
+            b'g' => Command::SlowEditFirst { index: from.number::<2>()? as u16, number: from.number::<8>()? },
+            b'u' => Command::SlowRun { time: from.number::<8>()?, limit: from.number::<2>()? as u16 },
+            b'p' => Command::SlowState,
             _ => return Err(Stop::Bad),
         };
         Ok(command)
@@ -111,10 +123,16 @@ impl Command {
             Command::Calm => to.push(b'C'),
             Command::Satisfied => to.push(b'Q'),
             Command::Mend => to.push(b'M'),
+            Command::SlowLoad => to.push(b'l'),
+            Command::SlowState => to.push(b'p'),
             Command::Round { time } => words(to, b'R', &[(*time, 8)]),
             Command::Edit { index, number } => words(to, b'E', &[(*index as u64, 2), (*number, 8)]),
             Command::EditFirst { index, number } => words(to, b'G', &[(*index as u64, 2), (*number, 8)]),
             Command::Run { time, limit } => words(to, b'U', &[(*time, 8), (*limit as u64, 2)]),
+            Command::SlowRound { time } => words(to, b'r', &[(*time, 8)]),
+            Command::SlowEdit { index, number } => words(to, b'e', &[(*index as u64, 2), (*number, 8)]),
+            Command::SlowEditFirst { index, number } => words(to, b'g', &[(*index as u64, 2), (*number, 8)]),
+            Command::SlowRun { time, limit } => words(to, b'u', &[(*time, 8), (*limit as u64, 2)]),
             Command::Index { id } => words(to, b'I', &[(*id as u64, 4)]),
             Command::Value { side, index, port } => {
                 words(to, b'V', &[(*side as u64, 1), (*index as u64, 2), (*port as u64, 2)])

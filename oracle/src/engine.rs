@@ -8,7 +8,9 @@ use crate::plain::net::{entries, Entry};
 use crate::plain::running::{Judged, Way};
 use crate::plain::single::PortValue;
 use crate::primitive::{bits_between, in_logix, kind_words, primitive};
-use crate::tables::{Tables, COMPONENTS, CURRENT, FOLLOWING, INPUTS, OUTPUTS, STANDING, WIRES};
+use crate::tables::{
+    Five, Tables, COMPONENTS, CURRENT, FLAT, FOLLOWING, INPUTS, OUTPUTS, SLOW, STANDING, WIRES,
+};
 use logix::component::{Component, ComponentBuilder, Conn};
 use logix::flatten::FlattenComponent;
 use logix::primitives::primitive::{ExtraInfo, Primitive, PrimitiveComponent};
@@ -96,11 +98,25 @@ impl Engine {
         let root = ComponentBuilder::new(usize::MAX).sub_comps(children).connections(connections);
         let mut engine = Engine::start(root.build());
         engine.take_values(tables);
+        engine.take_lists(tables, [CURRENT, FOLLOWING, STANDING]);
+        engine
+    }
+
+    /// The engine of an accepted drawing, with the slow engine's ports and lists, which are right
+    /// for it. Its components have as many ports as the tables, in the same order.
+    pub fn of_slow(drawing: &Drawing, tables: &Tables) -> Engine {
+        let [inputs, outputs, current, following, standing] = SLOW;
+        let (mut entering, mut leaving) = (tables.used(inputs), tables.used(outputs));
+        let mut engine = Engine::of_drawing(drawing);
         engine.simulator.state(|state| {
-            state.local_upd_list = list(tables, CURRENT);
-            state.local_next_upd_list = list(tables, FOLLOWING);
-            state.to_upd = list(tables, STANDING);
+            for component in &mut state.comp.components {
+                put_values(&mut component.inputs, entering);
+                put_values(&mut component.outputs, leaving);
+                entering = &entering[component.inputs.len()..];
+                leaving = &leaving[component.outputs.len()..];
+            }
         });
+        engine.take_lists(tables, [current, following, standing]);
         engine
     }
 
@@ -111,6 +127,15 @@ impl Engine {
                 put_values(&mut component.inputs, &tables.used(INPUTS)[entry.first_input as usize..]);
                 put_values(&mut component.outputs, &tables.used(OUTPUTS)[entry.first_output as usize..]);
             }
+        });
+    }
+
+    /// Takes the three lists.
+    fn take_lists(&mut self, tables: &Tables, [current, following, standing]: [usize; 3]) {
+        self.simulator.state(|state| {
+            state.local_upd_list = list(tables, current);
+            state.local_next_upd_list = list(tables, following);
+            state.to_upd = list(tables, standing);
         });
     }
 
@@ -133,21 +158,25 @@ impl Engine {
             let words = wires.flat_map(|wire| [wire.from.0, wire.from.1, wire.to.0, wire.to.1]);
             tables.put(WIRES, &words.map(|word| word as u64).collect::<Vec<u64>>());
         });
-        self.write_state(tables);
+        self.write_state(tables, FLAT);
     }
 
-    /// Writes values and lists.
-    pub fn write_state(&mut self, tables: &mut Tables) {
+    /// Writes values and lists into the tables of one of the two engines.
+    pub fn write_state(
+        &mut self,
+        tables: &mut Tables,
+        [inputs, outputs, current, following, standing]: Five,
+    ) {
         self.simulator.state(|state| {
             let components = &state.comp.components;
             let number = |data: &Data| data.value as u64;
-            let inputs: Vec<u64> = components.iter().flat_map(|c| c.inputs.iter().map(number)).collect();
-            let outputs: Vec<u64> = components.iter().flat_map(|c| c.outputs.iter().map(number)).collect();
-            tables.put(INPUTS, &inputs);
-            tables.put(OUTPUTS, &outputs);
-            tables.put(CURRENT, &list_words(&state.local_upd_list));
-            tables.put(FOLLOWING, &list_words(&state.local_next_upd_list));
-            tables.put(STANDING, &list_words(&state.to_upd));
+            let entering: Vec<u64> = components.iter().flat_map(|c| c.inputs.iter().map(number)).collect();
+            let leaving: Vec<u64> = components.iter().flat_map(|c| c.outputs.iter().map(number)).collect();
+            tables.put(inputs, &entering);
+            tables.put(outputs, &leaving);
+            tables.put(current, &list_words(&state.local_upd_list));
+            tables.put(following, &list_words(&state.local_next_upd_list));
+            tables.put(standing, &list_words(&state.to_upd));
         });
     }
 
@@ -225,6 +254,11 @@ impl Engine {
         };
         let data = self.simulator.state(status).expect("the port exists");
         (data.value as u64, data.bits as u64)
+    }
+
+    /// Whether a flat connection enters a component.
+    pub fn is_entered(&mut self, index: usize) -> bool {
+        self.simulator.state(|state| state.comp.flat_conns.iter().any(|wire| wire.to.0 == index))
     }
 
     /// `deps` of a component that exists.

@@ -11,8 +11,10 @@ pub mod judge;
 mod load;
 pub mod look;
 pub mod mend;
+mod nest;
 pub mod random;
 pub mod rounds;
+pub mod slow;
 pub mod tables;
 mod torn;
 mod votes;
@@ -28,7 +30,7 @@ use std::collections::BTreeMap;
 use std::io::{BufWriter, Error, Result, Write};
 
 const USAGE: &str =
-    "usage: oracle | oracle gen evaluate|judge|load|run|tables|look|votes|mend SEED COUNT [--stats]";
+    "usage: oracle | oracle gen evaluate|judge|load|run|tables|look|votes|mend|slow SEED COUNT [--stats]";
 
 pub fn usage() -> Result<()> {
     Err(Error::other(USAGE))
@@ -39,8 +41,9 @@ pub fn usage() -> Result<()> {
 pub struct Stream<W: Write> {
     output: BufWriter<W>,
     program: Program,
-    /// How often each answer was given, by its line's first two words; how often each
-    /// clause was the first that the tables broke; and what mending dropped.
+    /// How often each answer was given, by its line's first two words, those of the slow
+    /// engine apart; how often each clause was the first that the tables broke; what mending
+    /// dropped; and which checks of the slow engine failed together.
     answers: BTreeMap<String, u64>,
 }
 
@@ -59,9 +62,16 @@ impl<W: Write> Stream<W> {
             let clause = broken(&self.program.tables).unwrap_or("");
             *self.answers.entry(format!("not a net: {clause}")).or_default() += 1;
         }
+        let slow = slow::is_call(&command);
         if let Some(first) = lines.lines().next() {
-            let words: Vec<&str> = first.split(' ').take(2).collect();
+            let words: Vec<&str> =
+                slow.then_some("slow").into_iter().chain(first.split(' ').take(2)).collect();
             *self.answers.entry(words.join(" ")).or_default() += 1;
+        }
+        if slow {
+            for one in slow::counted(&self.program, &command) {
+                *self.answers.entry(one).or_default() += 1;
+            }
         }
         if lines.starts_with("mend 0 ") || lines.starts_with("mend 1 ") {
             self.count_dropped(lines.starts_with("mend 0 "));
@@ -129,6 +139,7 @@ pub fn run(words: &[String], output: impl Write) -> Result<()> {
             "look" => look::one(&mut random, &mut stream)?,
             "votes" => votes::one(&mut random, &mut stream)?,
             "mend" => mend::one(&mut random, &mut stream)?,
+            "slow" => slow::one(&mut random, &mut stream)?,
             _ => return usage(),
         }
     }

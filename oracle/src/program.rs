@@ -2,7 +2,9 @@
 //!
 //! The numbers given back come from `plain`. All else comes from logix, and `plain` works
 //! it out a second time: the program stops where the two differ. Where a component's kind
-//! is none of logix's, and in mending, `plain` is alone.
+//! is none of logix's, and in mending, `plain` is alone. The slow engine has a part of its own.
+
+mod slow;
 
 use crate::command::{Command, Single, FILE_KEPT};
 use crate::engine::Engine;
@@ -18,8 +20,9 @@ use crate::plain::rules::{moved, outputs_after};
 use crate::plain::running::{self, Judged, Way};
 use crate::plain::single::{single_number, PortValue};
 use crate::primitive::{evaluated, in_logix};
-use crate::tables::{Tables, ANSWER, COMPONENTS, CURRENT, DROPPED, FOLLOWING, INPUTS, MENDED, MOVED};
-use crate::tables::{NUMBERS, OUTPUTS, STANDING, WIDTHS, WIRES};
+use crate::tables::{Tables, ANSWER, COMPONENTS, CURRENT, DROPPED, FLAT, INPUTS, MENDED, MOVED};
+use crate::tables::{NUMBERS, OUTPUTS, SLOW, WIDTHS, WIRES};
+use slow::Beside;
 use std::fmt::{Debug, Write as _};
 use std::io::{Read, Result, Write};
 
@@ -42,7 +45,9 @@ pub struct Program {
     engine: Option<Engine>,
     /// What calls have made of a load's tables; none where they were changed by hand.
     reached: Option<Reached>,
-    /// The file that looks and mending are handed.
+    /// What the slow engine is held against; none where its tables were changed by hand.
+    beside: Option<Beside>,
+    /// The file that looks, mending and the slow engine are handed.
     pub kept: Vec<u8>,
 }
 
@@ -71,7 +76,7 @@ pub fn run(input: impl Read, output: impl Write) -> Result<()> {
 
 impl Program {
     pub fn new() -> Program {
-        Program { tables: Tables::new(), engine: None, reached: None, kept: vec![] }
+        Program { tables: Tables::new(), engine: None, reached: None, beside: None, kept: vec![] }
     }
 
     /// Does one command and appends its lines.
@@ -105,31 +110,47 @@ impl Program {
             }
             Command::Evaluate(single) => evaluate(single, lines),
             Command::WriteWord { table, place, word } => {
-                self.by_hand();
+                self.by_hand(*table as usize);
                 self.tables.write_word(*table as usize, *place as usize, *word);
             }
             Command::SetCount { which, number } => {
-                self.by_hand();
+                self.by_hand(*which as usize);
                 self.tables.set_count(*which as usize, *number);
             }
             Command::Lend { table, words } => self.tables.lend(*table as usize, *words as usize),
             Command::Keep(file) => self.kept = file[..file.len().min(FILE_KEPT)].to_vec(),
             Command::Table { table } => self.table(*table as usize, lines),
             Command::WriteWords { table, place, words } => {
-                self.by_hand();
+                self.by_hand(*table as usize);
                 for (at, word) in words.iter().enumerate() {
                     self.tables.write_word(*table as usize, *place as usize + at, *word);
                 }
             }
             Command::Look { path } => self.look(path, lines),
             Command::Mend => self.mend(lines),
+            Command::SlowLoad => self.slow_load(lines),
+            Command::SlowRound { time } => self.slow_round(*time, lines),
+            Command::SlowEdit { index, number } => {
+                let verdict = self.slow_edit(Way::Standing, *index, *number);
+                line(lines, "edit", words(verdict));
+            }
+            Command::SlowEditFirst { index, number } => {
+                let verdict = self.slow_edit(Way::First, *index, *number);
+                line(lines, "first", words(verdict));
+            }
+            Command::SlowRun { time, limit } => self.slow_run(*time, *limit, lines),
+            Command::SlowState => self.slow_state(lines),
         }
     }
 
-    /// The tables are changed by hand.
-    fn by_hand(&mut self) {
-        self.engine = None;
-        self.reached = None;
+    /// A table, or its count, is changed by hand.
+    fn by_hand(&mut self, table: usize) {
+        if SLOW.contains(&table) {
+            self.beside = None;
+        } else {
+            self.engine = None;
+            self.reached = None;
+        }
     }
 
     /// logix's side of the tables, which are a net; none where logix has not all kinds.
@@ -189,7 +210,7 @@ impl Program {
             Some(engine) => {
                 assert_eq!(logix(engine), given, "what a change gives in both codings");
                 if let Some(engine) = &mut self.engine {
-                    engine.write_state(&mut self.tables);
+                    engine.write_state(&mut self.tables, FLAT);
                 }
             }
             None => self.tables = second.clone(),
@@ -359,7 +380,7 @@ impl Program {
         if !self.tables.counts_within() {
             return lines.push_str("counts past the tables\n");
         }
-        for table in [INPUTS, OUTPUTS, CURRENT, FOLLOWING, STANDING] {
+        for table in FLAT {
             line(lines, TABLE_NAMES[table], self.tables.used(table).iter().copied());
         }
     }

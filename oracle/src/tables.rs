@@ -1,5 +1,5 @@
-//! The seven lent tables at full size, their counts, the lists lent for answers, and
-//! how much of each is lent.
+//! The seven lent tables at full size, their counts, the lists lent for answers, the slow
+//! engine's five tables with their counts, and how much of each is lent.
 
 use std::rc::Rc;
 
@@ -19,16 +19,29 @@ pub const WIDTHS: usize = 9;
 pub const MOVED: usize = 10;
 pub const MENDED: usize = 11;
 pub const DROPPED: usize = 12;
+/// The slow engine's own tables.
+pub const SLOW_INPUTS: usize = 13;
+pub const SLOW_OUTPUTS: usize = 14;
+pub const SLOW_CURRENT: usize = 15;
+pub const SLOW_FOLLOWING: usize = 16;
+pub const SLOW_STANDING: usize = 17;
 /// How many tables there are in all.
-pub const ALL: usize = 13;
+pub const ALL: usize = 18;
 
-/// Words of an entry.
+/// The tables of ports and lists: inputs, outputs, current, following, standing.
+pub type Five = [usize; 5];
+/// Those of the flat engine, and those of the slow one.
+pub const FLAT: Five = [INPUTS, OUTPUTS, CURRENT, FOLLOWING, STANDING];
+pub const SLOW: Five = [SLOW_INPUTS, SLOW_OUTPUTS, SLOW_CURRENT, SLOW_FOLLOWING, SLOW_STANDING];
+
+/// Words of an entry of the seven; in every other table an entry is a word.
 pub const ENTRY_WORDS: [usize; 7] = [8, 1, 1, 4, 1, 1, 1];
 /// "Full size: 256 components, 1,024 inputs, 1,024 outputs, 1,024 wires, three lists of 256."
 pub const FULL_ENTRIES: [u64; 7] = [256, 1_024, 1_024, 1_024, 256, 256, 256];
-/// Full size in words; the last six are the lists lent for an answer.
-pub const FULL_WORDS: [usize; ALL] =
-    [2_048, 1_024, 1_024, 4_096, 256, 256, 256, 256, 256, 256, 256, 30_000, 1_025];
+/// Full size in words: of the seven, of the six lists lent for an answer, of the slow engine's five.
+pub const FULL_WORDS: [usize; ALL] = [
+    2_048, 1_024, 1_024, 4_096, 256, 256, 256, 256, 256, 256, 256, 30_000, 1_025, 1_024, 1_024, 256, 256, 256,
+];
 /// What each word holds at the program's start.
 const FIRST_WORD: u64 = 7;
 
@@ -37,6 +50,8 @@ pub struct Tables {
     /// Copies of the tables have the words in common until one is written.
     pub words: [Rc<Vec<u64>>; ALL],
     pub counts: [u64; 7],
+    /// The slow engine's counts, in the order of its tables.
+    pub slow_counts: [u64; 5],
     pub lent: [usize; ALL],
 }
 
@@ -45,6 +60,7 @@ impl Tables {
         Tables {
             words: std::array::from_fn(|table| Rc::new(vec![FIRST_WORD; FULL_WORDS[table]])),
             counts: [0; 7],
+            slow_counts: [0; 5],
             lent: FULL_WORDS,
         }
     }
@@ -52,7 +68,7 @@ impl Tables {
     /// The greatest word that the table's type holds.
     fn word_max(table: usize) -> u64 {
         match table {
-            COMPONENTS | INPUTS | OUTPUTS | NUMBERS | WIDTHS | MOVED => u64::MAX,
+            COMPONENTS | INPUTS | OUTPUTS | NUMBERS | WIDTHS | MOVED | SLOW_INPUTS | SLOW_OUTPUTS => u64::MAX,
             MENDED => u8::MAX as u64,
             _ => u16::MAX as u64,
         }
@@ -70,9 +86,20 @@ impl Tables {
         }
     }
 
+    /// Sets a count. A table that has none is left out.
     pub fn set_count(&mut self, which: usize, number: u64) {
-        if which < 7 {
-            self.counts[which] = number;
+        match which {
+            COMPONENTS..=STANDING => self.counts[which] = number,
+            SLOW_INPUTS..=SLOW_STANDING => self.slow_counts[which - SLOW_INPUTS] = number,
+            _ => {}
+        }
+    }
+
+    /// The count of one of the seven tables, or of the slow engine's five.
+    pub fn count(&self, table: usize) -> u64 {
+        match table {
+            SLOW_INPUTS..=SLOW_STANDING => self.slow_counts[table - SLOW_INPUTS],
+            _ => self.counts[table],
         }
     }
 
@@ -83,14 +110,19 @@ impl Tables {
         }
     }
 
-    /// Whether each count is within its table.
+    /// Whether each count of the seven is within its table.
     pub fn counts_within(&self) -> bool {
         (0..7).all(|table| self.counts[table] <= FULL_ENTRIES[table])
     }
 
+    /// Whether each of the slow engine's is.
+    pub fn slow_counts_within(&self) -> bool {
+        SLOW.into_iter().all(|table| self.count(table) <= FULL_WORDS[table] as u64)
+    }
+
     /// The words below a table's count, which is within the table.
     pub fn used(&self, table: usize) -> &[u64] {
-        &self.words[table][..self.counts[table] as usize * ENTRY_WORDS[table]]
+        &self.words[table][..self.count(table) as usize * entry_words(table)]
     }
 
     /// Lays words over the front of a table; those past them keep what they held.
@@ -101,6 +133,10 @@ impl Tables {
     /// Puts new contents in; entries past the count keep what they held.
     pub fn put(&mut self, table: usize, contents: &[u64]) {
         self.lay(table, contents);
-        self.counts[table] = (contents.len() / ENTRY_WORDS[table]) as u64;
+        self.set_count(table, (contents.len() / entry_words(table)) as u64);
     }
+}
+
+fn entry_words(table: usize) -> usize {
+    ENTRY_WORDS.get(table).copied().unwrap_or(1)
 }

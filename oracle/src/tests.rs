@@ -1,5 +1,5 @@
 //! Tests: the lamp drawing, the limits, values of 64 bits, records that meet, both ways of an edit, outputs that moved, mending,
-//! the language, and where logix and the plain coding can be laid side by side.
+//! the slow engine, the language, and where logix and the plain coding can be laid side by side.
 
 mod agreement;
 mod differences;
@@ -14,6 +14,7 @@ mod mend;
 mod moved;
 mod net;
 mod satisfied;
+mod slow;
 mod votes;
 mod wide;
 

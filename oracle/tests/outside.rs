@@ -31,7 +31,7 @@ fn generated(what: &str, seed: &str) -> Vec<u8> {
 
 #[test]
 fn a_seed_gives_the_same_stream_each_time() {
-    for what in ["evaluate", "judge", "load", "run", "tables", "look", "votes", "mend"] {
+    for what in ["evaluate", "judge", "load", "run", "tables", "look", "votes", "mend", "slow"] {
         assert!(generated(what, "1") == generated(what, "1"), "{what}");
         assert!(generated(what, "1") != generated(what, "2"), "{what}");
     }

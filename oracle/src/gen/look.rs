@@ -159,7 +159,7 @@ fn other_values<W: Write>(random: &mut Random, stream: &mut Stream<W>) -> Result
 }
 
 /// Another drawing, or this one but for one thing; some of these still match.
-fn other_drawing(random: &mut Random, mut records: Vec<Record>) -> Vec<Record> {
+pub fn other_drawing(random: &mut Random, mut records: Vec<Record>) -> Vec<Record> {
     let profile = boxes_profile(random);
     let count = records.iter().filter(|record| record.kind == COMPONENT).count();
     let any = random.below(count as u64) as usize;

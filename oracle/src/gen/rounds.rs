@@ -76,7 +76,7 @@ fn bits_lent_less<W: Write>(random: &mut Random, stream: &mut Stream<W>, time: u
     stream.put_all([Command::Round { time }, BITS, Command::State])
 }
 
-fn first_time(random: &mut Random) -> u64 {
+pub fn first_time(random: &mut Random) -> u64 {
     match random.below(3) {
         0 => random.pick(&[u64::MAX, u64::MAX - 5, 1 << 63, 1 << 62]),
         1 => random.any_size(),
@@ -85,7 +85,7 @@ fn first_time(random: &mut Random) -> u64 {
 }
 
 /// Time mostly goes on by a little; it may stand, go back, leap or wrap.
-fn next_time(random: &mut Random, time: u64) -> u64 {
+pub fn next_time(random: &mut Random, time: u64) -> u64 {
     match random.below(8) {
         0 => time,
         1 => time.wrapping_sub(random.between(1, 30)),
@@ -123,7 +123,7 @@ pub fn edit(random: &mut Random, tables: &Tables) -> Command {
 }
 
 /// An edit that goes first, or one of the old way.
-fn either_way(random: &mut Random, index: u16, number: u64) -> Command {
+pub fn either_way(random: &mut Random, index: u16, number: u64) -> Command {
     match random.below(2) {
         0 => Command::Edit { index, number },
         _ => Command::EditFirst { index, number },

@@ -14,8 +14,8 @@ use crate::plain::kinds::{greatest, PERIOD_MAX};
 use crate::plain::net::{entries, Entry};
 use crate::program::Program;
 use crate::tables::{
-    Tables, ALL, ANSWER, COMPONENTS, CURRENT, DROPPED, ENTRY_WORDS, FULL_ENTRIES, FULL_WORDS, INPUTS, MOVED,
-    NUMBERS, OUTPUTS, STANDING, WIDTHS, WIRES,
+    Tables, ANSWER, COMPONENTS, CURRENT, DROPPED, ENTRY_WORDS, FULL_ENTRIES, FULL_WORDS, INPUTS, MOVED,
+    NUMBERS, OUTPUTS, SLOW_INPUTS, STANDING, WIDTHS, WIRES,
 };
 use std::io::{Result, Write};
 
@@ -86,9 +86,9 @@ fn every_call<W: Write>(random: &mut Random, stream: &mut Stream<W>) -> Result<(
     stream.put(Command::Table { table: random.pick(&[ANSWER, NUMBERS, WIDTHS, MOVED, MOVED, DROPPED]) as u8 })
 }
 
-/// Every table one word short, or empty, or lent past its full size.
+/// Every table but the slow engine's one word short, or empty, or lent past its full size.
 pub fn lend_less<W: Write>(random: &mut Random, stream: &mut Stream<W>) -> Result<()> {
-    let table = random.below(ALL as u64) as usize;
+    let table = random.below(SLOW_INPUTS as u64) as usize;
     let full = FULL_WORDS[table] as u16;
     let words = random.pick(&[full - 1, full - 1, 0, full, full + 1, 65_535]);
     stream.put(Command::Lend { table: table as u8, words })?;
@@ -196,7 +196,7 @@ fn write(table: usize, place: u64, word: u64) -> Command {
 }
 
 /// "counts are within these limits", and the totals of the ports.
-fn count_fault(random: &mut Random, tables: &Tables) -> Command {
+pub fn count_fault(random: &mut Random, tables: &Tables) -> Command {
     let which = random.below(7) as usize;
     let (count, full) = (tables.counts[which], FULL_ENTRIES[which]);
     let number = match random.below(4) {
@@ -254,7 +254,7 @@ fn width_fault(random: &mut Random, tables: &Tables) -> Vec<Command> {
 }
 
 /// "values fit, each Const's output is its value".
-fn value_fault(random: &mut Random, tables: &Tables) -> Vec<Command> {
+pub fn value_fault(random: &mut Random, tables: &Tables) -> Vec<Command> {
     let entries = entries(tables);
     let side = random.pick(&[INPUTS, OUTPUTS]);
     let has_ports = |entry: &&Entry| if side == INPUTS { entry.fields.inputs > 0 } else { true };
@@ -274,7 +274,7 @@ fn value_fault(random: &mut Random, tables: &Tables) -> Vec<Command> {
 }
 
 /// "each Const's output is its value": the one or the other changes, and fits.
-fn const_fault(random: &mut Random, tables: &Tables) -> Vec<Command> {
+pub fn const_fault(random: &mut Random, tables: &Tables) -> Vec<Command> {
     let entries = entries(tables);
     let consts: Vec<usize> = (0..entries.len()).filter(|at| entries[*at].fields.kind == 13).collect();
     if consts.is_empty() {
@@ -324,7 +324,7 @@ fn unequal_source(random: &mut Random, tables: &Tables, at: u64, wire: &[u64]) -
 }
 
 /// "each list names existing components without repeats".
-fn list_fault(random: &mut Random, tables: &Tables) -> Vec<Command> {
+pub fn list_fault(random: &mut Random, tables: &Tables) -> Vec<Command> {
     let list = random.between(CURRENT as u64, STANDING as u64) as usize;
     let count = tables.counts[COMPONENTS];
     let length = tables.counts[list];

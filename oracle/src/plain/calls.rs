@@ -104,7 +104,7 @@ pub fn lent_short(tables: &Tables, table: usize) -> bool {
 }
 
 /// Whether a wire enters an input of the component.
-fn is_entered(tables: &Tables, index: u16) -> bool {
+pub fn is_entered(tables: &Tables, index: u16) -> bool {
     tables.used(WIRES).chunks_exact(4).any(|wire| wire[2] == index as u64)
 }
 

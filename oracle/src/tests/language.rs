@@ -139,7 +139,7 @@ fn words_that_do_not_fit_are_left_out() {
     let word = |table, place, word| Command::WriteWord { table, place, word };
     answer(&mut program, word(4, 0, 65_536));
     answer(&mut program, word(4, 256, 1));
-    answer(&mut program, word(13, 0, 1));
+    answer(&mut program, word(18, 0, 1));
     answer(&mut program, word(1, 1, u64::MAX));
     answer(&mut program, word(7, 0, 65_536));
     answer(&mut program, word(8, 255, u64::MAX));
@@ -152,6 +152,11 @@ fn words_that_do_not_fit_are_left_out() {
     answer(&mut program, word(12, 1_024, 65_535));
     answer(&mut program, word(12, 1_023, 65_536));
     answer(&mut program, word(12, 1_025, 1));
+    answer(&mut program, word(13, 1_023, u64::MAX));
+    answer(&mut program, word(14, 1_024, 1));
+    answer(&mut program, word(15, 255, 65_535));
+    answer(&mut program, word(16, 255, 65_536));
+    answer(&mut program, word(17, 256, 1));
     assert_eq!(*program.tables.words[4], vec![7; 256]);
     assert_eq!(program.tables.words[1][..3], [7, u64::MAX, 7]);
     assert_eq!(*program.tables.words[7], vec![7; 256]);
@@ -160,6 +165,11 @@ fn words_that_do_not_fit_are_left_out() {
     assert_eq!(program.tables.words[10][..2], [u64::MAX, 7]);
     assert_eq!(program.tables.words[11][..2], [255, 7]);
     assert_eq!(program.tables.words[12][1_022..], [7, 7, 65_535]);
+    assert_eq!(program.tables.words[13][1_022..], [7, u64::MAX]);
+    assert_eq!(program.tables.words[15][254..], [7, 65_535]);
+    for table in [14, 16, 17] {
+        assert_eq!(*program.tables.words[table], vec![7; FULL_WORDS[table]]);
+    }
 }
 
 #[test]
@@ -171,7 +181,9 @@ fn words_are_written_one_after_the_other() {
     answer(&mut program, words(8, 254, &[u64::MAX, 1, 2]));
     assert_eq!(program.tables.words[8][253..], [7, u64::MAX, 1]);
     answer(&mut program, words(4, 65_535, &[1; 3]));
-    answer(&mut program, words(13, 0, &[1; 3]));
+    answer(&mut program, words(18, 0, &[1; 3]));
+    answer(&mut program, words(15, 254, &[65_535, 65_536, 1]));
+    assert_eq!(program.tables.words[15][253..], [7, 65_535, 7]);
     answer(&mut program, words(11, 29_998, &[255, 256, 1]));
     assert_eq!(program.tables.words[11][29_997..], [7, 255, 7]);
     answer(&mut program, words(4, 0, &[]));
@@ -187,7 +199,7 @@ fn a_table_is_shown_whole_whatever_is_lent() {
         let line = format!("table {table}{}\n", " 7".repeat(words));
         assert_eq!(shown(&mut program, table as u8), line);
     }
-    assert_eq!(shown(&mut program, 13), "no table\n");
+    assert_eq!(shown(&mut program, 18), "no table\n");
     assert_eq!(shown(&mut program, 255), "no table\n");
 }
 
@@ -250,12 +262,19 @@ fn commands_are_read_as_written() {
         Command::Table { table: 77 },
         Command::Mend,
         Command::Net,
+        Command::SlowLoad,
+        Command::SlowRound { time: u64::MAX - 3 },
+        Command::SlowEdit { index: 513, number: 1 << 63 },
+        Command::SlowEditFirst { index: 514, number: 1 << 62 },
+        Command::SlowRun { time: 5, limit: 258 },
+        Command::SlowState,
     ];
     for command in &commands {
         command.write(&mut bytes);
     }
     let lines =
         "judge 1 0 0\nhost 65536 4294967296\nround 0 0\nedit 17 0\nfirst 17 0\nrun 0 1 0 0\nindex 17 0\nvalue 17 0 0\n\
-                 look 2 0 0 0 0\nno table\nmend 3 0 0 0\ndropped\nbytes\nnet 0 0 0 0\n";
+                 look 2 0 0 0 0\nno table\nmend 3 0 0 0\ndropped\nbytes\nnet 0 0 0 0\nload 3 0 0\nround 3 0 0\n\
+                 edit 3 0 0\nfirst 3 0 0\nrun 3 0 0 0 0 0\ninputs\noutputs\ncurrent\nfollowing\nstanding\n";
     assert_eq!(printed(&bytes), lines);
 }

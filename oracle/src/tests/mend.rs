@@ -322,7 +322,7 @@ fn the_answer_is_laid_over_the_tables_and_a_refusal_writes_nothing() {
     assert_eq!(program.tables.words[MENDED][12..14], [2, 1]);
     assert_eq!(program.tables.words[MENDED][24..288], bytes[24..]);
     assert_eq!(program.tables.words[DROPPED][..2], [9, 7]);
-    assert_eq!(FULL_WORDS[MENDED..], [30_000, 1_025]);
+    assert_eq!(FULL_WORDS[MENDED..=DROPPED], [30_000, 1_025]);
 }
 
 /// What a mending must be, on many files: it leaves accepted drawings alone; what it drops and what
