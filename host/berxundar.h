@@ -38,10 +38,18 @@
  * to the tables itself may do so too: where they are then no net, each call says so (16), and where they are one, what is said
  * of lighting below holds again from the next load on.
  *
+ * THE SLOW ENGINE is a second one, for fault finding: its five calls run a drawing straight from the file, with no table of
+ * components and none of wires, and work out through the maps where an output leads whenever they have to know. It is lent the
+ * file, five tables, which are `inputs`, `outputs`, `current`, `following` and `standing` as above, and five counts; a
+ * `berxundar_slow_net` (below) is one struct with all of them. Each call judges the file anew, and says where ports or lists are
+ * not the file's (20). It is proved that the same calls, from a load on, leave the same ports and the same three lists in both
+ * engines, and give the same bits and the same answers. An index names the same component in both: its place among the components
+ * of the file that are no composites, from 0.
+ *
  * EVERY CALL takes any bytes, any words and any lengths, ends, and answers a number times 65,536 plus a position: 0 where it is
- * done. The position is a record of the file, from 0, and is 0 in each call but a judgement, a load, a look and a mending. (One
- * judgement, `berxundar_judge_pair`, has a third number below the position: the other of two records that enter one input.) The
- * same words always give the same answer. A call that is refused writes nothing at all.
+ * done. The position is a record of the file, from 0, and is 0 in each call that is lent no file. (One judgement,
+ * `berxundar_judge_pair`, has a third number below the position: the other of two records that enter one input.) The same words
+ * always give the same answer. A call that is refused writes nothing at all.
  *
  * A CALLER MUST KEEP TO THIS
  *   - Each pointer is aligned for its type and has so many entries of that type behind it as the length after it says. With a
@@ -49,8 +57,8 @@
  *   - No memory is lent twice in one call: no two tables overlap, and neither do a table and the file or the words for an answer.
  *   - While a call runs, nobody else writes to what it is lent, nor reads what it writes. Apart from that calls may run in any
  *     number of threads at once.
- *   - A call takes at most 96 KiB (98,304 bytes) of stack: a mending up to so many, a look up to 49,152 bytes, a load or a
- *     judgement up to 32,000, a round or a run until calm up to 12,000, each other call less than 8,000.
+ *   - A call takes at most 96 KiB (98,304 bytes) of stack: a mending up to so many, a look or a slow call up to 49,152 bytes, a
+ *     load or a judgement up to 32,000, a round or a run until calm up to 12,000, each other call less than 8,000.
  *
  * WHEN TO LIGHT: once a round has run since the load, and `berxundar_satisfied` or `berxundar_calm` says 1. It is proved, for every
  * drawing that a load accepts and whatever calls came after it and after that round: satisfied says 1 exactly where the whole
@@ -79,6 +87,7 @@ extern "C" {
 #define BERXUNDAR_SHOWN 256 /* of a list of numbers, or of widths, that a look shows */
 #define BERXUNDAR_MOVED 256 /* of the bits of a round, a word for each component evaluated */
 #define BERXUNDAR_COUNTS 7
+#define BERXUNDAR_SLOW_COUNTS 5
 
 /* Words of one component and of one wire, and full size in words. */
 #define BERXUNDAR_WORDS_OF_COMPONENT 8
@@ -124,6 +133,12 @@ enum {
 enum {
     BERXUNDAR_COUNT_COMPONENTS = 0, BERXUNDAR_COUNT_INPUTS = 1, BERXUNDAR_COUNT_OUTPUTS = 2, BERXUNDAR_COUNT_WIRES = 3,
     BERXUNDAR_COUNT_CURRENT = 4, BERXUNDAR_COUNT_FOLLOWING = 5, BERXUNDAR_COUNT_STANDING = 6
+};
+
+/* The words of the slow engine's counts. */
+enum {
+    BERXUNDAR_SLOW_COUNT_INPUTS = 0, BERXUNDAR_SLOW_COUNT_OUTPUTS = 1, BERXUNDAR_SLOW_COUNT_CURRENT = 2,
+    BERXUNDAR_SLOW_COUNT_FOLLOWING = 3, BERXUNDAR_SLOW_COUNT_STANDING = 4
 };
 
 /* Which ports of a component. */
@@ -172,7 +187,9 @@ static inline const char *berxundar_words(uint32_t answer_or_number)
     case BERXUNDAR_NOT_FOUND: return "there is no component with that index or id, or it has no such port";
     case BERXUNDAR_NOT_SETTABLE: return "only a Switch, or an Input that no wire enters, can be set";
     case BERXUNDAR_NO_FIT: return "the value has another width than its port, or is too large for it";
-    case BERXUNDAR_NO_PATH: return "the path leads to no component, or the file is not the one that the tables were loaded from";
+    case BERXUNDAR_NO_PATH:
+        return "the path leads to no component, the file is not the one that the tables were loaded from, or ports or lists are "
+               "not the file's";
     case BERXUNDAR_NOTHING_BEHIND: return "an input of the composite leads to no component inside it, so it has no value";
     case BERXUNDAR_WIRE_AND_MAP: return "the input map enters an input that a connection has entered";
     case BERXUNDAR_TWO_MAPS: return "the input map enters an input that an earlier input map has entered";
@@ -180,7 +197,7 @@ static inline const char *berxundar_words(uint32_t answer_or_number)
     }
 }
 
-/* ---- The seventeen calls, with every pointer and its length in entries of the pointer's type. What is marked `const` is only
+/* ---- The twenty-two calls, with every pointer and its length in entries of the pointer's type. What is marked `const` is only
  * read; the numbers behind a colon are those of the refusals that a call can give. ---- */
 
 /* Judges the bytes of a file as a load would, without tables: 1, 3 to 15. Two records that enter one input are 13 here, whatever
@@ -193,7 +210,8 @@ uint32_t berxundar_judge(const uint8_t *bytes, size_t length);
  * record is 0. The answer's upper 48 bits are what a load of the file answers, into tables of full size. */
 uint64_t berxundar_judge_pair(const uint8_t *bytes, size_t length);
 
-/* The earlier record of two that meet, of an answer that a load or a look on this file gave; 0 where its number tells of no two. */
+/* The earlier record of two that meet, of an answer that a load, a look or a slow call on this file gave; 0 where its number tells
+ * of no two. */
 static inline unsigned berxundar_earlier(uint32_t answer, const uint8_t *bytes, size_t length)
 {
     uint64_t pair = berxundar_judge_pair(bytes, length);
@@ -326,6 +344,47 @@ uint32_t berxundar_evaluate(uint8_t kind, uint16_t inputs, uint16_t outputs, uin
     const uint64_t *input_numbers, size_t input_numbers_length, const uint64_t *input_widths, size_t input_widths_length,
     uint64_t *output_numbers, size_t output_numbers_length, const uint64_t *output_widths, size_t output_widths_length,
     uint64_t time, uint64_t *found, size_t found_length);
+
+/* ---- The five calls of the slow engine, lent the file and no table of components or wires. Each makes a load's checks first, 1
+ * to 15, 22 and 23, where 2 is a table of less than full size, less than 5 counts, or too little room for an answer. All but the
+ * load then make this one: 20 unless the counts of inputs and outputs are the file's, no list has more than 256 entries, each
+ * number at a port fits its width, the output of each Const is its value, and the lists name components of the file, none of them
+ * twice in one list. So they want what a load of the same file has written, and what these calls have made of it since. Words past
+ * the counts are not looked at. ---- */
+
+/* Loads a file: writes the ports and the three lists that `berxundar_load` writes, and the counts of them: 1 to 15, 22, 23. What
+ * the tables and the counts held before does not matter; entries past the counts keep it. */
+uint32_t berxundar_slow_load(const uint8_t *file, size_t file_length,
+    uint64_t *inputs, size_t inputs_length, uint64_t *outputs, size_t outputs_length, uint16_t *current, size_t current_length,
+    uint16_t *following, size_t following_length, uint16_t *standing, size_t standing_length, uint64_t *counts,
+    size_t counts_length);
+
+/* A round at a time, as `berxundar_round` runs it, with the same bits in `moved`, which has 256 entries or more: 1 to 15, 20, 22,
+ * 23. */
+uint32_t berxundar_slow_round(const uint8_t *file, size_t file_length,
+    uint64_t *inputs, size_t inputs_length, uint64_t *outputs, size_t outputs_length, uint16_t *current, size_t current_length,
+    uint16_t *following, size_t following_length, uint16_t *standing, size_t standing_length, uint64_t *counts,
+    size_t counts_length, uint64_t time, uint64_t *moved, size_t moved_length);
+
+/* Sets the component at an index, as `berxundar_edit` does, so that the next round evaluates it: 1 to 15, 17 to 20, 22, 23. Here
+ * 20 comes before 17, 18 and 19. */
+uint32_t berxundar_slow_edit(const uint8_t *file, size_t file_length,
+    uint64_t *inputs, size_t inputs_length, uint64_t *outputs, size_t outputs_length, uint16_t *current, size_t current_length,
+    const uint16_t *following, size_t following_length, const uint16_t *standing, size_t standing_length, uint64_t *counts,
+    size_t counts_length, size_t index, uint64_t number);
+
+/* The old way, as `berxundar_edit_standing` does it: 1 to 15, 17 to 20, 22, 23, in the same order. Both ways may be mixed. */
+uint32_t berxundar_slow_edit_standing(const uint8_t *file, size_t file_length,
+    uint64_t *inputs, size_t inputs_length, uint64_t *outputs, size_t outputs_length, const uint16_t *current,
+    size_t current_length, const uint16_t *following, size_t following_length, uint16_t *standing, size_t standing_length,
+    uint64_t *counts, size_t counts_length, size_t index, uint64_t number);
+
+/* Rounds at a time until one leaves calm, at most `limit`, as `berxundar_run_until_calm` runs them: 1 to 15, 20, 22, 23. found[0]
+ * is the rounds run, found[1] the evaluations made, found[2] how many times an output changed; `found` has 3 entries or more. */
+uint32_t berxundar_slow_run_until_calm(const uint8_t *file, size_t file_length,
+    uint64_t *inputs, size_t inputs_length, uint64_t *outputs, size_t outputs_length, uint16_t *current, size_t current_length,
+    uint16_t *following, size_t following_length, uint16_t *standing, size_t standing_length, uint64_t *counts,
+    size_t counts_length, uint64_t time, uint16_t limit, uint64_t *found, size_t found_length);
 
 /* ---- A net: all tables at full size, and a short form of each call on it. 42 KiB: let it be static, or a part of a larger
  * struct, and not a variable on the stack. What a call hands back through a pointer is written only where its answer is 0. ----
@@ -478,6 +537,64 @@ static inline uint32_t berxundar_mend_file(berxundar_mending *mending, const uin
 static inline uint32_t berxundar_net_check(const berxundar_net *net)
 {
     return berxundar_check(BERXUNDAR_LENT(net), net->counts, BERXUNDAR_COUNTS);
+}
+
+/* What the slow engine is lent beside the file, at full size. 18 KiB: let it be static. */
+typedef struct berxundar_slow_net {
+    uint64_t inputs[BERXUNDAR_INPUTS];
+    uint64_t outputs[BERXUNDAR_OUTPUTS];
+    uint16_t current[BERXUNDAR_NAMES];
+    uint16_t following[BERXUNDAR_NAMES];
+    uint16_t standing[BERXUNDAR_NAMES];
+    uint64_t counts[BERXUNDAR_SLOW_COUNTS];
+} berxundar_slow_net;
+
+/* Its tables and its counts, each with its length, as the slow calls take them behind the file. */
+#define BERXUNDAR_SLOW_LENT(net)                                                                                          \
+    (net)->inputs, BERXUNDAR_INPUTS, (net)->outputs, BERXUNDAR_OUTPUTS, (net)->current, BERXUNDAR_NAMES, (net)->following,     \
+        BERXUNDAR_NAMES, (net)->standing, BERXUNDAR_NAMES, (net)->counts, BERXUNDAR_SLOW_COUNTS
+
+/* It must have been loaded from the file before any other slow call on both. */
+static inline uint32_t berxundar_slow_net_load(berxundar_slow_net *net, const uint8_t *file, size_t file_length)
+{
+    return berxundar_slow_load(file, file_length, BERXUNDAR_SLOW_LENT(net));
+}
+
+/* `moved` has room for 256, or is NULL where nobody asks. */
+static inline uint32_t berxundar_slow_net_round(berxundar_slow_net *net, const uint8_t *file, size_t file_length, uint64_t time,
+    uint64_t *moved)
+{
+    uint64_t unasked[BERXUNDAR_MOVED];
+    return berxundar_slow_round(file, file_length, BERXUNDAR_SLOW_LENT(net), time, moved ? moved : unasked, BERXUNDAR_MOVED);
+}
+
+/* The next round evaluates it. */
+static inline uint32_t berxundar_slow_net_edit(berxundar_slow_net *net, const uint8_t *file, size_t file_length, size_t index,
+    uint64_t number)
+{
+    return berxundar_slow_edit(file, file_length, BERXUNDAR_SLOW_LENT(net), index, number);
+}
+
+/* The old way: one of the next three rounds does. */
+static inline uint32_t berxundar_slow_net_edit_standing(berxundar_slow_net *net, const uint8_t *file, size_t file_length,
+    size_t index, uint64_t number)
+{
+    return berxundar_slow_edit_standing(file, file_length, BERXUNDAR_SLOW_LENT(net), index, number);
+}
+
+/* `rounds`, `evaluations` and `moved` may be NULL. */
+static inline uint32_t berxundar_slow_net_run_until_calm(berxundar_slow_net *net, const uint8_t *file, size_t file_length,
+    uint64_t time, uint16_t limit, uint64_t *rounds, uint64_t *evaluations, uint64_t *moved)
+{
+    uint64_t found[3] = { 0, 0, 0 };
+    uint32_t answer = berxundar_slow_run_until_calm(file, file_length, BERXUNDAR_SLOW_LENT(net), time, limit, found, 3);
+    if (answer == 0 && rounds)
+        *rounds = found[0];
+    if (answer == 0 && evaluations)
+        *evaluations = found[1];
+    if (answer == 0 && moved)
+        *moved = found[2];
+    return answer;
 }
 
 /* One component outside any net: its fields, as a record has them, and the number and width in bits of each of its ports. */

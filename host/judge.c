@@ -28,9 +28,8 @@ static int judge(const char *path)
     number = (unsigned)(answer >> 32);
     position = (unsigned)(answer >> 16 & 65535u);
     earlier = (unsigned)(answer & 65535u);
-    printf("%s: refused %u at %u", path, number, position);
-    if (refusal_names_earlier(number))
-        printf(" against %u", earlier);
+    printf("%s: ", path);
+    refusal_say(stdout, number, position, earlier);
     printf("\n");
     fflush(stdout);
     refusal_explain(stderr, path, bytes, (size_t)length, number, position, earlier);

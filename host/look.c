@@ -53,17 +53,6 @@ static int path_in(const char *word, uint32_t *path, size_t *path_length)
     }
 }
 
-/* The path of the component at a position of an accepted drawing. */
-static void print_path(size_t position)
-{
-    record r = record_in(bytes, length, position);
-    if (r.owner) {
-        print_path(r.owner);
-        printf("/");
-    }
-    printf("%lu", r.id);
-}
-
 /* ---- What is shown. ---- */
 
 static const char *plural(uint64_t count) { return count == 1 ? "" : "s"; }
@@ -86,7 +75,7 @@ static void show_boxes(void)
         for (up = position; up; up = record_in(bytes, length, up).owner)
             printf("  ");
         if (position)
-            print_path(position);
+            refusal_say_path(stdout, bytes, length, position);
         else
             printf("/");
         printf(" %s, id %lu, ", refusal_kind_name(r.kind), r.id);

@@ -174,6 +174,17 @@ static void say_owner(const drawing *of, size_t position, unsigned owner)
     fprintf(of->to, ")");
 }
 
+/* The ids on the way down from the root to a component, its own the last. */
+static void say_path(const drawing *of, size_t position)
+{
+    unsigned owner = record_at(of, position).owner;
+    if (owner && owner < position) {
+        say_path(of, owner);
+        fprintf(of->to, "/");
+    }
+    fprintf(of->to, "%lu", record_at(of, position).id);
+}
+
 static void say_child(const drawing *of, size_t owner, unsigned number)
 {
     size_t position = child(of, owner, number);
@@ -502,16 +513,16 @@ static const char *advice(unsigned number)
     case BERXUNDAR_TWO_MAPS: return "remove one of the two input maps, or lead one of them to another input";
     case BERXUNDAR_OUTPUT_MAPS: return "give the composite one output map for each of its outputs, in their order";
     case BERXUNDAR_WIDTHS_DIFFER: return "give both ends the same number of bits, or put a Splitter or a Joiner between them";
-    case BERXUNDAR_NO_PATH: return "name the ids on the way down from the root, its own left out; ./berxundar look FILE has the boxes";
+    case BERXUNDAR_NO_PATH: return "lend what a load of this very file has written, and write to it through calls alone";
     case BERXUNDAR_NOTHING_BEHIND: return "lead the input to a component inside with an input map, or look at one inside instead";
     default: return NULL;
     }
 }
 
-static void say_advice(FILE *to, unsigned number)
+static void say_advice(FILE *to, const char *what)
 {
-    if (advice(number))
-        fprintf(to, "    to do: %s\n", advice(number));
+    if (what)
+        fprintf(to, "    to do: %s\n", what);
 }
 
 /* Mending drops some of what is refused; what is mended already has none of that. */
@@ -541,17 +552,23 @@ int refusal_names_earlier(unsigned number)
     return number == BERXUNDAR_ENTERED_TWICE || number == BERXUNDAR_WIRE_AND_MAP || number == BERXUNDAR_TWO_MAPS;
 }
 
+void refusal_say(FILE *to, unsigned number, unsigned position, unsigned earlier)
+{
+    fprintf(to, "refused %u at %u", number, position);
+    if (refusal_names_earlier(number))
+        fprintf(to, " against %u", earlier);
+}
+
 /* All lines of a refusal. `state` stands behind the file's name. */
 static void explain(const drawing *of, const char *name, const char *state, unsigned number, unsigned position, unsigned earlier)
 {
-    fprintf(of->to, "%s%s: refused %u at %u", name, state, number, position);
-    if (refusal_names_earlier(number))
-        fprintf(of->to, " against %u", earlier);
+    fprintf(of->to, "%s%s: ", name, state);
+    refusal_say(of->to, number, position, earlier);
     fprintf(of->to, ": %s\n", number < 65536 ? berxundar_words(number) : "no number");
     if ((BERXUNDAR_BAD_RECORD <= number && number <= BERXUNDAR_WIDTHS_DIFFER) || refusal_names_earlier(number))
         say_record(of, position);
     explain_in_particular(of, number, position, earlier);
-    say_advice(of->to, number);
+    say_advice(of->to, advice(number));
     say_mending(of, number, position);
 }
 
@@ -596,5 +613,29 @@ void refusal_explain_look(FILE *to, const char *name, const uint8_t *bytes, size
         explain_path(&of, at, path[followed]);
     if (number == BERXUNDAR_NOTHING_BEHIND)
         explain_behind(&of, at);
-    say_advice(to, number);
+    say_advice(to, number == BERXUNDAR_NO_PATH
+        ? "name the ids on the way down from the root, its own left out; ./berxundar look FILE has the boxes" : advice(number));
+}
+
+void refusal_say_path(FILE *to, const uint8_t *bytes, size_t length, size_t position)
+{
+    drawing of = drawing_in(to, bytes, length);
+    say_path(&of, position);
+}
+
+void refusal_say_component(FILE *to, const uint8_t *bytes, size_t length, size_t position)
+{
+    drawing of = drawing_in(to, bytes, length);
+    unsigned owner = record_at(&of, position).owner;
+    if (!is_component(&of, position)) {
+        fprintf(to, "no component of the drawing");
+        return;
+    }
+    say_component(&of, position);
+    if (position && owner) {
+        fprintf(to, ", in box ");
+        say_path(&of, owner);
+    } else {
+        fprintf(to, "%s", position ? ", in the root" : ", the root");
+    }
 }

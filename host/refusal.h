@@ -34,12 +34,22 @@ void refusal_say_missing(FILE *to, const uint8_t *bytes, size_t length, size_t p
 /* Whether a number tells of two records that meet, and so names the earlier of them. */
 int refusal_names_earlier(unsigned number);
 
+/* The refusal alone, without an end of line: "refused N at P", and where two records meet "refused N at P against E". */
+void refusal_say(FILE *to, unsigned number, unsigned position, unsigned earlier);
+
 /*
  * The same of a look along a path of ids, where it is refused at no record: 2, 16, 20, 21. Says how far the path leads, or which
  * inputs lead to nothing.
  */
 void refusal_explain_look(FILE *to, const char *name, const uint8_t *bytes, size_t length, unsigned number, const uint32_t *path,
     size_t path_length);
+
+/* The path of the component at a position: the ids on the way down to it from the root, the root's own left out, with a slash between
+ * two. */
+void refusal_say_path(FILE *to, const uint8_t *bytes, size_t length, size_t position);
+
+/* The component at a position: its kind, its id and the box that it is in, by path, as "Nor, id 4, in box 3". */
+void refusal_say_component(FILE *to, const uint8_t *bytes, size_t length, size_t position);
 
 /* The name of a kind of component, as the listing writes it; a null pointer where there is no such kind. */
 const char *refusal_kind_name(uint64_t kind);

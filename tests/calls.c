@@ -6,15 +6,18 @@
  * 13, and the others what they are; an edit goes first, or stands, the old way, and both may be mixed; while an edit waits a net
  * is not calm, and not satisfied where it has something to change; a bit is set for each output that an evaluation changes, and
  * too little room for the bits is 2; a mending writes what comes out and the positions that it drops, and where it is refused
- * nothing. Leaves with 1 at the first other answer.
+ * nothing; the slow engine answers and writes what the other calls do, and refuses what is not the file's with 20. Leaves with 1 at
+ * the first other answer.
  */
 #include "berxundar.h"
 
 #define NONE NULL, 0
-#define SEVEN NONE, NONE, NONE, NONE, NONE, NONE, NONE
+#define FIVE NONE, NONE, NONE, NONE, NONE
+#define SEVEN NONE, NONE, FIVE
 #define NUMBER(n) ((uint32_t)(n) << 16)
 
 static berxundar_net net;
+static berxundar_slow_net slow;
 static berxundar_single single;
 
 static int nothing_lent(void)
@@ -207,15 +210,16 @@ static int met(void)
     return 1;
 }
 
-/* Loads a Switch that leads to a Not. */
+static uint8_t drawn[4 * BERXUNDAR_RECORD];
+
+/* Draws a Switch that leads to a Not, and loads it. */
 static uint32_t load_not(void)
 {
-    uint8_t file[4 * BERXUNDAR_RECORD] = { 0 };
-    record(file, 1, BERXUNDAR_COMPOSITE, 0, 0, 0, 0, 1);
-    record(file + 24, 1, BERXUNDAR_SWITCH, 0, 0, 1, 0, 2);
-    record(file + 48, 1, BERXUNDAR_NOT, 0, 1, 1, 0, 3);
-    record(file + 72, 2, 0, 0, 0, 0, 1, 0);
-    return berxundar_net_load(&net, file, sizeof file);
+    record(drawn, 1, BERXUNDAR_COMPOSITE, 0, 0, 0, 0, 1);
+    record(drawn + 24, 1, BERXUNDAR_SWITCH, 0, 0, 1, 0, 2);
+    record(drawn + 48, 1, BERXUNDAR_NOT, 0, 1, 1, 0, 3);
+    record(drawn + 72, 2, 0, 0, 0, 0, 1, 0);
+    return berxundar_net_load(&net, drawn, sizeof drawn);
 }
 
 /*
@@ -392,8 +396,137 @@ static int mended_up(void)
         && mended[48] == 2;
 }
 
+/* ---- The slow engine. ---- */
+
+/* Of NULL with length 0 the file is empty (1), and a table, the counts or the room for an answer too short (2), before a record of
+ * no kind (3). A root alone has no ports and no components, and zeros are what a load of it leaves. */
+static int nothing_lent_slowly(void)
+{
+    static const uint8_t root[BERXUNDAR_RECORD] = { 1 };
+    static const uint8_t bad[BERXUNDAR_RECORD] = { 9 };
+    static uint64_t moved[BERXUNDAR_MOVED];
+    uint64_t found[3] = { 9, 9, 9 };
+    size_t length = BERXUNDAR_RECORD;
+    return berxundar_slow_load(NONE, FIVE, NONE) == NUMBER(1) && berxundar_slow_round(NONE, FIVE, NONE, 3, NONE) == NUMBER(1)
+        && berxundar_slow_edit(NONE, FIVE, NONE, 3, 3) == NUMBER(1)
+        && berxundar_slow_edit_standing(NONE, FIVE, NONE, 3, 3) == NUMBER(1)
+        && berxundar_slow_run_until_calm(NONE, FIVE, NONE, 3, 3, NONE) == NUMBER(1)
+        && berxundar_slow_load(bad, length, FIVE, NONE) == NUMBER(2)
+        && berxundar_slow_load(root, length, FIVE, slow.counts, 5) == NUMBER(2)
+        && berxundar_slow_round(bad, length, FIVE, NONE, 3, NONE) == NUMBER(2)
+        && berxundar_slow_round(bad, length, BERXUNDAR_SLOW_LENT(&slow), 3, NONE) == NUMBER(2)
+        && berxundar_slow_round(root, length, BERXUNDAR_SLOW_LENT(&slow), 3, moved, 255) == NUMBER(2)
+        && berxundar_slow_edit(bad, length, FIVE, NONE, 3, 3) == NUMBER(2)
+        && berxundar_slow_edit_standing(bad, length, FIVE, slow.counts, 4, 3, 3) == NUMBER(2)
+        && berxundar_slow_run_until_calm(bad, length, BERXUNDAR_SLOW_LENT(&slow), 3, 3, NONE) == NUMBER(2)
+        && berxundar_slow_run_until_calm(root, length, BERXUNDAR_SLOW_LENT(&slow), 3, 3, found, 2) == NUMBER(2)
+        && berxundar_slow_net_load(&slow, bad, length) == NUMBER(3)
+        && berxundar_slow_net_round(&slow, bad, length, 3, NULL) == NUMBER(3)
+        && berxundar_slow_net_round(&slow, root, length, 3, NULL) == 0
+        && berxundar_slow_net_edit(&slow, root, length, 0, 0) == NUMBER(17)
+        && berxundar_slow_net_run_until_calm(&slow, root, length, 3, 9, found, found + 1, found + 2) == 0 && found[0] == 1
+        && found[1] == 0 && found[2] == 0;
+}
+
+/* Whether the ports and the lists of the slow engine are the net's. */
+static int alike(void)
+{
+    static const size_t counts[BERXUNDAR_SLOW_COUNTS] = { BERXUNDAR_COUNT_INPUTS, BERXUNDAR_COUNT_OUTPUTS, BERXUNDAR_COUNT_CURRENT,
+        BERXUNDAR_COUNT_FOLLOWING, BERXUNDAR_COUNT_STANDING };
+    size_t i;
+    for (i = 0; i < BERXUNDAR_SLOW_COUNTS; i++)
+        if (slow.counts[i] != net.counts[counts[i]])
+            return 0;
+    for (i = 0; i < BERXUNDAR_INPUTS; i++)
+        if ((i < slow.counts[0] && slow.inputs[i] != net.inputs[i]) || (i < slow.counts[1] && slow.outputs[i] != net.outputs[i])
+            || (i < slow.counts[2] && slow.current[i] != net.current[i])
+            || (i < slow.counts[3] && slow.following[i] != net.following[i])
+            || (i < slow.counts[4] && slow.standing[i] != net.standing[i]))
+            return 0;
+    return 1;
+}
+
+/* The Switch and the Not in both engines: a load, a round and its bits, those past the two kept, an edit of each way, and a run. */
+static int ran_slowly(void)
+{
+    uint64_t bits[BERXUNDAR_MOVED], slow_bits[BERXUNDAR_MOVED], ran[3] = { 9, 9, 9 }, slow_ran[3] = { 8, 8, 8 };
+    size_t i;
+    for (i = 0; i < BERXUNDAR_MOVED; i++)
+        bits[i] = slow_bits[i] = 9;
+    if (load_not() != 0 || berxundar_slow_net_load(&slow, drawn, sizeof drawn) != 0 || !alike()
+        || berxundar_net_round(&net, 0, bits) != 0 || berxundar_slow_net_round(&slow, drawn, sizeof drawn, 0, slow_bits) != 0
+        || !alike() || slow.outputs[1] != 1)
+        return 0;
+    for (i = 0; i < BERXUNDAR_MOVED; i++)
+        if (bits[i] != slow_bits[i] || (i >= 2 && slow_bits[i] != 9))
+            return 0;
+    if (berxundar_net_edit(&net, 0, 1) != 0 || berxundar_slow_net_edit(&slow, drawn, sizeof drawn, 0, 1) != 0 || !alike()
+        || berxundar_net_round(&net, 0, NULL) != 0 || berxundar_slow_net_round(&slow, drawn, sizeof drawn, 0, NULL) != 0 || !alike()
+        || berxundar_net_edit_standing(&net, 0, 0) != 0 || berxundar_slow_net_edit_standing(&slow, drawn, sizeof drawn, 0, 0) != 0
+        || !alike() || slow.counts[BERXUNDAR_SLOW_COUNT_STANDING] != 1)
+        return 0;
+    return berxundar_net_run_until_calm(&net, 0, 9, ran, ran + 1, ran + 2) == 0
+        && berxundar_slow_net_run_until_calm(&slow, drawn, sizeof drawn, 0, 9, slow_ran, slow_ran + 1, slow_ran + 2) == 0 && alike()
+        && ran[0] == slow_ran[0] && ran[1] == slow_ran[1] && ran[2] == slow_ran[2] && slow_ran[0] == 4 && slow.outputs[1] == 1;
+}
+
+/* Whether each call on the drawing but a load gives a number, and writes nothing. */
+static int refused_slowly(uint32_t number)
+{
+    static berxundar_slow_net before;
+    uint64_t found[3] = { 9, 9, 9 };
+    size_t i;
+    before = slow;
+    if (berxundar_slow_net_round(&slow, drawn, sizeof drawn, 0, NULL) != NUMBER(number)
+        || berxundar_slow_net_edit(&slow, drawn, sizeof drawn, 9, 9) != NUMBER(number)
+        || berxundar_slow_net_edit_standing(&slow, drawn, sizeof drawn, 9, 9) != NUMBER(number)
+        || berxundar_slow_net_run_until_calm(&slow, drawn, sizeof drawn, 0, 9, found, found + 1, found + 2) != NUMBER(number)
+        || found[0] != 9)
+        return 0;
+    for (i = 0; i < sizeof slow; i++)
+        if (((const uint8_t *)&slow)[i] != ((const uint8_t *)&before)[i])
+            return 0;
+    return 1;
+}
+
+/*
+ * Loaded anew, with 0 and 1 in the current list: what cannot be set is refused with 17, 18 and 19. A count of ports that is not the
+ * file's, a list that is too long, one that names no component or one twice, and a number that does not fit are 20, before that;
+ * and so is another file, in which the Switch is a Const that is 1. What is past the counts is not looked at.
+ */
+static int not_the_files(void)
+{
+    static berxundar_slow_net loaded;
+    int i;
+    if (berxundar_slow_net_load(&slow, drawn, sizeof drawn) != 0
+        || berxundar_slow_net_edit(&slow, drawn, sizeof drawn, 2, 0) != NUMBER(17)
+        || berxundar_slow_net_edit_standing(&slow, drawn, sizeof drawn, 1, 0) != NUMBER(18)
+        || berxundar_slow_net_edit(&slow, drawn, sizeof drawn, 0, 2) != NUMBER(19))
+        return 0;
+    loaded = slow;
+    for (i = 0; i < 8; i++, slow = loaded) {
+        slow.counts[BERXUNDAR_SLOW_COUNT_INPUTS] += i == 0;
+        slow.counts[BERXUNDAR_SLOW_COUNT_OUTPUTS] -= i == 1;
+        slow.counts[BERXUNDAR_SLOW_COUNT_FOLLOWING] = i == 2 ? 257 : 0;
+        slow.counts[BERXUNDAR_SLOW_COUNT_STANDING] = i == 3 ? 2 : 0;
+        slow.current[1] = (uint16_t)(i == 4 ? 2 : i == 5 ? 0 : 1);
+        slow.inputs[0] = i == 6 ? 2 : 0;
+        slow.outputs[1] = i == 7 ? UINT64_C(1) << 63 : 0;
+        if (!refused_slowly(BERXUNDAR_NO_PATH))
+            return 0;
+    }
+    slow.inputs[1] = slow.outputs[2] = 9;
+    slow.current[2] = slow.following[0] = slow.standing[0] = 9;
+    if (berxundar_slow_net_edit(&slow, drawn, sizeof drawn, 9, 0) != NUMBER(17))
+        return 0;
+    drawn[25] = BERXUNDAR_CONST;
+    drawn[32] = drawn[40] = 1;
+    return refused_slowly(BERXUNDAR_NO_PATH) && berxundar_slow_net_load(&slow, drawn, sizeof drawn) == 0 && slow.outputs[0] == 1
+        && berxundar_slow_net_round(&slow, drawn, sizeof drawn, 0, NULL) == 0;
+}
+
 int main(void)
 {
     return !(zeros() && nothing_lent() && looked_at() && joined() && split() && voted() && sentences() && met() && went_first()
-        && waited() && judged() && bits_moved() && mended_up());
+        && waited() && judged() && bits_moved() && mended_up() && nothing_lent_slowly() && ran_slowly() && not_the_files());
 }

@@ -9,6 +9,7 @@ static uint8_t mended[BERXUNDAR_DAMAGED];
 static uint16_t dropped[BERXUNDAR_DROPPED];
 static berxundar_single single;
 static berxundar_mending mending;
+static berxundar_slow_net slow;
 
 static uint32_t changed(const uint8_t *bytes, size_t length)
 {
@@ -20,6 +21,14 @@ static uint32_t changed(const uint8_t *bytes, size_t length)
         + berxundar_net_run_until_calm(&net, 1, 2, &rounds, &evaluations, &moved)
         + berxundar_single_evaluate(&single, 1, &moved)
         + berxundar_mend(bytes, length, mended, sizeof mended, dropped, BERXUNDAR_DROPPED, found, 2);
+}
+
+static uint32_t slowly(const uint8_t *bytes, size_t length)
+{
+    uint64_t rounds, evaluations, moved, bits[BERXUNDAR_MOVED];
+    return berxundar_slow_net_load(&slow, bytes, length) + berxundar_slow_net_round(&slow, bytes, length, 1, bits)
+        + berxundar_slow_net_edit(&slow, bytes, length, 0, 1) + berxundar_slow_net_edit_standing(&slow, bytes, length, 0, 1)
+        + berxundar_slow_net_run_until_calm(&slow, bytes, length, 1, 2, &rounds, &evaluations, &moved);
 }
 
 static uint32_t asked(const berxundar_net *of)
@@ -35,9 +44,12 @@ static uint32_t asked(const berxundar_net *of)
 
 int main(void)
 {
-    uint32_t answer = changed(NULL, 0) + asked(&net);
+    uint32_t answer = changed(NULL, 0) + asked(&net) + slowly(NULL, 0);
     return berxundar_number(answer) == BERXUNDAR_TWO_MAPS && berxundar_position(answer) == BERXUNDAR_FILE
         && mending.length == BERXUNDAR_DAMAGED && mending.count == BERXUNDAR_DROPPED
         && net.components[BERXUNDAR_WORD_FIRST_OUTPUT] == BERXUNDAR_CONST && net.wires[BERXUNDAR_WIRE_TO_INPUT] == BERXUNDAR_BITS
-        && net.counts[BERXUNDAR_COUNT_STANDING] == BERXUNDAR_SIDE_OUTPUTS && berxundar_words(answer) == NULL;
+        && net.counts[BERXUNDAR_COUNT_STANDING] == BERXUNDAR_SIDE_OUTPUTS && berxundar_words(answer) == NULL
+        && slow.counts[BERXUNDAR_SLOW_COUNT_INPUTS] + slow.counts[BERXUNDAR_SLOW_COUNT_OUTPUTS]
+            + slow.counts[BERXUNDAR_SLOW_COUNT_CURRENT] + slow.counts[BERXUNDAR_SLOW_COUNT_FOLLOWING]
+            + slow.counts[BERXUNDAR_SLOW_COUNT_STANDING] == BERXUNDAR_SLOW_COUNTS;
 }

@@ -1,8 +1,8 @@
 /*
- * refusal_explain, refusal_explain_look, and the words about what a mending drops and leaves, on files that hold anything: drawings
- * whose records name each other at random, noise, lengths that are no multiple of 24, and every number, position and path, right or
- * not. They must end and look at no byte that is not there: each file stands in memory of its own size, for the sanitizers. Prints
- * nothing, and leaves with 0.
+ * refusal_explain, refusal_explain_look, a component and its path, and the words about what a mending drops and leaves, on files
+ * that hold anything: drawings whose records name each other at random, noise, lengths that are no multiple of 24, and every
+ * number, position and path, right or not. They must end and look at no byte that is not there: each file stands in memory of its
+ * own size, for the sanitizers. Prints nothing, and leaves with 0.
  */
 #include "refusal.h"
 #include "sift.h"
@@ -83,6 +83,8 @@ int main(void)
             refusal_explain(nowhere, "file", length ? bytes : NULL, length, number, below(8) ? below(40) : below(65536),
                 below(8) ? below(40) : below(65536));
             refusal_explain_look(nowhere, "file", length ? bytes : NULL, length, number, ids ? path : NULL, ids);
+            refusal_say_component(nowhere, length ? bytes : NULL, length, below(8) ? below(40) : below(65536));
+            refusal_say_path(nowhere, length ? bytes : NULL, length, below(8) ? below(40) : below(65536));
         }
         refusal_explain(nowhere, "file", bytes, length, below(1u << 24) << 8, 0, 0);
         if (!sift_any(nowhere, length ? bytes : NULL, length))

@@ -17,6 +17,7 @@ static size_t length;
 static berxundar_net net;
 static uint16_t list[BERXUNDAR_NAMES];
 static uint64_t found, moved[BERXUNDAR_MOVED];
+static berxundar_slow_net slow;
 static berxundar_single single;
 static berxundar_box box;
 static uint8_t mended[BERXUNDAR_DAMAGED];
@@ -96,6 +97,13 @@ static uint32_t mend_with(size_t more)
 static uint32_t mend(void) { return mend_with(0); }
 static uint32_t mend_damaged(void) { return mend_with(1); }
 
+static uint32_t slow_load(void) { return berxundar_slow_net_load(&slow, bytes, length); }
+static uint32_t slow_round(void) { return berxundar_slow_net_round(&slow, bytes, length, 3, moved); }
+static uint32_t slow_round_unasked(void) { return berxundar_slow_net_round(&slow, bytes, length, 3, NULL); }
+static uint32_t slow_edit(void) { return berxundar_slow_net_edit(&slow, bytes, length, 0, 1); }
+static uint32_t slow_edit_standing(void) { return berxundar_slow_net_edit_standing(&slow, bytes, length, 0, 1); }
+static uint32_t slow_run(void) { return berxundar_slow_net_run_until_calm(&slow, bytes, length, 4, 5, NULL, NULL, NULL); }
+
 static uint32_t check(void) { return berxundar_net_check(&net); }
 static uint32_t evaluate(void) { return berxundar_single_evaluate(&single, 0, NULL); }
 
@@ -109,7 +117,9 @@ static const struct {
     { "edit, the old way", edit_standing, 8000 }, { "calm", calm, 8000 }, { "satisfied", satisfied, 8000 },
     { "index", index_of, 8000 }, { "value", value, 8000 }, { "sources", sources, 8000 }, { "targets", targets, 8000 },
     { "check", check, 8000 }, { "evaluate", evaluate, 8000 }, { "mend", mend, 98304 },
-    { "mend a damaged one", mend_damaged, 98304 } };
+    { "mend a damaged one", mend_damaged, 98304 }, { "slow load", slow_load, 49152 }, { "slow round", slow_round, 49152 },
+    { "slow round, bits unasked", slow_round_unasked, 49152 }, { "slow edit", slow_edit, 49152 },
+    { "slow edit, the old way", slow_edit_standing, 49152 }, { "slow run until calm", slow_run, 49152 } };
 
 int main(void)
 {

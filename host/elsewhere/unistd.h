@@ -3,5 +3,6 @@
 #define BERXUNDAR_ELSEWHERE_UNISTD_H
 
 int fsync(int file);
+int isatty(int file);
 
 #endif
