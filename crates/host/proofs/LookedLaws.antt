@@ -25,7 +25,8 @@ use Rattle.words.specs.Words.{countsIn, valuesIn}
 use Rattle.words.specs.Said.{short}
 use Rattle.words.proofs.WordsLaws.{none-laid}
 use Rattle.host.specs.Host.{CallLooks, fewToLook, looked}
-use Rattle.host.proofs.NumbersLaws.{spokenOf, load-verdict-small, cond-small, by-verdict}
+use Rattle.meeting.proofs.SpokenLaws.{spokenOf, cond-small, by-verdict}
+use Rattle.host.proofs.NumbersLaws.{load-verdict-small}
 
 -- The numbers past a load's own.
 look-number-small : (file : List ℕ) (T : Tables) (c : ℕ) → lookNumber (recordAt file) (recordCount file) T c ≤ 21

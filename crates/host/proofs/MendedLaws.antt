@@ -21,7 +21,7 @@ use Rattle.words.specs.Words.{valuesIn}
 use Rattle.words.specs.Said.{short}
 use Rattle.words.proofs.WordsLaws.{none-laid}
 use Rattle.host.specs.Host.{CallMends, fewToMend, mendedBy}
-use Rattle.host.proofs.NumbersLaws.{spokenOf, judged-small, cond-small, by-verdict}
+use Rattle.meeting.proofs.SpokenLaws.{spokenOf, judged-small, cond-small, by-verdict}
 
 verdict-small : (file out ds : List ℕ) → spokenOf (mendVerdict file out ds) < 4294967296
 unfolding mendVerdict

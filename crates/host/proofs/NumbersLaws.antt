@@ -13,11 +13,10 @@ use Rattle.kinds.specs.Kinds.{forCustom, unknown, primitive, obeys, inputWidth,
 use Rattle.kinds.specs.Given.{Given, giving, spoken}
 use Rattle.primitive.specs.Evaluate.{fitting, evaluateNumber}
 use Rattle.component.specs.declared.Verdict.{Verdict}
-use Rattle.component.specs.declared.Verdict.the-variants.{Accepted, Refused as Judged}
 use Rattle.component.specs.Record.{sized}
 use Rattle.flatten.specs.Verdict.{refused, verdictGives}
 use Rattle.meeting.specs.Meeting.{judgement}
-use Rattle.meeting.proofs.MeetingLaws.{judgement-small}
+use Rattle.meeting.proofs.SpokenLaws.{spokenOf, judged-small, cond-small, by-verdict}
 use Rattle.tables.specs.Tables.{Tables, fullSize}
 use Rattle.load.specs.Load.{loadVerdict}
 use Rattle.words.proofs.PlainLaws.{refusal-small, Plain, giving-plain, plain-as}
@@ -36,28 +35,12 @@ evaluate-plain f xs vs ys ws g bs e =
     plain-as g (giving (evaluateNumber f xs vs ys ws) bs) e
     (giving-plain (evaluateNumber f xs vs ys ws) bs (evaluate-number-small f xs vs ys ws))
 
--- The host's number of a verdict.
-abbrev pub spokenOf : Verdict → ℕ
-spokenOf v = spoken (verdictGives v [])
-
--- A judgement's number and position fit the answer, and so do a load's.
-pub judged-small : (file : List ℕ) (v : Verdict) → judgement file ≡ v → spokenOf v < 4294967296
-judged-small file Accepted e = omega arith
-judged-small file (Judged r) e = let b = judgement-small file r e in omega (arith, b .number, b .position)
-
-pub cond-small : (b : Bool) (x y : Verdict) → spokenOf x < 4294967296 → spokenOf y < 4294967296 → spokenOf (cond b x y) < 4294967296
-cond-small true x y h k = h
-cond-small false x y h k = k
-
+-- A load's number and position fit the answer.
 pub load-verdict-small : (file : List ℕ) (T : Tables) → spokenOf (loadVerdict file T) < 4294967296
 unfolding loadVerdict
 load-verdict-small file T =
     cond-small (sized file) (cond (fullSize T) (judgement file) (refused 2 0)) (refused 1 0)
     (cond-small (fullSize T) (judgement file) (refused 2 0) (judged-small file (judgement file) refl) (omega arith)) (omega arith)
-
-pub by-verdict : (v : Verdict) (xs : List ℕ) → spoken (verdictGives v xs) ≡ spokenOf v
-by-verdict Accepted xs = refl
-by-verdict (Judged r) xs = refl
 
 pub load-small : (file : List ℕ) (T : Tables) (g : Given) (xs : List ℕ) → g ≡ verdictGives (loadVerdict file T) xs → spoken g < 4294967296
 load-small file T g xs e =

@@ -1,1 +1,2 @@
 pub mod MeetingLaws
+pub mod SpokenLaws

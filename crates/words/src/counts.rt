@@ -10,7 +10,7 @@ use tables::Answer;
 use tables::Counts;
 
 // A word of a table, as a count; past the table's end 0 stands for it.
-fn count_at(words: &[u64], at: usize) -> usize
+pub fn count_at(words: &[u64], at: usize) -> usize
     ensures { λ r. ⌜ r ≡ getD (now (words .entry)) at 0 ⌝ }
 {
     if at < words.len() {

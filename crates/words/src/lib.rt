@@ -11,6 +11,7 @@ pub use answers::lay_value;
 pub use answers::lay_whether;
 pub use answers::side_of;
 pub use answers::speak;
+pub use counts::count_at;
 pub use counts::counts_in;
 pub use counts::keep;
 pub use counts::keep_loaded;
