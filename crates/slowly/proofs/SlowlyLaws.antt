@@ -128,16 +128,17 @@ module _ (file : List ℕ) (S : SlowTables) where
   unfolding slowEditNumber
   edit-small i v =
       let f = fieldsAt (drawn (recordAt file) (recordCount file) S) i in
-      by-right (slowRight (recordAt file) (recordCount file) S)
-      (refusal-small
-      ((17 if leb (length (primitives (recordAt file) (recordCount file))) i)
+      let own =
+      (17 if leb (length (primitives (recordAt file) (recordCount file))) i)
       ∷ (18 if not (is Switch f || (is Input f && not (ledInto (recordAt file) (recordCount file) i))))
-      ∷ (19 if not (fits (ofWidth (cond (is Switch f) (outputWidth f) (inputWidth f)) v))) ∷ [])
+      ∷ (19 if not (fits (ofWidth (cond (is Switch f) (outputWidth f) (inputWidth f)) v))) ∷ [] in
+      by-right (slowRight (recordAt file) (recordCount file) S) own
+      (refusal-small own
       (omega arith, (omega arith, (omega arith, omega arith))))
     where
-      by-right : (b : Bool) {cs : List (ℕ × Bool)} → refusal cs ≤ 19 → refusal ((20 if not b) ∷ cs) ≤ 20
-      by-right true h = omega (arith, h)
-      by-right false h = omega arith
+      by-right : (b : Bool) (cs : List (ℕ × Bool)) → refusal cs ≤ 19 → refusal ((20 if not b) ∷ cs) ≤ 20
+      by-right true cs h = omega (arith, h)
+      by-right false cs h = omega arith
 
   pub edit-is : (i v : ℕ) → IsSlow file (slowEditVerdict file S i v)
   unfolding slowEditVerdict
