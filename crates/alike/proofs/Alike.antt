@@ -22,11 +22,16 @@ use Rattle.demands.specs.Reached.{Call, rounded, edited, untilCalm, callNumber,
 use Rattle.demands.proofs.Called.{reached-kept}
 use Rattle.demands.proofs.Demand3.{load-fresh}
 use Rattle.slow.specs.Slow.{SlowTables, slowFull, slowOf, drawn, slowBy, slowLoadVerdict, slowLoadTables}
-use Rattle.alike.specs.Alike.{LedIntoStored, SlowAsLoad, SameCalls, SlowEqual, beside, Where16Stood, SlowAlong, callWords, callsTables, callsTold}
+use Rattle.alike.specs.Alike.{LeavingStored, LedIntoStored, SlowAsLoad, SameCalls, SlowEqual, beside, Where16Stood, SlowAlong, callWords, callsTables, callsTold}
 use Rattle.alike.specs.Alike.{slowCallVerdict, slowCallTables, slowCallWords, slowCallsTables, slowCallsTold}
+use Rattle.slow.proofs.Handed.{leaving-stored as stored}
 use Rattle.alike.proofs.Drawn.{slowFull-five, ledInto-driven}
 use Rattle.alike.proofs.Stood.{net-origin, right-isNet, beside-fullSize}
 use Rattle.alike.proofs.SameCalls.{same-calls}
+
+-- What is handed in is the same.
+pub leaving-stored : LeavingStored
+leaving-stored at n i = stored at n i
 
 -- The load.
 module _ (file : List ℕ) where

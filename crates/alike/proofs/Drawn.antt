@@ -6,7 +6,7 @@ use Prim.Native.Nat.{ℕ, _+_, _*_, _<_}
 use native.Mathlib.Omega.{arith}
 use mathlib.Core.Bool.{Bool, true, false, _&&_}
 use mathlib.Core.List.{List}
-use borrow.Author.Tests.{le-leb, leb-false}
+use borrow.Author.Tests.{leb-false}
 use lib.ListN.{length, replicate}
 use lib.Dec.{eqb, leb, ltb}
 use Rattle.lists.specs.Lists.{every, any, joined, distinct, overlay, refusal}
@@ -38,21 +38,16 @@ use Rattle.simulator.specs.Edit.{Way, editedState}
 use Rattle.simulator.specs.Calls.{driven, editChecks}
 use Rattle.demands.proofs.Called.{Origin}
 use Rattle.slow.specs.Slow.{slowFull, slowOf, drawn, leaving, ledInto, slowBits}
-use Rattle.alike.proofs.Handed.{leaving-stored, ledInto-wires}
+use Rattle.slow.proofs.Handed.{leaving-stored, ledInto-stored}
+use Rattle.slow.proofs.WiredLaws.{slowFull-complete}
 use Rattle.alike.proofs.SameRound.{SameWords, fields-same, round-same, movedBy-same, edited-same, onlyClocks-same, every-fit, every-held}
 
 -- The five tables are of full size where all seven are.
 pub slowFull-five : (T : Tables) → fullSize T ≡ true → slowFull (slowOf T) ≡ true
-unfolding slowFull
 slowFull-five T e =
     let f = fullSize-sound T e in
-    rw (
-      le-leb 1024 (length (T .inputs)) (f .inputs),
-      le-leb 1024 (length (T .outputs)) (f .outputs),
-      le-leb 256 (length (T .current)) (f .current),
-      le-leb 256 (length (T .following)) (f .following),
-      le-leb 256 (length (T .standing)) (f .standing),
-    )
+    slowFull-complete (slowOf T)
+    (record { inputs = f .inputs; outputs = f .outputs; current = f .current; following = f .following; standing = f .standing })
 
 -- A call leaves tables that come from the same load.
 pub origin-on : (file : List ℕ) (T U : Tables) → Origin file T → SameWiring T U → Origin file U
@@ -113,7 +108,7 @@ module _ (file : List ℕ) (T : Tables) (o : Origin file T) where
   leaving-wires = (λ j i. leaving-stored at n i j) ∙ ap wiresFrom (sym (is-drawn .wires))
 
   pub ledInto-driven : (i : ℕ) → ledInto at n i ≡ driven T i
-  ledInto-driven i = ledInto-wires at n i ∙ ap (any (λ (w : Wire). eqb (w .dst .comp .0) i)) (sym (is-drawn .wires))
+  ledInto-driven i = ledInto-stored at n i ∙ ap (any (λ (w : Wire). eqb (w .dst .comp .0) i)) (sym (is-drawn .wires))
 
   -- What an edit checks after 20 it checks after 16.
   pub editChecks-same : (i v : ℕ)

@@ -1,4 +1,3 @@
-pub mod Handed
 pub mod SameRound
 pub mod Drawn
 pub mod Stood

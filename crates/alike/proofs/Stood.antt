@@ -3,24 +3,21 @@
 -- Assumes nothing.
 use mathlib.Core.Path.{_≡_, refl, sym, _∙_}
 use Prim.Native.Nat.{ℕ}
-use mathlib.Core.Bool.{Bool, true}
-use mathlib.Core.List.{List, [], _∷_}
+use mathlib.Core.Bool.{true}
+use mathlib.Core.List.{List}
 use native.Mathlib.Omega.{arith}
-use borrow.Author.Tests.{eq-eqb, eqb-true, le-leb, leb-true}
-use lib.ListN.{length}
-use lib.Dec.{eqb, leb}
 use Rattle.lists.proofs.TestsLaws.{tests-equal}
 use Rattle.component.specs.declared.Record.{Record}
 use Rattle.component.specs.Record.{recordAt, recordCount}
-use Rattle.component.specs.Drawing.{inputsBefore, outputsBefore}
 use Rattle.tables.specs.Tables.{Tables, fullSize, currentList, followingList, standingList}
-use Rattle.tables.proofs.PartsLaws.{AllTrue, parts-sound}
 use Rattle.tables.proofs.SizesLaws.{fullSize-sound, fullSize-complete}
-use Rattle.net.specs.Net.{kindsObeyed, idsDistinct, portsFollow, valuesFit, constsHeld, wiresFit, inputsOnce, names, isNet}
+use Rattle.net.specs.Net.{kindsObeyed, idsDistinct, portsFollow, wiresFit, inputsOnce, isNet}
 use Rattle.net.proofs.ClausesLaws.{countsWithin-sound, countsWithin-complete, portsFollow-inputCount, portsFollow-outputCount}
 use Rattle.net.proofs.NetLaws.{Net, isNet-sound, isNet-complete}
 use Rattle.demands.proofs.Called.{Origin}
-use Rattle.slow.specs.Slow.{SlowTables, slowFull, slowOf, drawn, slowRight}
+use Rattle.slow.specs.Slow.{SlowTables, slowFull, slowOf, slowRight}
+use Rattle.slow.proofs.PreparingLaws.{slowFull-sound}
+use Rattle.slow.proofs.WiredLaws.{right-sound, right-complete}
 use Rattle.alike.specs.Alike.{beside}
 use Rattle.alike.proofs.Drawn.{origin-on, is-drawn, names-drawn, values-drawn, consts-drawn}
 
@@ -30,18 +27,19 @@ unfolding slowRight
 net-right file T o N =
     let d = is-drawn file T o in
     let c = countsWithin-sound (T .counts) (N .counts) in
-    rw (
-      eq-eqb (T .counts .inputs) (inputsBefore (recordAt file) (recordCount file)) (d .input-count),
-      eq-eqb (T .counts .outputs) (outputsBefore (recordAt file) (recordCount file)) (d .output-count),
-      le-leb (T .counts .current) 256 (c .current),
-      le-leb (T .counts .following) 256 (c .following),
-      le-leb (T .counts .standing) 256 (c .standing),
-      values-drawn file T o ∙ N .values,
-      consts-drawn file T o ∙ N .consts,
-      names-drawn file T o (currentList T) ∙ N .current,
-      names-drawn file T o (followingList T) ∙ N .following,
-      names-drawn file T o (standingList T) ∙ N .standing,
-    )
+    right-complete (recordAt file) (recordCount file) (slowOf T)
+    (record {
+      inputs = d .input-count;
+      outputs = d .output-count;
+      current = c .current;
+      following = c .following;
+      standing = c .standing;
+      values = values-drawn file T o ∙ N .values;
+      consts = consts-drawn file T o ∙ N .consts;
+      names-current = names-drawn file T o (currentList T) ∙ N .current;
+      names-following = names-drawn file T o (followingList T) ∙ N .following;
+      names-standing = names-drawn file T o (standingList T) ∙ N .standing;
+    })
 
 -- Any ports and lists S, beside the components and wires of a net T.
 module _ (file : List ℕ) (T : Tables) (o : Origin file T) (N : Net T) (S : SlowTables) where
@@ -60,28 +58,16 @@ module _ (file : List ℕ) (T : Tables) (o : Origin file T) (N : Net T) (S : Slo
       origin-on file T U o
       (record { components = refl; wires = refl; component-count = refl; input-count = e; output-count = f; wire-count = refl })
 
-  -- What 20 asks, after the count of inputs.
-  abbrev asked : List Bool
-  asked =
-      eqb (S .counts .outputs) (outputsBefore at n) ∷ leb (S .counts .current) 256 ∷ leb (S .counts .following) 256 ∷ leb (S .counts .standing) 256
-      ∷ valuesFit (drawn at n S) ∷ constsHeld (drawn at n S)
-      ∷ names (drawn at n S) (currentList U) ∷ names (drawn at n S) (followingList U) ∷ names (drawn at n S) (standingList U) ∷ []
-
-  right-parts : slowRight at n S ≡ true → AllTrue (eqb (S .counts .inputs) (inputsBefore at n) ∷ asked)
-  unfolding slowRight
-  right-parts e = parts-sound (eqb (S .counts .inputs) (inputsBefore at n)) asked e
-
   -- What is not given 20 is a net: values, Consts and lists are asked for by both, all else T has.
   right-net : slowRight at n S ≡ true → Net U
   unfolding kindsObeyed idsDistinct portsFollow wiresFit inputsOnce
   right-net r =
-      let p = right-parts r in
+      let p = right-sound at n S r in
       let d = is-drawn file T o in
       let w = countsWithin-sound (T .counts) (N .counts) in
-      let e = eqb-true (S .counts .inputs) (inputsBefore at n) (p .0) ∙ sym (d .input-count) in
-      let f = eqb-true (S .counts .outputs) (outputsBefore at n) (p .1 .0) ∙ sym (d .output-count) in
+      let e = p .inputs ∙ sym (d .input-count) in
+      let f = p .outputs ∙ sym (d .output-count) in
       let q = beside-origin e f in
-      let lists = p .1 .1 .1 .1 .1 .1 .1 in
       record {
         counts = countsWithin-complete (U .counts)
             (record {
@@ -89,20 +75,20 @@ module _ (file : List ℕ) (T : Tables) (o : Origin file T) (N : Net T) (S : Slo
               inputs = omega (arith, e, w .inputs);
               outputs = omega (arith, f, w .outputs);
               wires = w .wires;
-              current = leb-true (S .counts .current) 256 (p .1 .1 .0);
-              following = leb-true (S .counts .following) 256 (p .1 .1 .1 .0);
-              standing = leb-true (S .counts .standing) 256 (p .1 .1 .1 .1 .0);
+              current = p .current;
+              following = p .following;
+              standing = p .standing;
             });
         kinds = N .kinds;
         ids = N .ids;
         ports = rw (e, f) (N .ports);
-        values = sym (values-drawn file U q) ∙ p .1 .1 .1 .1 .1 .0;
-        consts = sym (consts-drawn file U q) ∙ p .1 .1 .1 .1 .1 .1 .0;
+        values = sym (values-drawn file U q) ∙ p .values;
+        consts = sym (consts-drawn file U q) ∙ p .consts;
         wires = N .wires;
         once = N .once;
-        current = sym (names-drawn file U q (currentList U)) ∙ lists .0;
-        following = sym (names-drawn file U q (followingList U)) ∙ lists .1 .0;
-        standing = sym (names-drawn file U q (standingList U)) ∙ lists .1 .1 .0;
+        current = sym (names-drawn file U q (currentList U)) ∙ p .names-current;
+        following = sym (names-drawn file U q (followingList U)) ∙ p .names-following;
+        standing = sym (names-drawn file U q (standingList U)) ∙ p .names-standing;
       }
 
   -- The ports of a net are as many as its components have.
@@ -118,19 +104,16 @@ module _ (file : List ℕ) (T : Tables) (o : Origin file T) (N : Net T) (S : Slo
 
   -- All seven tables are of full size where the five are.
   pub beside-fullSize : fullSize T ≡ true → slowFull S ≡ true → fullSize U ≡ true
-  unfolding slowFull
   beside-fullSize e f =
       let t = fullSize-sound T e in
-      let s =
-      parts-sound (leb 1024 (length (S .inputs)))
-      (leb 1024 (length (S .outputs)) ∷ leb 256 (length (S .current)) ∷ leb 256 (length (S .following)) ∷ leb 256 (length (S .standing)) ∷ []) f in
+      let s = slowFull-sound S f in
       fullSize-complete U
       (record {
         components = t .components;
-        inputs = leb-true 1024 (length (S .inputs)) (s .0);
-        outputs = leb-true 1024 (length (S .outputs)) (s .1 .0);
+        inputs = s .inputs;
+        outputs = s .outputs;
         wires = t .wires;
-        current = leb-true 256 (length (S .current)) (s .1 .1 .0);
-        following = leb-true 256 (length (S .following)) (s .1 .1 .1 .0);
-        standing = leb-true 256 (length (S .standing)) (s .1 .1 .1 .1 .0);
+        current = s .current;
+        following = s .following;
+        standing = s .standing;
       })

@@ -1,55 +1,39 @@
 -- The calls: the answer and the tables of a refused call and of one that is made.
 -- Assumes nothing.
 use mathlib.Core.Path.{_≡_, refl, sym, ap, _∙_, subst}
-use Prim.Native.Nat.{ℕ, _≤_, _<_}
-use mathlib.Core.Bool.{Bool, true, false, cond, not, _&&_, _||_}
+use Prim.Native.Nat.{ℕ, _≤_}
+use mathlib.Core.Bool.{true, _&&_}
 use mathlib.Core.List.{List, [], _∷_}
 use native.Mathlib.Omega.{arith}
-use borrow.Author.Tests.{eq-eqb, ne-eqb, leb-false, not-false}
-use lib.ListN.{length, take, replicate, take-append-drop}
-use lib.Seq.{sets, length-take-le}
-use lib.Dec.{eqb, leb}
-use Rattle.lists.specs.Lists.{from, joined, overlay, appendNew, refusal, _if_}
-use Rattle.lists.proofs.ListsLaws.{refusal-first, refusal-rest}
-use Rattle.lists.proofs.TestsLaws.{and-left}
+use lib.ListN.{length, take, replicate}
+use lib.Seq.{sets}
+use lib.Dec.{leb}
+use Rattle.lists.specs.Lists.{from, joined, overlay}
 use Rattle.kinds.specs.declared.answers.Refusal.{Refusal}
-use Rattle.kinds.specs.declared.table.Fields.{Fields}
-use Rattle.kinds.specs.declared.Kind.the-variants.{Switch, Input}
-use Rattle.kinds.specs.Kinds.{is, inputWidth, outputWidth}
-use Rattle.kinds.specs.Given.{refusedBy}
-use Rattle.value.specs.Value.{fits, ofWidth}
+use Rattle.kinds.specs.Kinds.{is}
 use Rattle.component.specs.declared.Record.{Record}
 use Rattle.component.specs.declared.Verdict.{Verdict}
 use Rattle.component.specs.declared.Verdict.the-variants.{Accepted, Refused}
-use Rattle.component.specs.Record.{IsBytes, recordAt, recordCount}
-use Rattle.flatten.specs.Verdict.{verdict, verdictGives, andThen, listBy}
-use Rattle.flatten.proofs.WireTheorems.{accepted-primitives-bound}
+use Rattle.component.specs.Record.{recordAt, recordCount}
+use Rattle.flatten.specs.Verdict.{verdict, verdictGives, listBy}
 use Rattle.tables.specs.declared.Counts.{Counts}
-use Rattle.tables.specs.Tables.{Tables, tablesOf, wireWords, fieldsAt, currentList}
-use Rattle.tables.specs.Words.{RowInside, fieldsFit, fieldsIn, firstInputIn, firstOutputIn}
-use Rattle.tables.proofs.RowsLaws.{obeyed-fit}
+use Rattle.tables.specs.Tables.{Tables, tablesOf, currentList}
 use Rattle.laying.specs.declared.rows.Before.{Before}
-use Rattle.laying.specs.Laid.{primitives, flatWires, standingAtLoad}
+use Rattle.laying.specs.Laid.{primitives, standingAtLoad}
 use Rattle.laying.specs.Laying.{beforeAt, startingOf}
 use Rattle.load.specs.Load.{drawingTables}
 use Rattle.load.proofs.LoadLaws.{filled}
 use Rattle.net.specs.Net.{names}
-use Rattle.rounds.specs.Round.{State, withInputs, withOutputs, stateOf, leave, movedBy, round}
-use Rattle.rounds.specs.Steps.{wiring, ListFits, ListInside}
-use Rattle.rounds.proofs.StepsLaws.{append-room}
-use Rattle.rounds.proofs.Evaluation.{switch-outputs, input-inputs}
-use Rattle.simulator.specs.Edit.{Way, goesFirst, stands, portSet, editedState}
-use Rattle.simulator.specs.Asked.{editRefusal, inputsSet, outputsSet}
-use Rattle.simulator.specs.Calls.{editChecks, Run, runBy}
-use Rattle.simulator.proofs.EditsLaws.{portSet-ports}
+use Rattle.rounds.specs.Round.{stateOf, leave, movedBy, round}
+use Rattle.rounds.specs.Steps.{wiring, ListFits}
+use Rattle.simulator.specs.Calls.{Run}
 use Rattle.slow.specs.declared.SlowCounts.{SlowCounts}
 use Rattle.slow.specs.declared.SlowAnswer.the-variants.{Done, Refused as Declined}
 use Rattle.slow.specs.declared.SlowRan.the-variants.{Done as RanOut, Refused as NotRun}
-use Rattle.slow.specs.Slow.{SlowTables, slowTablesOf, slowFull, slowOf, drawn, leaving, ledInto, slowRoundOf, slowBits, slowRight, slowNumber, slowEditNumber, slowVerdict, slowBy, slowLoadVerdict, slowLoadTables, slowRoundVerdict, slowRoundTables, slowMoved, slowEditVerdict, slowEditTables, slowRunVerdict, slowRun, slowRunTables, slowWords, SlowLoads, SlowRounds, SlowEdits, SlowRuns}
-use Rattle.slow.specs.Sending.{countsFor, slowCountsOf, drawnWords, Drawing, IsPrepared, setBy, drawnInputs, drawnOutputs}
-use Rattle.slow.proofs.DrawingLaws.{words-evaluate}
+use Rattle.slow.specs.Slow.{SlowTables, slowTablesOf, slowFull, slowOf, drawn, leaving, slowRoundOf, slowBits, slowNumber, slowVerdict, slowBy, slowLoadVerdict, slowLoadTables, slowRoundVerdict, slowRoundTables, slowMoved, slowRunVerdict, slowRun, slowRunTables, slowWords, SlowLoads, SlowRounds, SlowRuns}
+use Rattle.slow.specs.Sending.{countsFor, slowCountsOf, Drawing, IsPrepared}
 use Rattle.slow.proofs.PreparingLaws.{SlowSizes, slowFull-sound}
-use Rattle.slow.proofs.WiredLaws.{SlowParts, right-sound, still-full, still-right}
+use Rattle.slow.proofs.WiredLaws.{SlowParts, right-sound}
 
 -- A load.
 module _ (file : List ℕ) (S : SlowTables) where

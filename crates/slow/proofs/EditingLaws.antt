@@ -1,14 +1,14 @@
 -- Laws of edits: the number by its checks, what they give an edit that none refuses, and the tables after it.
 -- Assumes nothing.
-use mathlib.Core.Path.{_≡_, refl, sym, ap, _∙_, subst}
+use mathlib.Core.Path.{_≡_, refl, sym, ap, _∙_}
 use Prim.Native.Nat.{ℕ, _≤_, _<_}
 use mathlib.Core.Bool.{Bool, true, false, cond, not, _&&_, _||_}
 use mathlib.Core.List.{List, [], _∷_}
 use native.Mathlib.Omega.{arith}
-use borrow.Author.Tests.{eq-eqb, ne-eqb, leb-false, not-false}
+use borrow.Author.Tests.{ne-eqb, leb-false, not-false}
 use lib.ListN.{length, take, take-append-drop}
 use lib.Seq.{length-take-le}
-use lib.Dec.{eqb, leb}
+use lib.Dec.{leb}
 use Rattle.lists.specs.Lists.{overlay, appendNew, refusal, _if_}
 use Rattle.lists.proofs.ListsLaws.{refusal-first, refusal-rest}
 use Rattle.lists.proofs.TestsLaws.{and-left}
@@ -22,25 +22,24 @@ use Rattle.component.specs.declared.Verdict.{Verdict}
 use Rattle.component.specs.declared.Verdict.the-variants.{Accepted, Refused}
 use Rattle.component.specs.Record.{recordAt, recordCount}
 use Rattle.flatten.specs.Verdict.{verdict, verdictGives, andThen}
-use Rattle.flatten.proofs.Accepted.{not-accepted}
 use Rattle.flatten.proofs.WireTheorems.{accepted-primitives-bound}
 use Rattle.tables.specs.Tables.{Tables, fieldsAt}
 use Rattle.tables.specs.Words.{RowInside, uncounted, fieldsFit, fieldsIn, firstInputIn, firstOutputIn}
 use Rattle.tables.proofs.RowsLaws.{obeyed-fit}
 use Rattle.laying.specs.Laid.{primitives}
 use Rattle.net.specs.Net.{names}
-use Rattle.rounds.specs.Round.{State, stateOf, leave}
+use Rattle.rounds.specs.Round.{stateOf, leave}
 use Rattle.rounds.specs.Steps.{CanEvaluate}
 use Rattle.rounds.proofs.StepsLaws.{append-room}
 use Rattle.rounds.proofs.Evaluation.{switch-outputs, input-inputs}
-use Rattle.simulator.specs.Edit.{Way, goesFirst, stands, portSet, editedState}
+use Rattle.simulator.specs.Edit.{Way, goesFirst, stands, editedState}
 use Rattle.simulator.specs.Asked.{editRefusal, inputsSet, outputsSet}
 use Rattle.simulator.specs.Calls.{editChecks}
 use Rattle.simulator.proofs.EditsLaws.{portSet-ports}
 use Rattle.slow.specs.declared.SlowCounts.{SlowCounts}
 use Rattle.slow.specs.declared.SlowAnswer.the-variants.{Done, Refused as Declined}
 use Rattle.slow.specs.Slow.{SlowTables, slowTablesOf, slowFull, slowOf, drawn, ledInto, slowRight, slowNumber, slowEditNumber, slowVerdict, slowBy, slowEditVerdict, slowEditTables, slowWords, SlowEdits}
-use Rattle.slow.specs.Sending.{drawnWords, IsPrepared, setBy, drawnInputs, drawnOutputs}
+use Rattle.slow.specs.Sending.{IsPrepared, setBy, drawnInputs, drawnOutputs}
 use Rattle.slow.proofs.DrawingLaws.{words-evaluate}
 use Rattle.slow.proofs.PreparingLaws.{SlowSizes, slowFull-sound, lent-refused, lent-room, lent-number, accepted-behind}
 use Rattle.slow.proofs.WiredLaws.{SlowParts, right-sound}

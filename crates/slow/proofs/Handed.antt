@@ -13,7 +13,6 @@ use Rattle.lists.proofs.MembersLaws.{map-joined, any-append, any-map, any-cong}
 use Rattle.component.specs.declared.Record.{Record}
 use Rattle.component.specs.Reading.{formOf}
 use Rattle.flatten.specs.declared.Pin.{Pin}
-use Rattle.flatten.specs.declared.Lead.{Lead}
 use Rattle.flatten.specs.Descent.{comesFrom, goesTo, wiresAt, flat}
 use Rattle.tables.specs.declared.Wire.{Wire}
 use Rattle.laying.specs.Laid.{flatPin, flatWires}

@@ -2,7 +2,7 @@
 -- Assumes nothing.
 use mathlib.Core.Path.{_≡_, refl, sym, ap, _∙_}
 use Prim.Native.Nat.{ℕ, _≤_, _<_}
-use mathlib.Core.Bool.{Bool, true, false, cond, not, _&&_}
+use mathlib.Core.Bool.{Bool, true, false, cond, _&&_}
 use mathlib.Core.List.{List, []}
 use native.Mathlib.Omega.{arith}
 use borrow.Author.Tests.{leb-true, eqb-true}
@@ -29,7 +29,7 @@ use Rattle.laying.specs.Laying.{beforeAt}
 use Rattle.net.specs.Net.{valuesFit, constsHeld, names}
 use Rattle.net.specs.Parts.{lent, InputsInside, OutputsInside, obeyedAt, fitAt, heldAt}
 use Rattle.slow.specs.declared.SlowCounts.{SlowCounts}
-use Rattle.slow.specs.Slow.{SlowTables, slowTablesOf, slowFull, drawn, slowRight, slowNumber, slowVerdict}
+use Rattle.slow.specs.Slow.{SlowTables, slowFull, drawn, slowRight, slowNumber, slowVerdict}
 use Rattle.slow.specs.declared.preparing.Prepared.{Prepared}
 use Rattle.slow.specs.declared.preparing.Prepared.the-variants.{Ready, Refused as NotReady}
 use Rattle.slow.specs.Sending.{countsFor, drawnWords, preparedVerdict}

@@ -1,12 +1,12 @@
 -- Run until calm: what holds of the tables at each turn, and what a turn does.
 --   InRun file ix fs T     T are the tables of the drawing, which 20 does not refuse
 -- Assumes nothing.
-use mathlib.Core.Path.{_≡_, refl, sym, ap, _∙_, subst}
+use mathlib.Core.Path.{_≡_, refl, sym, ap, _∙_}
 use Prim.Native.Nat.{ℕ, _*_, _≤_}
-use mathlib.Core.Bool.{Bool, true}
+use mathlib.Core.Bool.{true}
 use mathlib.Core.List.{List, []}
 use native.Mathlib.Omega.{arith}
-use lib.ListN.{length, getD, take}
+use lib.ListN.{length, take}
 use lib.Seq.{length-take-le}
 use Rattle.lists.specs.Lists.{overlay, total}
 use Rattle.component.specs.Record.{IsBytes, recordAt, recordCount}
@@ -22,10 +22,10 @@ use Rattle.rounds.specs.Steps.{wiring, ListFits, ListInside}
 use Rattle.simulator.specs.Calls.{bitsSet}
 use Rattle.simulator.proofs.RunLaws.{bits-front}
 use Rattle.slow.specs.Slow.{SlowTables, slowFull, slowOf, drawn, leaving, slowRoundOf, slowBits, slowRight}
-use Rattle.slow.specs.Sending.{countsFor, slowCountsOf, drawnWords, Drawing, IsPrepared}
+use Rattle.slow.specs.Sending.{countsFor, Drawing, IsPrepared}
 use Rattle.slow.proofs.DrawingLaws.{words-long}
 use Rattle.slow.proofs.RoundsLaws.{fits-few, fits-entry}
-use Rattle.slow.proofs.CallsLaws.{prepared-drawing, prepared-count, prepared-current, prepared-following, prepared-standing, round-drawn, bits-drawn}
+use Rattle.slow.proofs.CallsLaws.{prepared-drawing, prepared-current, prepared-following, prepared-standing, round-drawn}
 use Rattle.slow.proofs.WiredLaws.{still-full, still-right}
 
 pub record InRun (file ix fs : List ℕ) (T : Tables) : Type 0 where

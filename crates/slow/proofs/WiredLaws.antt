@@ -6,7 +6,7 @@
 use mathlib.Core.Path.{_≡_, refl, sym, ap, _∙_}
 use Prim.Native.Nat.{ℕ, _*_, _≤_}
 use mathlib.Core.Bool.{Bool, true, _&&_}
-use mathlib.Core.List.{List, []}
+use mathlib.Core.List.{List}
 use native.Mathlib.Omega.{arith}
 use borrow.Author.Tests.{leb-true, eqb-true, le-leb, eq-eqb}
 use lib.ListN.{length, take, replicate, length-replicate}
@@ -22,7 +22,7 @@ use Rattle.flatten.specs.Verdict.{verdict}
 use Rattle.flatten.proofs.Accepted.{Passed, accepted-passed}
 use Rattle.flatten.proofs.WireTheorems.{accepted-wires-width, accepted-primitives-bound, accepted-inputs-bound, accepted-outputs-bound}
 use Rattle.tables.specs.declared.Wire.{Wire}
-use Rattle.tables.specs.Tables.{Tables, tablesOf, countsOf, fullSize, wireWords, wiresIn}
+use Rattle.tables.specs.Tables.{Tables, tablesOf, countsOf, fullSize, wireWords}
 use Rattle.tables.proofs.SizesLaws.{fullSize-complete}
 use Rattle.laying.specs.Laid.{primitives, flatWires}
 use Rattle.laying.proofs.FlatWires.{flatWires-bound}
@@ -36,7 +36,7 @@ use Rattle.net.proofs.NetLaws.{netNumber-0, netNumber-net, netNumber-sizes, isN
 use Rattle.rounds.specs.Round.{stateOf, leave, wiresFrom, evaluated, send, visit, round, roundOf}
 use Rattle.simulator.specs.Calls.{roundTables}
 use Rattle.simulator.proofs.Kept.{roundTables-done, roundTables-net}
-use Rattle.slow.specs.Slow.{SlowTables, slowFull, slowOf, drawn, leaving, slowRoundOf, slowRight}
+use Rattle.slow.specs.Slow.{SlowTables, slowFull, slowOf, drawn, slowRoundOf, slowRight}
 use Rattle.slow.specs.Sending.{drawnWords}
 use Rattle.slow.proofs.Handed.{leaving-stored}
 use Rattle.slow.proofs.DrawingLaws.{blank, words-long}

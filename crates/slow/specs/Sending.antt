@@ -34,7 +34,7 @@ use Rattle.simulator.specs.Asked.{inputsSet, outputsSet}
 use Rattle.slow.specs.declared.SlowCounts.{SlowCounts}
 use Rattle.slow.specs.declared.preparing.Prepared.{Prepared}
 use Rattle.slow.specs.declared.preparing.Prepared.the-variants.{Ready, Refused as NotReady}
-use Rattle.slow.specs.Slow.{SlowTables, slowFull, slowRight, drawn}
+use Rattle.slow.specs.Slow.{SlowTables, slowFull, slowRight}
 
 abbrev pub leadTo : List ℕ → End → Pin → Wire
 leadTo fs f t = record { src = f; dst = endBy fs t }

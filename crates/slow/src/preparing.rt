@@ -1,8 +1,7 @@
 // The checks of the slow engine's calls: a load's own, then 20. Rule: docs/SPECIFICATION.md, "The slow engine".
 ghost use mathlib.Core.Path.{_≡_};
 ghost use mathlib.Core.Bool.{true, _&&_};
-ghost use mathlib.Core.List.{[]};
-ghost use Prim.Native.Nat.{ℕ, _≤_, _<_};
+ghost use Prim.Native.Nat.{ℕ, _<_};
 ghost use lib.ListN.{length, replicate};
 ghost use lib.Dec.{eqb, leb};
 ghost use Rattle.lists.specs.Lists.{from, every};

@@ -1,12 +1,11 @@
 // Rounds and run until calm as calls of the slow engine, on any file, tables and counts. Rule: docs/SPECIFICATION.md, "The slow engine".
 ghost use mathlib.Core.Path.{_≡_};
-ghost use mathlib.Core.Bool.{true};
 ghost use mathlib.Core.List.{[]};
-ghost use Rattle.component.specs.Record.{recordAt, recordCount, IsBytes};
+ghost use Rattle.component.specs.Record.{recordAt, recordCount};
 ghost use Rattle.tables.specs.Tables.{tablesOf};
 ghost use Rattle.simulator.specs.Calls.{runBy};
-ghost use Rattle.slow.specs.Slow.{slowTablesOf, slowOf, slowRoundOf, slowBits, slowCountsAfter, slowCountsAfterRun, SlowRounds, SlowRuns};
-ghost use Rattle.slow.specs.Sending.{countsFor, slowCountsOf, IsPrepared};
+ghost use Rattle.slow.specs.Slow.{slowTablesOf, slowRoundOf, slowBits, slowCountsAfter, slowCountsAfterRun, SlowRounds, SlowRuns};
+ghost use Rattle.slow.specs.Sending.{slowCountsOf, IsPrepared};
 use crate::SlowAnswer;
 use crate::SlowCounts;
 use crate::SlowRan;

@@ -9,13 +9,12 @@ use mathlib.Core.Option.{Option, none, some}
 use native.Mathlib.Omega.{arith}
 use borrow.Author.Tests.{ltb-false}
 use lib.ListN.{length, set, take, drop}
-use lib.Dec.{eqb, leb, ltb}
+use lib.Dec.{eqb, leb}
 use Rattle.lists.specs.Lists.{overlay, refusal, _if_}
 use Rattle.lists.proofs.TestsLaws.{and-right-false, or-left, or-right}
-use Rattle.kinds.specs.declared.answers.Refusal.{Refusal}
 use Rattle.kinds.specs.declared.Kind.the-variants.{Switch, Input}
 use Rattle.kinds.specs.Kinds.{is, inputWidth, outputWidth}
-use Rattle.kinds.specs.Given.{Given, done, declined, spoken, refusedBy}
+use Rattle.kinds.specs.Given.{Given, done, spoken, refusedBy}
 use Rattle.value.specs.Value.{fits, ofWidth}
 use Rattle.component.specs.declared.Verdict.{Verdict}
 use Rattle.component.specs.declared.Verdict.the-variants.{Accepted, Refused}
@@ -25,7 +24,7 @@ use Rattle.meeting.specs.Meeting.{judgement}
 use Rattle.meeting.proofs.SpokenLaws.{spokenOf, judged-small, cond-small, by-verdict}
 use Rattle.tables.specs.Tables.{fieldsAt}
 use Rattle.laying.specs.Laid.{primitives}
-use Rattle.words.specs.Words.{valuesOf, valuesIn}
+use Rattle.words.specs.Words.{valuesIn}
 use Rattle.words.specs.Said.{short}
 use Rattle.words.proofs.PlainLaws.{refusal-small}
 use Rattle.slow.specs.declared.SlowCounts.{SlowCounts}

@@ -2,12 +2,10 @@
 -- Assumes nothing.
 use mathlib.Core.Path.{_≡_, refl, sym, ap, _∙_}
 use mathlib.Core.Bool.{Bool}
-use mathlib.Core.List.{List}
-use Prim.Native.Nat.{ℕ}
 use Rattle.component.specs.Record.{recordAt, recordCount}
-use Rattle.simulator.specs.Asked.{editRefusal, inputsSet, outputsSet}
+use Rattle.simulator.specs.Asked.{editRefusal}
 use Rattle.slow.specs.Slow.{SlowTables, slowTablesOf, slowFull, slowNumber, slowVerdict, ledInto}
-use Rattle.slow.specs.Sending.{preparedVerdict, IsPrepared}
+use Rattle.slow.specs.Sending.{preparedVerdict}
 use Rattle.slow.proofs.EditingLaws.{edit-declined, edit-refused, edit-passed, number-given, row-there, port-output, port-input}
 use borrow.Author.Needs.{needs}
 use Rattle.slow.proofs.editing.set_or_refuse.Statement.{statement}

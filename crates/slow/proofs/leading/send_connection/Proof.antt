@@ -1,6 +1,6 @@
 -- `send_connection`: a connection from component i is sent along to each of its targets; any other record has no wire that leaves it.
 -- Assumes nothing.
-use mathlib.Core.Path.{_≡_, refl, ap, _∙_}
+use mathlib.Core.Path.{refl, ap, _∙_}
 use mathlib.Core.List.{[], foldl}
 use Prim.Native.Nat.{_/_}
 use native.Mathlib.Omega.{arith}

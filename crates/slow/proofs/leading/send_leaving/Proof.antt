@@ -2,12 +2,11 @@
 -- Assumes nothing.
 use mathlib.Core.Path.{_≡_, refl, _∙_}
 use mathlib.Core.List.{[], foldl}
-use Prim.Native.Nat.{_≤_, _-_, _/_}
+use Prim.Native.Nat.{_≤_, _-_}
 use native.Mathlib.Omega.{arith}
 use lib.ListN.{length, take}
 use Rattle.lists.specs.Lists.{from, joined}
 use Rattle.component.specs.Record.{recordAt, recordCount}
-use Rattle.tables.specs.Tables.{Tables}
 use Rattle.rounds.specs.Round.{send}
 use Rattle.rounds.specs.Steps.{stateAt}
 use Rattle.rounds.specs.Links.{ListMarked}

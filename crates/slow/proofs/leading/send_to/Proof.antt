@@ -8,7 +8,7 @@ use lib.ListN.{length, take}
 use Rattle.lists.specs.Lists.{from}
 use Rattle.flatten.specs.Targets.{targetIn, targetsIn}
 use Rattle.tables.specs.Tables.{Tables, countsOf}
-use Rattle.rounds.specs.Round.{State, send}
+use Rattle.rounds.specs.Round.{send}
 use Rattle.rounds.specs.Steps.{stateAt, CanReach}
 use Rattle.rounds.specs.Links.{ListMarked}
 use Rattle.rounds.proofs.StepsLaws.{send-bare, reach-sends, sent-listed}

@@ -1,6 +1,5 @@
 -- `fill`: each pass leaves its table as the definition has it.
 -- Assumes nothing.
-use mathlib.Core.List.{List}
 use Rattle.load.proofs.LoadLaws.{inputs-room, current-room, copy-room}
 use Rattle.slow.specs.declared.SlowCounts.{SlowCounts}
 use Rattle.slow.specs.Slow.{SlowTables, slowTablesOf}

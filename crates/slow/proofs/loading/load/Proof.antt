@@ -1,6 +1,6 @@
 -- `load`: refused by its own checks, or filled.
 -- Assumes nothing.
-use mathlib.Core.Path.{_≡_, sym, ap, _∙_}
+use mathlib.Core.Path.{sym, ap, _∙_}
 use mathlib.Core.Bool.{Bool}
 use Rattle.slow.specs.declared.SlowCounts.{SlowCounts}
 use Rattle.slow.specs.Slow.{SlowTables, slowTablesOf, slowVerdict}

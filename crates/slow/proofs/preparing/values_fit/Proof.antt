@@ -1,15 +1,12 @@
 -- `values_fit`: the values of the components still to come fit exactly if those of all do.
 -- Assumes nothing.
 use mathlib.Core.Path.{_≡_, ap, sym, _∙_}
-use mathlib.Core.Bool.{Bool, _&&_}
 use Prim.Native.Nat.{ℕ, _-_, _≤_}
 use native.Mathlib.Omega.{arith}
 use native.Mathlib.Nat.{sub-zero}
 use borrow.Author.Tests.{not-true, not-false}
 use Rattle.lists.specs.Lists.{from, every}
 use Rattle.lists.proofs.ListsLaws.{every-fails, every-next, every-end}
-use Rattle.value.specs.Value.{allFit}
-use Rattle.tables.specs.Words.{uncounted}
 use Rattle.net.specs.Parts.{fitAt}
 use Rattle.tables.proofs.RowsLaws.{obeyed-fit}
 use borrow.Author.Needs.{needs}

@@ -1,20 +1,17 @@
 -- `drawn_run`: the rounds so far, before the run that is still to come, are the whole run; each round leaves tables that 20 does not refuse.
 -- Assumes nothing.
-use mathlib.Core.Path.{_≡_, refl, sym, ap, _∙_}
+use mathlib.Core.Path.{_≡_, refl, _∙_}
 use mathlib.Core.List.{[]}
-use Prim.Native.Nat.{ℕ, _*_, _≤_, _-_}
+use Prim.Native.Nat.{_*_, _≤_, _-_}
 use native.Mathlib.Omega.{arith}
 use lib.ListN.{length}
-use lib.Seq.{length-take-le}
-use Rattle.lists.specs.Lists.{overlay, total}
 use Rattle.component.specs.Record.{IsBytes, recordAt, recordCount}
 use Rattle.tables.specs.Tables.{Tables, tablesOf}
 use Rattle.rounds.proofs.RoundLaws.{calm-lists}
-use Rattle.simulator.specs.Calls.{bitsSet, runBy}
+use Rattle.simulator.specs.Calls.{runBy}
 use Rattle.simulator.proofs.MovedLaws.{counted-few}
 use Rattle.simulator.proofs.RunLaws.{onTop, stoppedBy, runBy-start, runBy-turn, runBy-end, test-going, test-below}
-use Rattle.slow.specs.Slow.{slowOf, drawn, slowRoundOf, slowBits}
-use Rattle.slow.specs.Sending.{IsPrepared}
+use Rattle.slow.specs.Slow.{slowRoundOf, slowBits}
 use Rattle.slow.proofs.RunsLaws.{InRun, run-starts, run-drawing, run-count, run-lists, run-few, run-inside, run-made, run-listed, run-bits, run-on}
 use borrow.Author.Needs.{needs}
 use Rattle.slow.proofs.rounding.drawn_run.Statement.{statement}

@@ -1,18 +1,16 @@
 -- `round`: refused by its checks, or the round straight from the drawing.
 -- Assumes nothing.
 use mathlib.Core.Path.{_≡_, refl, sym, ap, _∙_}
-use mathlib.Core.Bool.{Bool, true, _&&_}
+use mathlib.Core.Bool.{Bool, _&&_}
 use mathlib.Core.List.{[]}
 use lib.ListN.{length}
 use lib.Dec.{leb}
 use borrow.Author.Tests.{leb-true}
 use Rattle.lists.proofs.TestsLaws.{and-left, and-right}
-use Rattle.component.specs.declared.Verdict.the-variants.{Accepted}
 use Rattle.component.specs.Record.{recordAt, recordCount}
-use Rattle.tables.specs.Tables.{Tables, tablesOf}
-use Rattle.slow.specs.declared.preparing.Prepared.{Prepared}
+use Rattle.tables.specs.Tables.{tablesOf}
 use Rattle.slow.specs.Slow.{SlowTables, slowTablesOf, slowOf, slowFull, slowNumber, slowVerdict}
-use Rattle.slow.specs.Sending.{preparedVerdict, IsPrepared, slowCountsOf}
+use Rattle.slow.specs.Sending.{preparedVerdict}
 use Rattle.slow.proofs.PreparingLaws.{lent-room}
 use Rattle.slow.proofs.CallsLaws.{round-refused, round-done, prepared-drawing, prepared-is, prepared-count, prepared-current, prepared-following, prepared-standing, round-drawn, bits-drawn}
 use borrow.Author.Needs.{needs}

@@ -4,11 +4,10 @@ use mathlib.Core.Path.{_≡_, refl, sym, ap, _∙_}
 use mathlib.Core.Bool.{Bool}
 use mathlib.Core.List.{[]}
 use Rattle.component.specs.Record.{recordAt, recordCount}
-use Rattle.tables.specs.declared.Counts.{Counts}
 use Rattle.tables.specs.Tables.{Tables, tablesOf}
 use Rattle.simulator.specs.Calls.{runBy}
-use Rattle.slow.specs.Slow.{SlowTables, slowTablesOf, slowOf, slowFull, slowNumber, slowVerdict, slowRoundOf, slowBits}
-use Rattle.slow.specs.Sending.{preparedVerdict, IsPrepared}
+use Rattle.slow.specs.Slow.{SlowTables, slowTablesOf, slowFull, slowNumber, slowVerdict, slowRoundOf, slowBits}
+use Rattle.slow.specs.Sending.{preparedVerdict}
 use Rattle.slow.proofs.CallsLaws.{run-refused, run-done, prepared-is, prepared-for}
 use borrow.Author.Needs.{needs}
 use Rattle.slow.proofs.rounding.run_until_calm.Statement.{statement}
