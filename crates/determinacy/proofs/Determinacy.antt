@@ -22,7 +22,7 @@ use Rattle.determinacy.specs.Determined.{Determinacy, Determined, Determ
 
 -- What was written is `new`, and the answer gives what `said` says of it.
 module _ {A : Type 0} (gives : A → Given) (is : (a b : A) → gives a ≡ gives b → a ≡ b) where
-  outcome : {B : Type 0} (said : B → Given) (new : B) → Determined (λ (a : A) (b : B). (gives a ≡ said b) × (b ≡ new))
+  pub outcome : {B : Type 0} (said : B → Given) (new : B) → Determined (λ (a : A) (b : B). (gives a ≡ said b) × (b ≡ new))
   outcome said new a a′ b b′ p q =
       let e = p .1 ∙ sym (q .1) in
       (is a a′ (p .0 ∙ ap said e ∙ sym (q .0)), e)

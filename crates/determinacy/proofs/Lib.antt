@@ -1,2 +1,3 @@
 pub mod Determinacy
 pub mod HostDeterminacy
+pub mod SlowDeterminacy

@@ -1,2 +1,3 @@
 pub mod Determined
 pub mod HostDetermined
+pub mod SlowDetermined

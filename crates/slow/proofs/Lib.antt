@@ -7,3 +7,4 @@ pub mod WiredLaws
 pub mod CallsLaws
 pub mod EditingLaws
 pub mod RunsLaws
+pub mod AnswersLaws
