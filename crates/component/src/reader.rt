@@ -149,7 +149,7 @@ pub fn record_at(file: &[u8], p: usize) -> Reading
 }
 
 // The same of a file in which check 3 refuses no record: the record kind alone says how it is taken apart. Whoever looks at a field of it
-// reads no other. Crates index, checks, flatten and laying call it.
+// reads no other. Crates index, checks, flatten, laying and slow call it.
 pub fn known_at(file: &[u8], p: usize) -> Reading
     requires { ⌜ Readable (now file) ⌝ }
     ensures { λ r. ⌜ said r ≡ recordAt (now (file .entry)) p ⌝ }

@@ -106,8 +106,8 @@ pub fn list_targets(
     next
 }
 
-// Output i of component c, down to a primitive's output, from the greatest depth: a primitive's own output needs no descent. Crates flatten and
-// laying call it, with the index filled.
+// Output i of component c, down to a primitive's output, from the greatest depth: a primitive's own output needs no descent. Crates flatten,
+// laying and slow call it, with the index filled.
 pub fn source_from(file: &[u8], index: &[u16], c: usize, i: u16) -> Pin
     requires { ⌜ IsIndex (now file) (now index) ⌝ }
     ensures { λ r. ⌜ r ≡ outputBelow (recordAt (now (file .entry))) (recordCount (now (file .entry))) deepest c i ⌝ }
@@ -119,7 +119,8 @@ pub fn source_from(file: &[u8], index: &[u16], c: usize, i: u16) -> Pin
 }
 
 // Lists the primitive inputs that input i of component c leads to, from the greatest depth and from the table's first entry on: a primitive's own input
-// needs no descent. The answer is how many they are. Crates flatten and laying call it, with the index filled and room in the table.
+// needs no descent. The answer is how many they are. Crates flatten, laying and slow call it, with the index filled and room in the
+// table.
 pub fn targets_from(file: &[u8], index: &[u16], c: usize, i: u16, targets: &mut [u16]) -> usize
     requires { ⌜ IsIndex (now file) (now index)
         × (targetPlace (length (inputsBelow (recordAt (now file)) (recordCount (now file)) deepest c i)) ≤ length (now targets)) ⌝ }

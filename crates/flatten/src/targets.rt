@@ -16,7 +16,7 @@ pub(crate) fn lay_target(targets: &mut [u16], k: usize, target: Pin)
     targets[at + 1] = target.port;
 }
 
-// Target k. Crates flatten, laying and boxes call it for the targets that `list_targets` has listed.
+// Target k. Crates flatten, laying, boxes and slow call it for targets that are listed.
 pub fn target_at(targets: &[u16], k: usize) -> Pin
     requires { ⌜ targetPlace (k + 1) ≤ length (now targets) ⌝ }
     ensures { λ r. ⌜ r ≡ targetIn (now (targets .entry)) k ⌝ }

@@ -273,8 +273,8 @@ fn is_child(file: &[u8], index: &[u16], c: usize, o: usize, k: u16) -> bool
     is_owned(file, c, 1, o) & (index[c] == k)
 }
 
-// Child k of owner o; the number of records where there is none, which the index knows of each of its owners. Crates checks, flatten, laying and mend
-// call it with the index filled.
+// Child k of owner o; the number of records where there is none, which the index knows of each of its owners. Crates checks, flatten, laying, mend
+// and slow call it with the index filled.
 pub fn child_of(file: &[u8], index: &[u16], o: usize, k: ChildNo) -> usize
     requires { ⌜ IsIndex (now file) (now index) ⌝ }
     ensures { λ r. ⌜ r ≡ child (recordAt (now (file .entry))) (recordCount (now (file .entry))) o (k .0) ⌝ }

@@ -26,7 +26,7 @@ pub struct Stood {
     pub count: usize,
 }
 
-// Writes the numbers below count, ascending. Crate load calls it for the components of an accepted drawing, for which a list of full size has
+// Writes the numbers below count, ascending. Crates load and slow call it for the components of an accepted drawing, for which a list of full size has
 // room.
 pub fn count_up(list: &mut [u16], count: usize)
     requires { ⌜ (count ≤ length (now list)) × (count ≤ 256) ⌝ }
@@ -69,7 +69,7 @@ fn stand(standing: &mut [u16], drawn: Drawn, stood: Stood) -> Stood
     }
 }
 
-// Lays the standing list. The answer is how many it names. Crate load calls it for an accepted file, with a list of full size.
+// Lays the standing list. The answer is how many it names. Crates load and slow call it for an accepted file, with a list of full size.
 pub fn lay_standing(file: &[u8], standing: &mut [u16]) -> usize
     requires { ⌜ (verdict (now file) ≡ Accepted) × (256 ≤ length (now standing)) ⌝ }
     ensures { λ r. ⌜ now (standing .exit) ≡ overlay (standingAtLoad (recordAt (now (file .entry))) (recordCount (now (file .entry))))
@@ -100,7 +100,7 @@ fn few(n: usize) -> usize
 }
 
 // Fills the table of flat indexes: word c is the flat index of component c, the primitives before it; past the records it is their number. `lay_wires`
-// calls it, and crate look, with a table of 256 words.
+// calls it, and crates look and slow, with a table of 256 words.
 pub fn index_flat(file: &[u8], flat: &mut [u16])
     requires { ⌜ Readable (now file) × (length (now flat) ≡ 256) ⌝ }
     ensures { λ _. ⌜ IsFlat (recordAt (now (file .entry))) (recordCount (now (file .entry))) (now (flat .exit)) ⌝ }

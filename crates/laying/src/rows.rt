@@ -76,8 +76,8 @@ fn lay_component(components: &mut [u64], drawn: Drawn, before: Before) -> Before
     }
 }
 
-// Lays the entries of all primitives, in file order. The answer is how many there are, and their inputs and outputs. Crates load and boxes call it for an
-// accepted file, with a table of full size.
+// Lays the entries of all primitives, in file order. The answer is how many there are, and their inputs and outputs. Crates load, boxes and slow call it for
+// an accepted file, with a table of full size.
 pub fn lay_components(file: &[u8], components: &mut [u64]) -> Before
     requires { ⌜ (verdict (now file) ≡ Accepted) × (2048 ≤ length (now components)) ⌝ }
     ensures { λ r. ⌜ now (components .exit) ≡ overlay (joined (primitiveWords (recordAt (now (file .entry))) (recordCount (now (file .entry))))
@@ -98,8 +98,8 @@ pub fn lay_components(file: &[u8], components: &mut [u64]) -> Before
     before
 }
 
-// Writes 0 into the ports from a place on. `lay_output` calls it, and crate load for the inputs of an accepted drawing, for which a table of
-// full size has room.
+// Writes 0 into the ports from a place on. `lay_output` calls it, and crates load and slow for the inputs of an accepted drawing, for which a
+// table of full size has room.
 pub fn zeros(ports: &mut [u64], at: usize, count: usize)
     requires { ⌜ at + count ≤ length (now ports) ⌝ }
     ensures { λ _. ⌜ now (ports .exit) ≡ sets (now (ports .entry)) at (replicate count 0) ⌝ }
@@ -128,7 +128,7 @@ fn lay_output(outputs: &mut [u64], at: usize, drawn: Drawn) -> usize
     at + count
 }
 
-// Lays the outputs of all primitives, in file order. Crate load calls it for an accepted file, with a table of full size.
+// Lays the outputs of all primitives, in file order. Crates load and slow call it for an accepted file, with a table of full size.
 pub fn lay_outputs(file: &[u8], outputs: &mut [u64])
     requires { ⌜ (verdict (now file) ≡ Accepted) × (1024 ≤ length (now outputs)) ⌝ }
     ensures { λ _. ⌜ now (outputs .exit) ≡ overlay (joined (startingOf (recordAt (now (file .entry))))

@@ -27,7 +27,7 @@ use tables::End;
 use tables::FlatIdx;
 use tables::Wire;
 
-// A port of a component of the drawing as the net has it. Crates laying and look call it, with the flat indexes filled.
+// A port of a component of the drawing as the net has it. Crates laying, look and slow call it, with the flat indexes filled.
 pub fn flat_pin(indexes: &[u16], pin: Pin) -> End
     requires { ⌜ (length (now indexes) ≡ 256) × (pin .comp < 256) ⌝ }
     ensures { λ r. ⌜ (r ≡ endBy (now (indexes .entry)) pin) × (r .comp .0 < 65536) ⌝ }

@@ -71,7 +71,7 @@ fn against(file: &[u8], verdict: Verdict) -> Verdict
 }
 
 // What a file's bytes are judged to be; the lent index, of 3,072 words, is filled where the file is accepted.
-// `judge` calls it, and crate load, which has the wires laid with the same index.
+// `judge` calls it, crate load, which has the wires laid with the same index, and crate slow, which works them out with it.
 pub fn judge_indexed(file: &[u8], index: &mut [u16]) -> Verdict
     requires { ⌜ length (now index) ≡ 3072 ⌝ }
     ensures { λ r. ⌜ Judges (now (file .entry)) r ⌝ }

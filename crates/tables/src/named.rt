@@ -19,8 +19,8 @@ fn contains(list: &[u16], count: usize, x: u16) -> bool
     false
 }
 
-// Appends x unless it is there. The answer is the new count. Crate simulator calls it for a list of a net, which has room for every
-// component.
+// Appends x unless it is there. The answer is the new count. Crates simulator and slow call it for a list of a net, which has room for
+// every component.
 pub fn append_new(list: &mut [u16], count: usize, x: u16) -> usize
     requires { ⌜ (count ≤ length (now list)) × (length (appendNew x (take count (now list))) ≤ length (now list)) ⌝ }
     ensures { λ r. ⌜ (r ≡ length (appendNew x (take count (now (list .entry)))))
@@ -56,8 +56,8 @@ pub fn strike(list: &mut [u16], count: usize, x: u16) -> usize
     left
 }
 
-// Copies a list of count entries to the front of another table, which keeps what it held past them. Crate rounds calls it for the
-// lists of a net, and crate load for the standing list that crate laying has laid.
+// Copies a list of count entries to the front of another table, which keeps what it held past them. Crates rounds and slow call it for
+// the lists of a net, and crates load and slow for the standing list that crate laying has laid.
 pub fn copy(list: &[u16], count: usize, into: &mut [u16])
     requires { ⌜ (count ≤ length (now list)) × (count ≤ length (now into)) ⌝ }
     ensures { λ _. ⌜ now (into .exit) ≡ overlay (take count (now (list .entry))) (now (into .entry)) ⌝ }

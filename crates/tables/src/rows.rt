@@ -106,8 +106,8 @@ pub fn fields_fit(components: &[u64], i: usize) -> bool
     (kind < 256) & (inputs < 65536) & (outputs < 65536) & (width < 65536)
 }
 
-// The fields of component i, whose words fit. Crates net, rounds, judging, simulator and questions call it for the
-// components of a net.
+// The fields of component i, whose words fit. Crates net, rounds, judging, simulator, questions and slow call it for
+// the components of a net.
 pub fn fields_at(components: &[u64], i: usize) -> Fields
     requires { ⌜ RowInside (now components) i × (fieldsFit (fieldsIn (now components) i) ≡ true) ⌝ }
     ensures { λ r. ⌜ r ≡ fieldsIn (now (components .entry)) i ⌝ }

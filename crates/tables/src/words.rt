@@ -11,7 +11,7 @@ pub fn word(table: &[u64], at: usize) -> u64
     table[at]
 }
 
-// A word of a table of 16-bit numbers: a component's index, or a port. Crates net, rounds and judging call it likewise.
+// A word of a table of 16-bit numbers: a component's index, or a port. Crates net, rounds, judging and slow call it likewise.
 pub fn entry(table: &[u16], at: usize) -> usize
     requires { ⌜ at < length (now table) ⌝ }
     ensures { λ r. ⌜ r ≡ getD (now (table .entry)) at 0 ⌝ }

@@ -1,5 +1,5 @@
 // Counts and answers in words of 64 bits, as the host's calls are lent them. Rule: docs/SPECIFICATION.md, "Numbers given back".
-// Crates changing, asking and host call it, and have tested what the functions require.
+// Crates changing, asking, host and slowly call it, and have tested what the functions require.
 mod answers;
 mod counts;
 
