@@ -2,9 +2,9 @@
  * Our side of tests/instructions: instructions FILE makes each call below on a drawing, between two marks for tests/plugin.c, TIMES
  * times over; instructions FILE TIME makes only the round with all listed, at that time, for a drawing with Clocks, whose lists are
  * never empty; instructions FILE mend makes only the mending, of a file that may be damaged, and prints what came of it.
- * oracle/src/count.rs is the Rust's side: the same calls in the same order. Prints what it loaded, and how many rounds it
- * took to settle (0 with a TIME): both sides must print the same. Leaves with 1 where a call is refused or does not do what its name
- * says.
+ * oracle/src/count.rs is the Rust's side: those of the calls that the Rust has, by the same numbers. Prints what it loaded, and how many
+ * rounds it took to settle (0 with a TIME): both sides must print the same. Leaves with 1 where a call is refused or does not do what its
+ * name says.
  */
 #include "berxundar.h"
 #include "file.h"
@@ -27,6 +27,9 @@ static uint64_t at = 5;
 static berxundar_net net, loaded, quiet, one, idle;
 static uint64_t found, moved[BERXUNDAR_MOVED];
 
+/* What a slow call works on: the ports and lists of the same states. */
+static berxundar_slow_net slow;
+
 /* What a mending writes. */
 static uint8_t mended[FILE_ROOM];
 static uint16_t dropped[BERXUNDAR_DROPPED];
@@ -48,6 +51,8 @@ static uint32_t mend(void)
     return 0;
 }
 
+static uint32_t slow_load(void) { return berxundar_slow_net_load(&slow, bytes, length); }
+static uint32_t slow_round(void) { return berxundar_slow_net_round(&slow, bytes, length, at, moved); }
 
 static const struct {
     const char *name;
@@ -56,7 +61,9 @@ static const struct {
 } calls[] = { { "empty", &loaded, nothing }, { "judge", &loaded, judge }, { "load", &loaded, load },
     { "round, all listed", &loaded, run_round }, { "idle, all listed", &idle, run_round }, { "quiet", &quiet, run_round },
     { "net check", &quiet, check }, { "satisfied, none listed", &quiet, satisfied }, { "satisfied, one listed", &one, satisfied },
-    { "satisfied, all listed", &idle, satisfied }, { "run until calm", &loaded, run }, { "mend", &loaded, mend } };
+    { "satisfied, all listed", &idle, satisfied }, { "run until calm", &loaded, run }, { "mend", &loaded, mend },
+    { "slow load", &loaded, slow_load }, { "slow round, all listed", &loaded, slow_round }, { "slow idle, all listed", &idle, slow_round },
+    { "slow quiet", &quiet, slow_round } };
 
 /* A system call that no kernel has, which the plugin sees. */
 static void mark(long what, long name)
@@ -69,6 +76,21 @@ static void mark(long what, long name)
 static int same_values(const berxundar_net *a, const berxundar_net *b)
 {
     return memcmp(a->inputs, b->inputs, sizeof a->inputs) == 0 && memcmp(a->outputs, b->outputs, sizeof a->outputs) == 0;
+}
+
+/* Lays the ports and the lists of a net where the slow calls take them. */
+static void lay_slow(const berxundar_net *from)
+{
+    memcpy(slow.inputs, from->inputs, sizeof slow.inputs);
+    memcpy(slow.outputs, from->outputs, sizeof slow.outputs);
+    memcpy(slow.current, from->current, sizeof slow.current);
+    memcpy(slow.following, from->following, sizeof slow.following);
+    memcpy(slow.standing, from->standing, sizeof slow.standing);
+    slow.counts[BERXUNDAR_SLOW_COUNT_INPUTS] = from->counts[BERXUNDAR_COUNT_INPUTS];
+    slow.counts[BERXUNDAR_SLOW_COUNT_OUTPUTS] = from->counts[BERXUNDAR_COUNT_OUTPUTS];
+    slow.counts[BERXUNDAR_SLOW_COUNT_CURRENT] = from->counts[BERXUNDAR_COUNT_CURRENT];
+    slow.counts[BERXUNDAR_SLOW_COUNT_FOLLOWING] = from->counts[BERXUNDAR_COUNT_FOLLOWING];
+    slow.counts[BERXUNDAR_SLOW_COUNT_STANDING] = from->counts[BERXUNDAR_COUNT_STANDING];
 }
 
 /* Runs the loaded net until its lists are empty, and lays the three settled states: how many rounds that took. */
@@ -99,6 +121,7 @@ static int measure(size_t which)
     for (i = 0; i < TIMES; i++) {
         uint32_t answer;
         net = *calls[which].from;
+        lay_slow(&net);
         found = 1;
         mark(START, (long)which);
         answer = calls[which].call();
