@@ -30,8 +30,10 @@ use Rattle.simulator.specs.Calls.{Run}
 use Rattle.slow.specs.declared.SlowCounts.{SlowCounts}
 use Rattle.slow.specs.declared.SlowAnswer.the-variants.{Done, Refused as Declined}
 use Rattle.slow.specs.declared.SlowRan.the-variants.{Done as RanOut, Refused as NotRun}
-use Rattle.slow.specs.Slow.{SlowTables, slowTablesOf, slowFull, slowOf, drawn, leaving, slowRoundOf, slowBits, slowNumber, slowVerdict, slowBy, slowLoadVerdict, slowLoadTables, slowRoundVerdict, slowRoundTables, slowMoved, slowRunVerdict, slowRun, slowRunTables, slowWords, SlowLoads, SlowRounds, SlowRuns}
-use Rattle.slow.specs.Sending.{countsFor, slowCountsOf, Drawing, IsPrepared}
+use Rattle.slow.specs.Slow.{SlowTables, slowTablesOf, slowFull, slowOf, drawn, leaving, slowRoundOf, slowBits, slowNumber, slowVerdict, slowBy}
+use Rattle.slow.specs.Slow.{slowLoadVerdict, slowLoadTables, slowRoundVerdict, slowRoundTables, slowMoved, slowRunVerdict, slowRun}
+use Rattle.slow.specs.Slow.{slowRunTables, slowWords, SlowLoads, SlowRounds, SlowRuns, countsFor, slowCountsOf}
+use Rattle.slow.specs.Sending.{Drawing, IsPrepared}
 use Rattle.slow.proofs.PreparingLaws.{SlowSizes, slowFull-sound}
 use Rattle.slow.proofs.WiredLaws.{SlowParts, right-sound}
 

@@ -28,8 +28,8 @@ use Rattle.net.specs.Net.{kindsObeyed, portsFollow, wiresFit}
 use Rattle.net.proofs.ClausesLaws.{kindsObeyed-at, portsFollow-inputs, portsFollow-outputs}
 use Rattle.net.proofs.NetLaws.{isOutput-comp, isOutput-port, isInput-comp, isInput-port, wiresFit-source, wiresFit-target}
 use Rattle.rounds.specs.Steps.{CanEvaluate, CanReach}
-use Rattle.slow.specs.Slow.{leaving}
-use Rattle.slow.specs.Sending.{drawnWords, bare, Drawing}
+use Rattle.slow.specs.Slow.{leaving, drawnWords}
+use Rattle.slow.specs.Sending.{bare, Drawing}
 use Rattle.slow.proofs.Handed.{leaving-stored}
 
 -- No word of any table.

@@ -38,7 +38,8 @@ use Rattle.simulator.specs.Calls.{editChecks}
 use Rattle.simulator.proofs.EditsLaws.{portSet-ports}
 use Rattle.slow.specs.declared.SlowCounts.{SlowCounts}
 use Rattle.slow.specs.declared.SlowAnswer.the-variants.{Done, Refused as Declined}
-use Rattle.slow.specs.Slow.{SlowTables, slowTablesOf, slowFull, slowOf, drawn, ledInto, slowRight, slowNumber, slowEditNumber, slowVerdict, slowBy, slowEditVerdict, slowEditTables, slowWords, SlowEdits}
+use Rattle.slow.specs.Slow.{SlowTables, slowTablesOf, slowFull, slowOf, drawn, ledInto, slowRight, slowNumber, slowEditNumber, slowVerdict}
+use Rattle.slow.specs.Slow.{slowBy, slowEditVerdict, slowEditTables, slowWords, SlowEdits}
 use Rattle.slow.specs.Sending.{IsPrepared, setBy, drawnInputs, drawnOutputs}
 use Rattle.slow.proofs.DrawingLaws.{words-evaluate}
 use Rattle.slow.proofs.PreparingLaws.{SlowSizes, slowFull-sound, lent-refused, lent-room, lent-number, accepted-behind}

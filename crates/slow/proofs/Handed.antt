@@ -18,8 +18,7 @@ use Rattle.tables.specs.declared.Wire.{Wire}
 use Rattle.laying.specs.Laid.{flatPin, flatWires}
 use Rattle.laying.proofs.FlatWires.{flatWire}
 use Rattle.rounds.specs.Round.{wiresFrom}
-use Rattle.slow.specs.Slow.{leavingBy, leaving, ledInto}
-use Rattle.slow.specs.Sending.{entersBy}
+use Rattle.slow.specs.Slow.{leavingBy, leaving, ledInto, entersBy}
 
 module _ {A B : Type 0} where
   keep-joined : (f : B → Bool) (g : A → List B) (xs : List A) → keep f (joined g xs) ≡ joined (λ a. keep f (g a)) xs

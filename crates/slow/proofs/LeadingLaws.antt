@@ -37,8 +37,8 @@ use Rattle.laying.specs.Laying.{Ready, endBy}
 use Rattle.laying.proofs.WiresLaws.{connects, flat-end, from-source, source-number, read, target-number, targets-small}
 use Rattle.rounds.specs.Round.{State, send}
 use Rattle.rounds.specs.Steps.{CanReach}
-use Rattle.slow.specs.Slow.{leavingBy, leaving, ledInto}
-use Rattle.slow.specs.Sending.{leadTo, entersBy}
+use Rattle.slow.specs.Slow.{leavingBy, leaving, ledInto, entersBy}
+use Rattle.slow.specs.Sending.{leadTo}
 
 -- Loops: what is still to come.
 module _ (T : Tables) (k n : ℕ) (s x : State) where

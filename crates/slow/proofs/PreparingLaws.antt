@@ -29,10 +29,10 @@ use Rattle.laying.specs.Laying.{beforeAt}
 use Rattle.net.specs.Net.{valuesFit, constsHeld, names}
 use Rattle.net.specs.Parts.{lent, InputsInside, OutputsInside, obeyedAt, fitAt, heldAt}
 use Rattle.slow.specs.declared.SlowCounts.{SlowCounts}
-use Rattle.slow.specs.Slow.{SlowTables, slowFull, drawn, slowRight, slowNumber, slowVerdict}
+use Rattle.slow.specs.Slow.{SlowTables, slowFull, drawn, slowRight, slowNumber, slowVerdict, countsFor, drawnWords}
 use Rattle.slow.specs.declared.preparing.Prepared.{Prepared}
 use Rattle.slow.specs.declared.preparing.Prepared.the-variants.{Ready, Refused as NotReady}
-use Rattle.slow.specs.Sending.{countsFor, drawnWords, preparedVerdict}
+use Rattle.slow.specs.Sending.{preparedVerdict}
 use Rattle.slow.proofs.DrawingLaws.{words-evaluate}
 
 -- The five tables are of full size.

@@ -21,8 +21,8 @@ use Rattle.rounds.specs.Round.{stateOf, leave, movedBy, round}
 use Rattle.rounds.specs.Steps.{wiring, ListFits, ListInside}
 use Rattle.simulator.specs.Calls.{bitsSet}
 use Rattle.simulator.proofs.RunLaws.{bits-front}
-use Rattle.slow.specs.Slow.{SlowTables, slowFull, slowOf, drawn, leaving, slowRoundOf, slowBits, slowRight}
-use Rattle.slow.specs.Sending.{countsFor, Drawing, IsPrepared}
+use Rattle.slow.specs.Slow.{SlowTables, slowFull, slowOf, drawn, leaving, slowRoundOf, slowBits, slowRight, countsFor}
+use Rattle.slow.specs.Sending.{Drawing, IsPrepared}
 use Rattle.slow.proofs.DrawingLaws.{words-long}
 use Rattle.slow.proofs.RoundsLaws.{fits-few, fits-entry}
 use Rattle.slow.proofs.CallsLaws.{prepared-drawing, prepared-current, prepared-following, prepared-standing, round-drawn}

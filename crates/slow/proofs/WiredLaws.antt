@@ -36,8 +36,7 @@ use Rattle.net.proofs.NetLaws.{netNumber-0, netNumber-net, netNumber-sizes, isN
 use Rattle.rounds.specs.Round.{stateOf, leave, wiresFrom, evaluated, send, visit, round, roundOf}
 use Rattle.simulator.specs.Calls.{roundTables}
 use Rattle.simulator.proofs.Kept.{roundTables-done, roundTables-net}
-use Rattle.slow.specs.Slow.{SlowTables, slowFull, slowOf, drawn, slowRoundOf, slowRight}
-use Rattle.slow.specs.Sending.{drawnWords}
+use Rattle.slow.specs.Slow.{SlowTables, slowFull, slowOf, drawn, slowRoundOf, slowRight, drawnWords}
 use Rattle.slow.proofs.Handed.{leaving-stored}
 use Rattle.slow.proofs.DrawingLaws.{blank, words-long}
 use Rattle.slow.proofs.PreparingLaws.{SlowSizes, slowFull-sound}

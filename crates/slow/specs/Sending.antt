@@ -2,8 +2,6 @@
 -- anything here.
 --   leadTo fs f t       a wire of the net from its output f to the input t of the drawing, fs being the flat indexes
 --   bare cs             tables of the components cs alone
---   entersBy at n i p   the record at p is a connection that leads into primitive i
---   heldBy cs is os i   the values of component i fit, and where it is a Const its output is its value
 --   Drawing             an accepted file with its index, its flat indexes and the words of its components, and tables of ports of full size
 --   setBy, drawnInputs, drawnOutputs   the ports after an edit
 --   preparedVerdict r   the verdict that a preparation comes to
@@ -11,53 +9,31 @@
 -- Assumes nothing.
 use mathlib.Core.Path.{_≡_}
 use Prim.Native.Nat.{ℕ, _≤_}
-use mathlib.Core.Bool.{Bool, true, _&&_}
+use mathlib.Core.Bool.{true}
 use mathlib.Core.List.{List, []}
-use lib.ListN.{length, replicate}
-use lib.Dec.{eqb}
-use Rattle.lists.specs.Lists.{any, joined, overlay}
+use lib.ListN.{length}
 use Rattle.component.specs.declared.Record.{Record}
 use Rattle.component.specs.declared.Verdict.{Verdict}
 use Rattle.component.specs.declared.Verdict.the-variants.{Accepted, Refused}
 use Rattle.component.specs.Record.{recordAt, recordCount}
-use Rattle.component.specs.Reading.{formOf}
 use Rattle.flatten.specs.declared.Pin.{Pin}
-use Rattle.flatten.specs.Descent.{goesTo, flat}
-use Rattle.tables.specs.declared.Counts.{Counts}
 use Rattle.tables.specs.declared.End.{End}
 use Rattle.tables.specs.declared.Wire.{Wire}
 use Rattle.tables.specs.Tables.{Tables, countsOf}
-use Rattle.laying.specs.Laid.{primitives, primitiveWords}
+use Rattle.laying.specs.Laid.{primitives}
 use Rattle.laying.specs.Laying.{endBy, Ready as IsReady}
 use Rattle.rounds.specs.Steps.{wiring}
 use Rattle.simulator.specs.Asked.{inputsSet, outputsSet}
-use Rattle.slow.specs.declared.SlowCounts.{SlowCounts}
 use Rattle.slow.specs.declared.preparing.Prepared.{Prepared}
 use Rattle.slow.specs.declared.preparing.Prepared.the-variants.{Ready, Refused as NotReady}
-use Rattle.slow.specs.Slow.{SlowTables, slowFull, slowRight}
+use Rattle.slow.specs.Slow.{SlowTables, slowFull, drawnWords, slowRight}
 
 abbrev pub leadTo : List ℕ → End → Pin → Wire
 leadTo fs f t = record { src = f; dst = endBy fs t }
 
-abbrev pub entersBy : (ℕ → Record) → ℕ → ℕ → ℕ → Bool
-entersBy at n i p = eqb (formOf (at p)) 2 && any (λ (t : Pin). eqb (flat at n (t .comp)) i) (goesTo at n p)
-
--- The counts of the other engine's tables: so many components, and no wire.
-abbrev pub countsFor : SlowCounts → ℕ → Counts
-countsFor m k = countsOf k (m .inputs) (m .outputs) 0 (m .current) (m .following) (m .standing)
-
--- The counts of the five tables alone.
-abbrev pub slowCountsOf : Counts → SlowCounts
-slowCountsOf m =
-    record { inputs = m .inputs; outputs = m .outputs; current = m .current; following = m .following; standing = m .standing }
-
 -- Components, as many as a table has words of, and no wire: what a step of a round looks at.
 abbrev pub bare : List ℕ → Tables
 bare cs = wiring cs [] (countsOf 256 1024 1024 0 256 256 256)
-
--- The words of the components of a file, in a table of zeros.
-abbrev pub drawnWords : (ℕ → Record) → ℕ → List ℕ
-drawnWords at n = overlay (joined (primitiveWords at n) (primitives at n)) (replicate 2048 0)
 
 pub record Drawing (file index fs cs is os : List ℕ) : Type 0 where
   pub ready : IsReady file index fs

@@ -21,6 +21,7 @@ use Rattle.flatten.specs.declared.Pin.{Pin}
 use Rattle.flatten.specs.Descent.{comesFrom, goesTo, flat}
 use Rattle.flatten.specs.Verdict.{refused, verdictGives, andThen, listBy}
 use Rattle.meeting.specs.Meeting.{judgement}
+use Rattle.tables.specs.declared.Counts.{Counts}
 use Rattle.tables.specs.declared.Wire.{Wire}
 use Rattle.tables.specs.Tables.{Tables, tablesOf, countsOf, fieldsAt, currentList, followingList, standingList}
 use Rattle.laying.specs.Laid.{primitives, primitiveWords, flatPin}
@@ -55,25 +56,27 @@ slowFull S =
     && leb 256 (length (S .current)) && leb 256 (length (S .following)) && leb 256 (length (S .standing))
 
 -- What the other engine's tables hold but for components and wires.
+abbrev pub slowCountsOf : Counts → SlowCounts
+slowCountsOf m =
+    record { inputs = m .inputs; outputs = m .outputs; current = m .current; following = m .following; standing = m .standing }
+
 abbrev pub slowOf : Tables → SlowTables
-slowOf T =
-    slowTablesOf (T .inputs) (T .outputs) (T .current) (T .following) (T .standing)
-    (record {
-      inputs = T .counts .inputs;
-      outputs = T .counts .outputs;
-      current = T .counts .current;
-      following = T .counts .following;
-      standing = T .counts .standing;
-    })
+slowOf T = slowTablesOf (T .inputs) (T .outputs) (T .current) (T .following) (T .standing) (slowCountsOf (T .counts))
+
+-- The counts of the other engine's tables: so many components, and no wire.
+abbrev pub countsFor : SlowCounts → ℕ → Counts
+countsFor m k = countsOf k (m .inputs) (m .outputs) 0 (m .current) (m .following) (m .standing)
 
 module _ (at : ℕ → Record) (n : ℕ) where
-  -- The components of the file, its primitives in file order, with the ports and the lists of S; no wire.
+  -- The words of the components of the file, its primitives in file order, in a table of zeros.
+  abbrev pub drawnWords : List ℕ
+  drawnWords = overlay (joined (primitiveWords at n) (primitives at n)) (replicate 2048 0)
+
+  -- These components, with the ports and the lists of S; no wire.
   abbrev pub drawn : SlowTables → Tables
   drawn S =
-      tablesOf (overlay (joined (primitiveWords at n) (primitives at n)) (replicate 2048 0)) (S .inputs) (S .outputs) [] (S .current)
-      (S .following) (S .standing)
-      (countsOf (length (primitives at n)) (S .counts .inputs) (S .counts .outputs) 0 (S .counts .current) (S .counts .following)
-      (S .counts .standing))
+      tablesOf drawnWords (S .inputs) (S .outputs) [] (S .current) (S .following) (S .standing)
+      (countsFor (S .counts) (length (primitives at n)))
 
   -- The wires that leave primitive i and are of the connection at p: one to each primitive input that it leads to, in map order, if it
   -- comes from an output of primitive i.
@@ -86,9 +89,13 @@ module _ (at : ℕ → Record) (n : ℕ) where
   unfoldable pub leaving : ℕ → List Wire
   leaving i = joined (leavingBy i) (from 0 n)
 
+  -- The record at p is a connection that leads into primitive i.
+  abbrev pub entersBy : ℕ → ℕ → Bool
+  entersBy i p = eqb (at p .form) 2 && any (λ (t : Pin). eqb (flat at n (t .comp)) i) (goesTo at n p)
+
   -- A connection leads into primitive i.
   unfoldable pub ledInto : ℕ → Bool
-  ledInto i = any (λ p. eqb (at p .form) 2 && any (λ (t : Pin). eqb (flat at n (t .comp)) i) (goesTo at n p)) (from 0 n)
+  ledInto i = any (entersBy i) (from 0 n)
 
   -- A round at time t: the other engine's, these wires handed in.
   unfoldable pub slowRoundOf : ℕ → Tables → Tables

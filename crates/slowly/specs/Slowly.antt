@@ -1,5 +1,5 @@
--- What the slow engine's calls promise, called from C. docs/SPECIFICATION.md, "The slow engine" and "Numbers given back". Each promise is the engine's own, by name, on
--- the tables that the lent slices and the count words make.
+-- What the slow engine's calls promise, called from C. docs/SPECIFICATION.md, "The slow engine" and "Numbers given back". Each promise is the
+-- engine's own, by name, on the tables that the lent slices and the count words make.
 --   slowCountsIn ws   the five counts that words hold
 --   CallSlow          the promise of a load, a round or an edit; CallSlowRounds: of a round, with its bits
 --   CallSlowRuns      the promise of run until calm
@@ -31,11 +31,11 @@ abbrev pub fewSlow : List ℕ → List ℕ → Bool
 fewSlow file ws = sized file && short ws 5
 
 -- A load, a round or an edit, where P is the engine's promise: its answer is said, and its counts are laid over the count words.
-pub data CallSlow (P : SlowTables → SlowAnswer → SlowTables → Type 0) (few : Bool) (ws ws′ : List ℕ) (lent left : SlowCounts → SlowTables) (r : ℕ) : Type 0
-  where
-    fewSlowCounts : few ≡ true → r ≡ saysShort → ws′ ≡ ws → left (slowCountsIn ws) ≡ lent (slowCountsIn ws) → CallSlow P few ws ws′ lent left r
-    slowChanged : (a : SlowAnswer) → few ≡ false → P (lent (slowCountsIn ws)) a (left (slowCountsIn ws′)) → r ≡ spoken (slowGives a)
-        → ws′ ≡ overlay (valuesIn (slowGives a)) ws → CallSlow P few ws ws′ lent left r
+pub data CallSlow (P : SlowTables → SlowAnswer → SlowTables → Type 0) (few : Bool) (ws ws′ : List ℕ) (lent left : SlowCounts → SlowTables) (r : ℕ) :
+    Type 0 where
+  fewSlowCounts : few ≡ true → r ≡ saysShort → ws′ ≡ ws → left (slowCountsIn ws) ≡ lent (slowCountsIn ws) → CallSlow P few ws ws′ lent left r
+  slowChanged : (a : SlowAnswer) → few ≡ false → P (lent (slowCountsIn ws)) a (left (slowCountsIn ws′)) → r ≡ spoken (slowGives a)
+      → ws′ ≡ overlay (valuesIn (slowGives a)) ws → CallSlow P few ws ws′ lent left r
 
 -- A round at time t, which is lent a table of bits besides: bs before, bs′ after. Too few words leave it as it was.
 abbrev pub CallSlowRounds : List ℕ → ℕ → List ℕ → List ℕ → List ℕ → List ℕ → (SlowCounts → SlowTables) → (SlowCounts → SlowTables) → ℕ → Type 0

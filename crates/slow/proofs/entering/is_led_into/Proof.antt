@@ -7,8 +7,7 @@ use lib.ListN.{length}
 use Rattle.lists.specs.Lists.{from, any}
 use Rattle.lists.proofs.ListsLaws.{any-here, any-next, any-none}
 use Rattle.component.specs.Record.{recordAt, recordCount}
-use Rattle.slow.specs.Slow.{ledInto}
-use Rattle.slow.specs.Sending.{entersBy}
+use Rattle.slow.specs.Slow.{ledInto, entersBy}
 use Rattle.slow.proofs.LeadingLaws.{ledInto-start}
 use borrow.Author.Needs.{needs}
 use Rattle.slow.proofs.entering.is_led_into.Statement.{statement}

@@ -15,8 +15,7 @@ use Rattle.flatten.proofs.WireTheorems.{accepted-primitives-bound}
 use Rattle.laying.specs.declared.rows.Before.{Before}
 use Rattle.laying.specs.Laid.{primitives}
 use Rattle.net.specs.Net.{valuesFit, constsHeld}
-use Rattle.slow.specs.Slow.{SlowTables, slowTablesOf, slowVerdict, drawn, slowRight}
-use Rattle.slow.specs.Sending.{drawnWords}
+use Rattle.slow.specs.Slow.{SlowTables, slowTablesOf, slowVerdict, drawn, slowRight, drawnWords}
 use Rattle.slow.proofs.PreparingLaws.{SlowSizes, slowFull-sound, lent-refused, lent-long, lent-accepted, countsAre, listed, right-counts, right-values, right-consts, right-lists, verdict-20, verdict-right, counts-as, found-lists, laid-words, row-given, values-as, consts-as, names-as, not-ready, ready-is}
 use borrow.Author.Needs.{needs}
 use Rattle.slow.proofs.preparing.prepare.Statement.{statement}
