@@ -17,7 +17,8 @@ pub extern "C" fn berxundar_slow_load(
     ensures { λ r.
         let lent = slowTablesOf (now (inputs .entry)) (now (outputs .entry)) (now (current .entry)) (now (following .entry)) (now (standing .entry)) in
         let left = slowTablesOf (now (inputs .exit)) (now (outputs .exit)) (now (current .exit)) (now (following .exit)) (now (standing .exit)) in
-        ⌜ CallSlow (SlowLoads (now (file .entry))) (fewSlow (now (file .entry)) (now (counts .entry))) (now (counts .entry)) (now (counts .exit)) lent left r ⌝ }
+        ⌜ CallSlow (SlowLoads (now (file .entry))) (fewSlow (now (file .entry)) (now (counts .entry))) (now (counts .entry))
+        (now (counts .exit)) lent left r ⌝ }
 {
     if component::is_sized(file) & (counts.len() < 5) {
         return 131072;
