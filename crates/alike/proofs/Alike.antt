@@ -18,11 +18,12 @@ use Rattle.tables.specs.Tables.{Tables, tablesOf, countsOf, fullSize}
 use Rattle.load.specs.Load.{drawingTables, tablesBy, loadVerdict, loadTables}
 use Rattle.load.proofs.LoadLaws.{load-passed}
 use Rattle.net.proofs.NetLaws.{netNumber-0, netNumber-full, netNumber-net}
-use Rattle.demands.specs.Reached.{Call, rounded, edited, untilCalm, callNumber, callTables, Reached, loaded, called}
+use Rattle.demands.specs.Reached.{callNumber, callTables, Reached, loaded, called}
 use Rattle.demands.proofs.Called.{reached-kept}
 use Rattle.demands.proofs.Demand3.{load-fresh}
 use Rattle.slow.specs.Slow.{SlowTables, slowFull, slowOf, drawn, slowBy, slowLoadVerdict, slowLoadTables}
-use Rattle.alike.specs.Alike.{LeavingStored, LedIntoStored, SlowAsLoad, SameCalls, SlowEqual, beside, Where16Stood, SlowAlong, callWords, callsTables, callsTold}
+use Rattle.alike.specs.Alike.{LeavingStored, LedIntoStored, SlowAsLoad, SameCalls, SlowEqual, beside, Where16Stood, SlowAlong}
+use Rattle.alike.specs.Alike.{SharedCall, rounded, edited, untilCalm, flatCall, callWords, callsTables, callsTold}
 use Rattle.alike.specs.Alike.{slowCallVerdict, slowCallTables, slowCallWords, slowCallsTables, slowCallsTold}
 use Rattle.slow.proofs.Handed.{leaving-stored as stored}
 use Rattle.alike.proofs.Drawn.{slowFull-five, ledInto-driven}
@@ -103,12 +104,12 @@ where-16-stood file ran t T r S =
     )
 
 -- One call.
-record SameCall (file : List ℕ) (T : Tables) (c : Call) : Type 0 where
-  verdict : slowCallVerdict file c (slowOf T) ≡ andThen Accepted (callNumber c T)
-  tables : slowCallTables file c (slowOf T) ≡ slowOf (callTables c T)
+record SameCall (file : List ℕ) (T : Tables) (c : SharedCall) : Type 0 where
+  verdict : slowCallVerdict file c (slowOf T) ≡ andThen Accepted (callNumber (flatCall c) T)
+  tables : slowCallTables file c (slowOf T) ≡ slowOf (callTables (flatCall c) T)
   words : slowCallWords file c (slowOf T) ≡ callWords c T
 
-same-call : (file : List ℕ) (T : Tables) → SameCalls file T → (c : Call) → SameCall file T c
+same-call : (file : List ℕ) (T : Tables) → SameCalls file T → (c : SharedCall) → SameCall file T c
 same-call file T s (rounded t bits) =
     let r = s .0 bits t in
     record { verdict = r .0; tables = r .1; words = r .2 }
@@ -120,12 +121,12 @@ same-call file T s (untilCalm t limit) =
     record { verdict = u .0; tables = u .1; words = λ j. u .2 j ∷ u .3 j ∷ u .4 j ∷ [] }
 
 -- One after the other.
-along : (file : List ℕ) (cs : List Call) (ran : Bool) (t : ℕ) (T : Tables) → Reached file ran t T
+along : (file : List ℕ) (cs : List SharedCall) (ran : Bool) (t : ℕ) (T : Tables) → Reached file ran t T
     → (slowCallsTold file cs (slowOf T) ≡ callsTold cs T) × (slowCallsTables file cs (slowOf T) ≡ slowOf (callsTables cs T))
 along file [] ran t T r = (refl, refl)
 along file (c ∷ cs) ran t T r =
     let s = same-call file T (reached-same file ran t T r) c in
-    let next = along file cs _ _ (callTables c T) (called c r) in
+    let next = along file cs _ _ (callTables (flatCall c) T) (called (flatCall c) r) in
     let told = ap (slowCallsTold file cs) (s .tables) ∙ next .0 in (
       λ j. record { verdict = s .verdict j; words = s .words j } ∷ told j,
       ap (slowCallsTables file cs) (s .tables) ∙ next .1,

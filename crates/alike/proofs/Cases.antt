@@ -25,9 +25,8 @@ use Rattle.simulator.specs.Edit.{goesFirst, stands, portSet, editedState}
 use Rattle.simulator.specs.Calls.{bitsSet, runBy}
 use Rattle.slow.specs.Slow.{SlowTables, slowTablesOf, slowFull, slowOf, leaving, ledInto, slowRoundOf, slowBits, slowRight, slowNumber, slowEditNumber, slowLoadVerdict, slowLoadTables}
 use Rattle.slow.specs.Slow.{slowRoundVerdict, slowRoundTables, slowMoved, slowEditVerdict, slowEditTables, slowRunVerdict, slowRunTables}
-use Rattle.demands.specs.Reached.{Call, rounded, edited, untilCalm}
 use Rattle.demands.proofs.Lamp.{sevens}
-use Rattle.alike.specs.Alike.{Told, slowCallsTables, slowCallsTold}
+use Rattle.alike.specs.Alike.{SharedCall, rounded, edited, untilCalm, Told, slowCallsTables, slowCallsTold}
 
 -- A Switch enters box 2, whose input is mapped to a Not and then, through box 3, to another Not; an Output sees what comes out of both boxes.
 -- Components: 0 root; 1 Switch; 2 box; 3 box in it; 4 Not in that; 5 Not in box 2; 6 Output. The primitives 1, 4, 5 and 6 have the flat indexes 0 to 3.
@@ -46,18 +45,18 @@ loadedSlow file = slowLoadTables file (slowOf sevens)
 abbrev sevenBits : List ℕ
 sevenBits = replicate 256 7
 
-abbrev aRound : Call
+abbrev aRound : SharedCall
 aRound = rounded 0 sevenBits
 
 abbrev accepts : List ℕ → Told
 accepts ws = record { verdict = Accepted; words = ws }
 
 -- Its current list after calls from the load.
-abbrev currentAfter : List ℕ → List Call → List ℕ
+abbrev currentAfter : List ℕ → List SharedCall → List ℕ
 currentAfter file cs = let S = slowCallsTables file cs (loadedSlow file) in take (S .counts .current) (S .current)
 
 -- Switch 0 is set, the old way, after two rounds.
-abbrev timing : List Call
+abbrev timing : List SharedCall
 timing = aRound ∷ aRound ∷ edited stands 0 1 ∷ aRound ∷ aRound ∷ aRound ∷ aRound ∷ aRound ∷ []
 
 -- Tables with input numbers put at the front.

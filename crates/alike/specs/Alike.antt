@@ -26,7 +26,8 @@ use Rattle.simulator.specs.Edit.{Way}
 use Rattle.simulator.specs.Calls.{roundNumber, roundCall, roundMoved, driven, editNumber, editTables, Run, run, runTables}
 use Rattle.slow.specs.Slow.{SlowTables, slowFull, slowOf, leaving, ledInto, slowRight, slowLoadVerdict, slowLoadTables, slowRoundVerdict, slowRoundTables}
 use Rattle.slow.specs.Slow.{slowMoved, slowEditVerdict, slowEditTables, slowRunVerdict, slowRun, slowRunTables}
-use Rattle.demands.specs.Reached.{Call, rounded, edited, untilCalm, callNumber, callTables, Reached}
+use Rattle.demands.specs.Reached.{Call, callNumber, callTables, Reached}
+use Rattle.demands.specs.Reached as calls
 
 -- "working out each source and target through the maps when needed": for any records, what is worked out of primitive i are the wires that a load
 -- stores and that leave i, in their order.
@@ -81,6 +82,18 @@ module _ (file : List ℕ) (T : Tables) where
 abbrev pub SlowEqual : Type 0
 SlowEqual = SlowAsLoad × ((file : List ℕ) (ran : Bool) (t : ℕ) (T : Tables) → Reached file ran t T → SameCalls file T)
 
+-- A call that both engines have; a round in an order is the flat engine's alone.
+pub data SharedCall : Type 0 where
+  rounded : ℕ → List ℕ → SharedCall
+  edited : Way → ℕ → ℕ → SharedCall
+  untilCalm : ℕ → ℕ → SharedCall
+
+-- It as the flat engine's.
+abbrev pub flatCall : SharedCall → Call
+flatCall (rounded t bits) = calls.rounded t bits
+flatCall (edited way i v) = calls.edited way i v
+flatCall (untilCalm t limit) = calls.untilCalm t limit
+
 -- The calls one by one, on either engine: the verdict of each, and the words that it gives beside the tables and the counts: the table of bits after a
 -- round; the rounds, evaluations and changes of a run.
 abbrev pub runWords : Run → List ℕ
@@ -90,42 +103,43 @@ pub record Told : Type 0 where
   pub verdict : Verdict
   pub words : List ℕ
 
-abbrev pub callWords : Call → Tables → List ℕ
+abbrev pub callWords : SharedCall → Tables → List ℕ
 callWords (rounded t bits) T = roundMoved T bits t
 callWords (edited way i v) T = []
 callWords (untilCalm t limit) T = runWords (run limit t T)
 
 -- The tables after these calls, the first one first, and what each told.
-abbrev pub callsTables : List Call → Tables → Tables
+abbrev pub callsTables : List SharedCall → Tables → Tables
 callsTables [] T = T
-callsTables (c ∷ cs) T = callsTables cs (callTables c T)
+callsTables (c ∷ cs) T = callsTables cs (callTables (flatCall c) T)
 
-abbrev pub callsTold : List Call → Tables → List Told
+abbrev pub callsTold : List SharedCall → Tables → List Told
 callsTold [] T = []
-callsTold (c ∷ cs) T = record { verdict = andThen Accepted (callNumber c T); words = callWords c T } ∷ callsTold cs (callTables c T)
+callsTold (c ∷ cs) T =
+    record { verdict = andThen Accepted (callNumber (flatCall c) T); words = callWords c T } ∷ callsTold cs (callTables (flatCall c) T)
 
 -- The slow engine's.
 module _ (file : List ℕ) where
-  abbrev pub slowCallVerdict : Call → SlowTables → Verdict
+  abbrev pub slowCallVerdict : SharedCall → SlowTables → Verdict
   slowCallVerdict (rounded t bits) S = slowRoundVerdict file S bits
   slowCallVerdict (edited way i v) S = slowEditVerdict file S i v
   slowCallVerdict (untilCalm t limit) S = slowRunVerdict file S
 
-  abbrev pub slowCallTables : Call → SlowTables → SlowTables
+  abbrev pub slowCallTables : SharedCall → SlowTables → SlowTables
   slowCallTables (rounded t bits) S = slowRoundTables file S bits t
   slowCallTables (edited way i v) S = slowEditTables file S way i v
   slowCallTables (untilCalm t limit) S = slowRunTables file S t limit
 
-  abbrev pub slowCallWords : Call → SlowTables → List ℕ
+  abbrev pub slowCallWords : SharedCall → SlowTables → List ℕ
   slowCallWords (rounded t bits) S = slowMoved file S bits t
   slowCallWords (edited way i v) S = []
   slowCallWords (untilCalm t limit) S = runWords (slowRun file S t limit)
 
-  abbrev pub slowCallsTables : List Call → SlowTables → SlowTables
+  abbrev pub slowCallsTables : List SharedCall → SlowTables → SlowTables
   slowCallsTables [] S = S
   slowCallsTables (c ∷ cs) S = slowCallsTables cs (slowCallTables c S)
 
-  abbrev pub slowCallsTold : List Call → SlowTables → List Told
+  abbrev pub slowCallsTold : List SharedCall → SlowTables → List Told
   slowCallsTold [] S = []
   slowCallsTold (c ∷ cs) S = record { verdict = slowCallVerdict c S; words = slowCallWords c S } ∷ slowCallsTold cs (slowCallTables c S)
 
@@ -133,7 +147,7 @@ module _ (file : List ℕ) where
 -- engine going on from what its own last call left. Each call told the same on both, and after the last, and so after each, ports and lists are the same.
 abbrev pub SlowAlong : Type 0
 SlowAlong =
-    (file : List ℕ) (T : Tables) (cs : List Call) → IsBytes file → loadVerdict file T ≡ Accepted
+    (file : List ℕ) (T : Tables) (cs : List SharedCall) → IsBytes file → loadVerdict file T ≡ Accepted
     → let slow = slowLoadTables file (slowOf T) in let flat = loadTables file T in
     (slowCallsTold file cs slow ≡ callsTold cs flat) × (slowCallsTables file cs slow ≡ slowOf (callsTables cs flat))
 

@@ -1,4 +1,4 @@
--- A question that is lent too few words, and one that the engine answers; every number that a question gives back is at most 19, at position 0.
+-- A question that is lent too few words, and one that the engine answers; every number that a question gives back is at most 28, at position 0.
 -- Assumes nothing.
 use mathlib.Core.Path.{_≡_, refl, subst}
 use mathlib.Core.Bool.{Bool, true, false, _||_}
@@ -50,7 +50,7 @@ module _ (P : Tables → List ℕ → Listed → List ℕ → Type 0) (ws ls fs 
   list-made a m ls′ fs′ r h q p n f = listed a h (subst (λ (k : Counts). P (lent k) ls a ls′) q p) n f
 
 -- What the questions give.
-list-number-small : (T : Tables) (i : ℕ) (ls : List ℕ) → listNumber T i ls ≤ 19
+list-number-small : (T : Tables) (i : ℕ) (ls : List ℕ) → listNumber T i ls ≤ 28
 unfolding listNumber
 list-number-small T i ls =
     chosen-small (ltb (length ls) 256) 2 _ (omega arith)

@@ -1,4 +1,4 @@
--- A round and run until calm, lent too few words or answered by the engine; every number that a change gives back is at most 19, at position 0.
+-- A round and run until calm, lent too few words or answered by the engine; every number that a change gives back is at most 28, at position 0.
 --   counts-after-run    the count words after a run hold the counts after it
 -- Assumes nothing.
 use mathlib.Core.Path.{_≡_, refl, ap, sym, _∙_, subst}
@@ -20,12 +20,14 @@ use Rattle.tables.specs.Tables.{Tables, fieldsAt, answerGives, countsAfter}
 use Rattle.net.specs.Net.{netNumber}
 use Rattle.simulator.specs.declared.Ran.{Ran}
 use Rattle.simulator.specs.declared.Ran.the-variants.{Done as RanOut, Refused as NotRun}
-use Rattle.simulator.specs.Calls.{roundNumber, Rounds, driven, editNumber, ranGives, countsAfterRun}
+use Rattle.simulator.specs.Calls.{roundNumber, driven, editNumber, ranGives, countsAfterRun}
+use Rattle.rounds.specs.Round.{isOrder}
+use Rattle.simulator.specs.Ordered.{orderedNumber}
 use Rattle.words.specs.Words.{countsIn, valuesIn}
 use Rattle.words.specs.Said.{short}
 use Rattle.words.proofs.PlainLaws.{chosen-small, refusal-small, net-small, on-net-small, Plain, giving-plain, plain-as}
 use Rattle.words.proofs.SaidLaws.{change-short, change-made}
-use Rattle.changing.specs.Changing.{CallRounds, CallRuns, fewToRun, ran}
+use Rattle.changing.specs.Changing.{CallMoves, CallRuns, fewToRun, ran}
 
 -- The count words after a run.
 counts-after-run : (a : Ran) (ws : List ℕ) → countsIn (overlay (drop 3 (valuesIn (ranGives a))) ws) ≡ countsAfterRun a (countsIn ws)
@@ -33,14 +35,14 @@ unfolding countsIn overlay
 counts-after-run (RanOut m k e n) ws = refl
 counts-after-run (NotRun x) ws = refl
 
--- A round.
-module _ (t : ℕ) (ws bs : List ℕ) (lent : Counts → Tables) where
-  pub round-short : length ws < 7 → CallRounds t (short ws 7) ws ws bs bs lent lent 131072
+-- A round, in stored order or in one that is handed in.
+module _ (P : List ℕ → Tables → Answer → Tables → Type 0) (ws bs : List ℕ) (lent : Counts → Tables) where
+  pub round-short : length ws < 7 → CallMoves (P bs) (short ws 7) ws ws bs bs lent lent 131072
   round-short h = (change-short _ ws lent h, λ e. refl)
 
   pub round-answered : (a : Answer) (m : Counts) (ws′ bs′ : List ℕ) (left : Counts → Tables) (r : ℕ) → 7 ≤ length ws → m ≡ countsIn ws
-      → Rounds t bs (lent m) a (left (countsAfter a m)) bs′ → r ≡ spoken (answerGives a) → ws′ ≡ overlay (valuesIn (answerGives a)) ws
-      → CallRounds t (short ws 7) ws ws′ bs bs′ lent left r
+      → P bs′ (lent m) a (left (countsAfter a m)) → r ≡ spoken (answerGives a) → ws′ ≡ overlay (valuesIn (answerGives a)) ws
+      → CallMoves (P bs′) (short ws 7) ws ws′ bs bs′ lent left r
   round-answered a m ws′ bs′ left r h q p n w =
       (change-made _ ws lent a m ws′ left r h q p n w, λ e. absurd (true≢false (sym e ∙ le-ltb (length ws) 7 h)))
 
@@ -62,7 +64,7 @@ module _ (P : Tables → Ran → Tables → Type 0) (ws fs : List ℕ) (lent : C
       ran a h (subst (λ (k : Counts). P (lent (countsIn ws)) a (left k)) (sym (ap countsIn w ∙ counts-after-run a ws)) p′) n w f
 
 -- What the changes give.
-edit-number-small : (T : Tables) (i v : ℕ) → editNumber T i v ≤ 19
+edit-number-small : (T : Tables) (i v : ℕ) → editNumber T i v ≤ 28
 unfolding editNumber
 edit-number-small T i v =
     on-net-small T _
@@ -76,6 +78,14 @@ pub rounded-plain : (T : Tables) (bits : List ℕ) (g : Given) (xs : List ℕ) �
 rounded-plain T bits g xs e =
     plain-as g (giving (roundNumber T bits) xs) e
     (giving-plain (roundNumber T bits) xs (chosen-small (ltb (length bits) 256) 2 (netNumber T) (omega arith) (net-small T)))
+
+pub ordered-plain : (T : Tables) (order bits : List ℕ) (g : Given) (xs : List ℕ) → g ≡ giving (orderedNumber T order bits) xs → Plain g
+unfolding orderedNumber
+ordered-plain T order bits g xs e =
+    plain-as g (giving (orderedNumber T order bits) xs) e
+    (giving-plain (orderedNumber T order bits) xs
+    (chosen-small (ltb (length order) 1024 || ltb (length bits) 256) 2 _ (omega arith)
+    (on-net-small T _ (refusal-small ((24 if not (isOrder (T .counts .wires) order)) ∷ []) (omega arith, omega arith)))))
 
 pub changed-plain : (T : Tables) (g : Given) (xs : List ℕ) → g ≡ giving (netNumber T) xs → Plain g
 changed-plain T g xs e = plain-as g (giving (netNumber T) xs) e (giving-plain (netNumber T) xs (net-small T))

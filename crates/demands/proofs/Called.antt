@@ -18,8 +18,9 @@ use Rattle.net.specs.Net.{netNumber}
 use Rattle.load.specs.Load.{loadVerdict, loadTables}
 use Rattle.simulator.specs.Calls.{roundTables}
 use Rattle.simulator.proofs.Kept.{roundTables-wiring, roundTables-net}
+use Rattle.simulator.proofs.OrderedLaws.{orderedTables-wiring, orderedTables-net}
 use Rattle.quiet.proofs.EditKept.{editTables-wiring, editTables-net}
-use Rattle.quiet.proofs.Since.{Fresh, Unbroken, fresh-unbroken, roundTables-unbroken, editTables-unbroken}
+use Rattle.quiet.proofs.Since.{Fresh, Unbroken, fresh-unbroken, roundTables-unbroken, orderedTables-unbroken, editTables-unbroken}
 use Rattle.quiet.proofs.Runs.{runTables-net, runTables-wiring, runTables-unbroken}
 use Rattle.demands.specs.Reached.{Call, callNumber, callTables, isRound, callTime, Reached, loaded, called}
 use Rattle.demands.specs.Reached as calls
@@ -63,6 +64,12 @@ call-kept (calls.untilCalm u limit) T ran t z a =
       wiring = runTables-wiring T u limit;
       unbroken = subst (λ (b : Bool). Unbroken (callTables (calls.untilCalm u limit) T) (ran || b) (cond b u t))
           (and-true (ltb 0 limit) (eqb (netNumber T) 0) (eq-eqb (netNumber T) 0 z)) (runTables-unbroken T ran t u limit z a);
+    }
+call-kept (calls.ordered u order bits) T ran t z a =
+    record {
+      net = orderedTables-net T order bits u z;
+      wiring = orderedTables-wiring T order bits u;
+      unbroken = orderedTables-unbroken T order bits ran t u z a;
     }
 
 pub record Origin (file : List ℕ) (T : Tables) : Type 0 where

@@ -35,11 +35,11 @@ use Rattle.demands.specs.Demand.{Equal, Follows, Satisfied, Obeyed, Dema
 
 -- What the drawing leads from and to are ports of primitives.
 module _ (at : ℕ → Record) (n : ℕ) where
-  from-primitive : {c i : ℕ} {s : Pin} → From at n c i s → isPrimitive (at (s .comp)) ≡ true
+  pub from-primitive : {c i : ℕ} {s : Pin} → From at n c i s → isPrimitive (at (s .comp)) ≡ true
   from-primitive (starts e u) = rw u e
   from-primitive (through l e r) = from-primitive r
 
-  into-primitive : {c i : ℕ} {d : Pin} → Into at n c i d → isPrimitive (at (d .comp)) ≡ true
+  pub into-primitive : {c i : ℕ} {d : Pin} → Into at n c i d → isPrimitive (at (d .comp)) ≡ true
   into-primitive (ends e u) = rw u e
   into-primitive (maps q l e m r) = into-primitive r
 

@@ -16,7 +16,7 @@ use Rattle.tables.specs.declared.Answer.{Answer}
 use Rattle.tables.specs.Tables.{Tables, answerGives}
 use Rattle.simulator.specs.declared.Ran.{Ran}
 use Rattle.questions.specs.declared.Listed.{Listed}
-use Rattle.simulator.specs.Calls.{Rounds, ranGives, Runs}
+use Rattle.simulator.specs.Calls.{ranGives, Runs}
 use Rattle.questions.specs.Questions.{whetherGives, indexGives, valueGives, listGives}
 use Rattle.look.specs.declared.Looked.{Looked}
 use Rattle.look.specs.Look.{lookGives}
@@ -28,7 +28,7 @@ use Rattle.mend.specs.declared.Mended.{Mended}
 use Rattle.mend.specs.Mend.{mendGives}
 use Rattle.host.specs.Host.{CallEvaluates, fewToEvaluate, evaluated, fewToLook, looked, CallMends, fewToMend, mendedBy}
 use Rattle.determinacy.specs.Determined.{Determined, DeterminedAnswer}
-use Rattle.determinacy.specs.HostDetermined.{ChangesDetermined, RoundsDetermined, AsksDetermined, ListsDetermined, LooksDetermined, HostDeterminacy}
+use Rattle.determinacy.specs.HostDetermined.{ChangesDetermined, MovesDetermined, AsksDetermined, ListsDetermined, LooksDetermined, HostDeterminacy}
 use Rattle.determinacy.proofs.Determinacy.{determinacy}
 
 -- No call is lent both too few words and enough.
@@ -54,17 +54,18 @@ module _ (few : Bool) (ws fs : List ℕ) (lent : Counts → Tables) where
         d .1,
       )
 
-  rounds : (t : ℕ) (bs : List ℕ) → RoundsDetermined few ws fs lent t bs
-  rounds t bs r s a b c d f g p q = by-call (p .0) (q .0)
+  moves : (P : List ℕ → Tables → Answer → Tables → Type 0) (bs : List ℕ)
+      → ((T : Tables) → Determined (λ (r : Answer) (u : Tables × List ℕ). P (u .1) T r (u .0))) → MovesDetermined few ws fs lent P bs
+  moves P bs det r s a b c d f g p q = by-call (p .0) (q .0)
     where
-      by-call : CallChanges (λ T x U. Rounds t bs T x U c) few ws a lent f r → CallChanges (λ T x U. Rounds t bs T x U d) few ws b lent g s
+      by-call : CallChanges (P c) few ws a lent f r → CallChanges (P d) few ws b lent g s
           → (r ≡ s) × (a ≡ b) × (c ≡ d) × (f (countsIn a) ≡ g (countsIn b))
       by-call (fewCounts e n w l) (fewCounts e′ n′ w′ l′) =
           (n ∙ sym n′, w ∙ sym w′, p .1 e ∙ sym (q .1 e′), same-left a b f g w w′ l l′)
       by-call (fewCounts e n w l) (changed x e′ p′ n′ w′) = neither few e e′
       by-call (changed x e p′ n w) (fewCounts e′ n′ w′ l′) = neither few e′ e
       by-call (changed x e o n w) (changed y e′ o′ n′ w′) =
-          let z = determinacy .2 t bs (lent (countsIn ws)) x y (f (countsIn a), c) (g (countsIn b), d) o o′ in
+          let z = det (lent (countsIn ws)) x y (f (countsIn a), c) (g (countsIn b), d) o o′ in
           let left = z .1 in (
             n ∙ ap (λ (v : Answer). spoken (answerGives v)) (z .0) ∙ sym n′,
             w ∙ ap (λ (v : Answer). overlay (valuesIn (answerGives v)) ws) (z .0) ∙ sym w′,
@@ -135,7 +136,7 @@ module _ (few : Bool) (ws fs : List ℕ) (lent : Counts → Tables) where
   mends file out ds r s c d (fewToMend e n k w u) (mendedBy x e′ p′ n′ u′) = neither (within 1 1024 (recordCount file) && short fs 2) e e′
   mends file out ds r s c d (mendedBy x e p n u) (fewToMend e′ n′ k′ w′ u′) = neither (within 1 1024 (recordCount file) && short fs 2) e′ e
   mends file out ds r s c d (mendedBy x e p n u) (mendedBy y e′ p′ n′ u′) =
-      let q = determinacy .8 file out ds x y (c .0, c .1) (d .0, d .1) p p′ in
+      let q = determinacy .9 file out ds x y (c .0, c .1) (d .0, d .1) p p′ in
       let b = q .1 in
       let v = u ∙ ap (λ (z : Mended). overlay (valuesIn (mendGives z)) fs) (q .0) ∙ sym u′ in (
         n ∙ ap (λ (z : Mended). spoken (mendGives z)) (q .0) ∙ sym n′,
@@ -157,22 +158,23 @@ module _ (few : Bool) (ws fs : List ℕ) (lent : Counts → Tables) where
         λ i. (b i, v i),
       )
 
-  -- Of the engine's calls: evaluate 0, load 1, round 2, edit 3, run 4, sources 5, targets 6, look 7, mend 8, check 12, calm 13,
-  -- satisfied 14, index 15, value 16.
+  -- Of the engine's calls: evaluate 0, load 1, round 2, round in an order 3, edit 4, run 5, sources 6, targets 7, look 8, mend 9, check 13, calm 14,
+  -- satisfied 15, index 16, value 17.
   pub host-determinacy : HostDeterminacy few ws fs lent
   host-determinacy = (
     λ file. changes _ (determinacy .1 file),
-    rounds,
-    λ way i v. changes _ (determinacy .3 way i v),
-    λ t limit. runs (Runs t limit) (determinacy .4 t limit),
-    asks whetherGives _ (determinacy .13),
+    λ t bs. moves _ bs (determinacy .2 t bs),
+    λ t order bs. moves _ bs (determinacy .3 t order bs),
+    λ way i v. changes _ (determinacy .4 way i v),
+    λ t limit. runs (Runs t limit) (determinacy .5 t limit),
     asks whetherGives _ (determinacy .14),
-    λ id. asks indexGives _ (λ T. determinacy .15 T id),
-    λ side i port. asks valueGives _ (λ T. determinacy .16 T side i port),
-    λ i. lists _ (λ T ls. determinacy .5 T i ls),
+    asks whetherGives _ (determinacy .15),
+    λ id. asks indexGives _ (λ T. determinacy .16 T id),
+    λ side i port. asks valueGives _ (λ T. determinacy .17 T side i port),
     λ i. lists _ (λ T ls. determinacy .6 T i ls),
-    asks (λ (k : ℕ). giving k []) _ (determinacy .12),
+    λ i. lists _ (λ T ls. determinacy .7 T i ls),
+    asks (λ (k : ℕ). giving k []) _ (determinacy .13),
     evaluates,
-    λ file path. looks _ (λ T. determinacy .7 file T path),
+    λ file path. looks _ (λ T. determinacy .8 file T path),
     mends,
   )

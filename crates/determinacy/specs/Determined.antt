@@ -16,6 +16,7 @@ use Rattle.net.specs.Net.{Checks}
 use Rattle.questions.specs.declared.Side.{Side}
 use Rattle.simulator.specs.Edit.{Way}
 use Rattle.simulator.specs.Calls.{Rounds, Edits, Runs}
+use Rattle.simulator.specs.Ordered.{RoundsOrdered}
 use Rattle.look.specs.declared.Looked.{Looked}
 use Rattle.look.specs.Look.{Looks}
 use Rattle.mend.specs.declared.Mended.{Mended}
@@ -37,6 +38,7 @@ Determinacy =
     ((f : Fields) (xs vs ys ws : List ℕ) (t : ℕ) → Determined (Evaluates f xs vs ys ws t))
     × ((file : List ℕ) (T : Tables) → Determined (Loads file T))
     × ((t : ℕ) (bits : List ℕ) (T : Tables) → Determined (λ (r : Answer) (b : Tables × List ℕ). Rounds t bits T r (b .0) (b .1)))
+    × ((t : ℕ) (order bits : List ℕ) (T : Tables) → Determined (λ (r : Answer) (b : Tables × List ℕ). RoundsOrdered t order bits T r (b .0) (b .1)))
     × ((way : Way) (i v : ℕ) (T : Tables) → Determined (Edits way i v T))
     × ((t limit : ℕ) (T : Tables) → Determined (Runs t limit T))
     × ((T : Tables) (i : ℕ) (lent : List ℕ) → Determined (AsksSources T i lent))

@@ -16,13 +16,14 @@ use Rattle.net.specs.Net.{Checks}
 use Rattle.questions.specs.declared.Side.{Side}
 use Rattle.questions.specs.declared.Listed.{Listed}
 use Rattle.simulator.specs.Edit.{Way}
-use Rattle.simulator.specs.Calls.{Edits, Runs}
+use Rattle.simulator.specs.Calls.{Rounds, Edits, Runs}
+use Rattle.simulator.specs.Ordered.{RoundsOrdered}
 use Rattle.questions.specs.Questions.{whetherGives, AsksCalm, AsksSatisfied, indexGives, AsksIndex, valueGives, AsksValue, AsksSources, AsksTargets}
 use Rattle.look.specs.declared.Looked.{Looked}
 use Rattle.look.specs.Look.{Looks}
 use Rattle.words.specs.Words.{countsIn}
 use Rattle.words.specs.Said.{CallChanges}
-use Rattle.changing.specs.Changing.{CallRounds, CallRuns}
+use Rattle.changing.specs.Changing.{CallMoves, CallRuns}
 use Rattle.asking.specs.Asking.{CallAsks, CallLists}
 use Rattle.host.specs.Host.{CallEvaluates, CallLooks, CallMends}
 use Rattle.determinacy.specs.Determined.{Determined}
@@ -34,10 +35,10 @@ module _ (few : Bool) (ws fs : List ℕ) (lent : Counts → Tables) where
       (r s : ℕ) (a b : List ℕ) (f g : Counts → Tables) → CallChanges P few ws a lent f r → CallChanges P few ws b lent g s
       → (r ≡ s) × (a ≡ b) × (f (countsIn a) ≡ g (countsIn b))
 
-  -- A round at time t, which is lent the bits bs.
-  abbrev pub RoundsDetermined : ℕ → List ℕ → Type 0
-  RoundsDetermined t bs =
-      (r s : ℕ) (a b c d : List ℕ) (f g : Counts → Tables) → CallRounds t few ws a bs c lent f r → CallRounds t few ws b bs d lent g s
+  -- A round by the promise P, which is lent the bits bs.
+  abbrev pub MovesDetermined : (List ℕ → Tables → Answer → Tables → Type 0) → List ℕ → Type 0
+  MovesDetermined P bs =
+      (r s : ℕ) (a b c d : List ℕ) (f g : Counts → Tables) → CallMoves (P c) few ws a bs c lent f r → CallMoves (P d) few ws b bs d lent g s
       → (r ≡ s) × (a ≡ b) × (c ≡ d) × (f (countsIn a) ≡ g (countsIn b))
 
   -- A question by the promise P, with its words.
@@ -54,11 +55,12 @@ module _ (few : Bool) (ws fs : List ℕ) (lent : Counts → Tables) where
   LooksDetermined P =
       (ns wd : List ℕ) → Determined (λ (r : ℕ) (c : List ℕ × List ℕ × List ℕ). CallLooks P few ws ns (c .0) wd (c .1) fs (c .2) lent r)
 
-  -- Every call on tables, in the order of the header: load, round, the two edits, run until calm, then the questions.
+  -- Every call on tables, in the order of the header: load, round, round in an order, the two edits, run until calm, then the questions.
   abbrev pub HostDeterminacy : Type 0
   HostDeterminacy =
       ((file : List ℕ) → ChangesDetermined (Loads file))
-      × ((t : ℕ) (bs : List ℕ) → RoundsDetermined t bs)
+      × ((t : ℕ) (bs : List ℕ) → MovesDetermined (λ bs′ T r U. Rounds t bs T r U bs′) bs)
+      × ((t : ℕ) (order bs : List ℕ) → MovesDetermined (λ bs′ T r U. RoundsOrdered t order bs T r U bs′) bs)
       × ((way : Way) (i v : ℕ) → ChangesDetermined (Edits way i v))
       × ((t limit r s : ℕ) (a b c d : List ℕ) (f g : Counts → Tables) → CallRuns (Runs t limit) few ws a fs c lent f r
       → CallRuns (Runs t limit) few ws b fs d lent g s → (r ≡ s) × (a ≡ b) × (c ≡ d) × (f (countsIn a) ≡ g (countsIn b)))

@@ -1,4 +1,4 @@
--- The number of an evaluation is at most 19, at position 0; a load's number and position fit the answer.
+-- The number of an evaluation is at most 28, at position 0; a load's number and position fit the answer.
 -- Assumes nothing.
 use mathlib.Core.Path.{_≡_, refl, sym, ap, _∙_, subst}
 use mathlib.Core.Bool.{Bool, true, false, cond, not, _&&_, _||_}
@@ -21,7 +21,7 @@ use Rattle.tables.specs.Tables.{Tables, fullSize}
 use Rattle.load.specs.Load.{loadVerdict}
 use Rattle.words.proofs.PlainLaws.{refusal-small, Plain, giving-plain, plain-as}
 
-evaluate-number-small : (f : Fields) (xs vs ys ws : List ℕ) → evaluateNumber f xs vs ys ws ≤ 19
+evaluate-number-small : (f : Fields) (xs vs ys ws : List ℕ) → evaluateNumber f xs vs ys ws ≤ 28
 unfolding evaluateNumber
 evaluate-number-small f xs vs ys ws =
     refusal-small

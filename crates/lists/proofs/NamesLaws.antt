@@ -103,6 +103,20 @@ names-length n xs a =
     (λ x h. from0-complete n x (a .exist x h)) in
     omega (arith, from-length 0 n)
 
+-- As many names as the bound are all numbers below it.
+pub names-all : (n : ℕ) (xs : List ℕ) → Names n xs → length xs ≡ n → (i : ℕ) → i < n → In i xs
+names-all n xs a e i h = by-test (has i xs) refl
+  where
+    by-test : (b : Bool) → has i xs ≡ b → In i xs
+    by-test true q = has-sound i xs q
+    by-test false q =
+        let one-more : Names n (i ∷ xs) =
+        record {
+          exist = λ x m. ⊎-elim (λ p. omega arith) (λ k. a .exist x k) m;
+          once = (λ m. true≢false (sym (has-complete i xs m) ∙ q), a .once);
+        } in
+        absurd (omega (arith, e, names-length n (i ∷ xs) one-more))
+
 pub names-append : (n x : ℕ) (xs : List ℕ) → x < n → Names n xs → Names n (appendNew x xs)
 names-append n x xs h a =
     record {

@@ -5,6 +5,7 @@
 --   Named s i          one of the three lists names i
 --   Awaits T ran s i   so it is, and where a round has run i is no Clock
 --   Inv T ran t s      between calls: whether a round has run, and the time of the last
+--   Wired T X todo s   each wire agrees, or its source is X, or it is one of those still to be taken
 --   Due T rest s i     within a round, i is still to be evaluated
 --   Mid T t rest todo s   within a round: `rest` is left of the current list, `todo` of the component's wires
 -- Within a round a Clock is due only through the rest of the current list; it is never struck from the standing list.
@@ -64,6 +65,9 @@ pub record Inv (T : Tables) (ran : Bool) (t : ℕ) (s : State) : Type 0 where
   pub clock-following : Clocks T (s .following)
   pub clock-standing : Clocks T (s .standing)
 
+abbrev pub Wired : Tables → (ℕ → Type 0) → List Wire → State → Type 0
+Wired T X todo s = (w : Wire) → In w (wiresIn T) → Agree T s w ⊎ (X (w .src .comp .0) ⊎ In w todo)
+
 pub data Due (T : Tables) (rest : List ℕ) (s : State) (i : ℕ) : Type 0 where
   in-rest : In i rest → Due T rest s i
   in-following : clocked T i ≡ false → In i (s .following) → Due T rest s i
@@ -71,7 +75,7 @@ pub data Due (T : Tables) (rest : List ℕ) (s : State) (i : ℕ) : Type 0 where
 
 pub record Mid (T : Tables) (t : ℕ) (rest : List ℕ) (todo : List Wire) (s : State) : Type 0 where
   pub held : Held T s
-  pub wired : (w : Wire) → In w (wiresIn T) → Agree T s w ⊎ (Due T rest s (w .src .comp .0) ⊎ In w todo)
+  pub wired : Wired T (Due T rest s) todo s
   pub fitted : (i : ℕ) → i < T .counts .components → Fits T t s i ⊎ Due T rest s i
   pub clock-following : Clocks T (s .following)
   pub clock-standing : Clocks T (s .standing)
@@ -90,60 +94,67 @@ module _ (T : Tables) (g : Sound T) where
   abbrev n : ℕ
   n = T .counts .components
 
-  -- One wire.
+  -- One wire: where it agrees, it is done;
+  pub stay-wired : (X : ℕ → Type 0) (ws : List Wire) (s : State) (v : Wire) → Agree T s v → Wired T X (v ∷ ws) s → Wired T X ws s
+  stay-wired X ws s v p a w mw = wire (a w mw)
+    where
+      wire : Agree T s w ⊎ (X (w .src .comp .0) ⊎ In w (v ∷ ws)) → Agree T s w ⊎ (X (w .src .comp .0) ⊎ In w ws)
+      wire (inl q) = inl q
+      wire (inr (inl q)) = inr (inl q)
+      wire (inr (inr (inl e))) = inl (subst (λ (x : Wire). Agree T s x) (sym e) p)
+      wire (inr (inr (inr q))) = inr (inr q)
+
+  -- where its input is written, it then agrees.
+  pub written-wired : (X Y : ℕ → Type 0) → ((d : ℕ) → X d → Y d) → (ws : List Wire) (s : State) (v : Wire) → In v (wiresIn T) → Held T s
+      → Wired T X (v ∷ ws) s → Wired T Y ws (written T s v)
+  unfolding written
+  written-wired X Y f ws s v m b a w mw = wire (ℕ-discrete (inputPlace T (w .dst)) (inputPlace T (v .dst))) (a w mw)
+    where
+      room : inputPlace T (v .dst) < length (s .inputs)
+      room = omega (arith, b .inputs-length, input-room T g v m)
+
+      own : Agree T (written T s v) v
+      own = sym (getD-set-same (s .inputs) (inputPlace T (v .dst)) (carried T s v) 0 room)
+
+      wire : Dec (inputPlace T (w .dst) ≡ inputPlace T (v .dst)) → Agree T s w ⊎ (X (w .src .comp .0) ⊎ In w (v ∷ ws))
+          → Agree T (written T s v) w ⊎ (Y (w .src .comp .0) ⊎ In w ws)
+      wire (yes e) o = inl (subst (λ (x : Wire). Agree T (written T s v) x) (sym (g .once w v mw m e)) own)
+      wire (no e) (inl q) =
+          inl (q ∙ sym (getD-set-other (s .inputs) (inputPlace T (v .dst)) (inputPlace T (w .dst))
+          (carried T s v) 0 e))
+      wire (no e) (inr (inl q)) = inr (inl (f (w .src .comp .0) q))
+      wire (no e) (inr (inr (inl q))) = absurd (e (ap (λ (x : Wire). inputPlace T (x .dst)) q))
+      wire (no e) (inr (inr (inr q))) = inr (inr q)
+
+  -- The same within a round.
   module _ (t : ℕ) (rest : List ℕ) (ws : List Wire) (s : State) (v : Wire) (m : In v (wiresIn T))
       (a : Mid T t rest (v ∷ ws) s) where
-    -- It agrees: it is done.
     stay-mid : Agree T s v → Mid T t rest ws s
     stay-mid p =
         record {
           held = a .held;
-          wired = λ w mw. wire w (a .wired w mw);
+          wired = stay-wired (Due T rest s) ws s v p (a .wired);
           fitted = a .fitted;
           clock-following = a .clock-following;
           clock-standing = a .clock-standing;
         }
-      where
-        wire : (w : Wire) → Agree T s w ⊎ (Due T rest s (w .src .comp .0) ⊎ In w (v ∷ ws))
-            → Agree T s w ⊎ (Due T rest s (w .src .comp .0) ⊎ In w ws)
-        wire w (inl q) = inl q
-        wire w (inr (inl q)) = inr (inl q)
-        wire w (inr (inr (inl e))) = inl (subst (λ (x : Wire). Agree T s x) (sym e) p)
-        wire w (inr (inr (inr q))) = inr (inr q)
 
-    -- It does not: its input is written, and its target is due.
+    -- Where its input is written its target is due.
     write-mid : Held T (written T s v) → Mid T t rest ws (written T s v)
     unfolding written
     write-mid b =
         record {
           held = b;
-          wired = λ w mw. wire w mw (ℕ-discrete (inputPlace T (w .dst)) (inputPlace T (v .dst))) (a .wired w mw);
+          wired = written-wired (Due T rest s) (Due T rest (written T s v)) due ws s v m (a .held) (a .wired);
           fitted = λ i h. fit i h (ℕ-discrete i (v .dst .comp .0)) (a .fitted i h);
           clock-following = λ i h e. appendNew-kept (v .dst .comp .0) i (s .following) (a .clock-following i h e);
           clock-standing = a .clock-standing;
         }
       where
-        room : inputPlace T (v .dst) < length (s .inputs)
-        room = omega (arith, a .held .inputs-length, input-room T g v m)
-
         due : (i : ℕ) → Due T rest s i → Due T rest (written T s v) i
         due i (in-rest q) = in-rest q
         due i (in-following e q) = in-following e (appendNew-kept (v .dst .comp .0) i (s .following) q)
         due i (in-standing e q) = in-standing e q
-
-        own : Agree T (written T s v) v
-        own = sym (getD-set-same (s .inputs) (inputPlace T (v .dst)) (carried T s v) 0 room)
-
-        wire : (w : Wire) → In w (wiresIn T) → Dec (inputPlace T (w .dst) ≡ inputPlace T (v .dst))
-            → Agree T s w ⊎ (Due T rest s (w .src .comp .0) ⊎ In w (v ∷ ws))
-            → Agree T (written T s v) w ⊎ (Due T rest (written T s v) (w .src .comp .0) ⊎ In w ws)
-        wire w mw (yes e) o = inl (subst (λ (x : Wire). Agree T (written T s v) x) (sym (g .once w v mw m e)) own)
-        wire w mw (no e) (inl q) =
-            inl (q ∙ sym (getD-set-other (s .inputs) (inputPlace T (v .dst)) (inputPlace T (w .dst))
-            (carried T s v) 0 e))
-        wire w mw (no e) (inr (inl q)) = inr (inl (due (w .src .comp .0) q))
-        wire w mw (no e) (inr (inr (inl q))) = absurd (e (ap (λ (x : Wire). inputPlace T (x .dst)) q))
-        wire w mw (no e) (inr (inr (inr q))) = inr (inr q)
 
         target : Due T rest (written T s v) (v .dst .comp .0)
         target = in-following (target-unclocked T g v m) (appendNew-has (v .dst .comp .0) (s .following))
@@ -172,14 +183,13 @@ module _ (T : Tables) (g : Sound T) where
   sends-mid t rest (w ∷ ws) f s a =
       sends-mid t rest ws (λ x m. f x (inr m)) (send T s w) (send-mid t rest ws s w (f w (inl refl)) a)
 
-  -- An evaluation of component i: it fits, and all its wires are still to be taken.
-  module _ (ws : List Wire) (o : Order T ws) (t i : ℕ) (rest : List ℕ) (h : i < T .counts .components) (s : State)
-      (a : Mid T t (i ∷ rest) [] s) where
+  -- An evaluation of component i: its outputs are those made, and it fits; another fits if it did.
+  module _ (t i : ℕ) (h : i < T .counts .components) (s : State) (b : Held T s) where
     len : length (made T t s i) ≡ fieldsAt T i .outputs
-    len = made-length T g t i h s (a .held)
+    len = made-length T g t i h s b
 
     room : (d : ℕ) → d < n → outputsEnd T d ≤ length (s .outputs)
-    room d q = omega (arith, a .held .outputs-length, g .outputs-in d q)
+    room d q = omega (arith, b .outputs-length, g .outputs-in d q)
 
     own-made : outputsAt T (evaluated T t i s .outputs) i ≡ made T t s i
     unfolding evaluated
@@ -218,6 +228,22 @@ module _ (T : Tables) (g : Sound T) where
         subst (λ (ys : List ℕ). outputsAfter (fieldsAt T d) (inputsAt T (s .inputs) d) ys t ≡ ys)
         (sym (others-made d q ne)) f
 
+    -- Its wires are still to be taken; another's excuse may be weakened.
+    pub evaluated-wired : (X Y : ℕ → Type 0) (ws : List Wire) → Order T ws → ((d : ℕ) → (d ≡ i → ⊥) → X d → Y d)
+        → Wired T X [] s → Wired T Y (wiresFrom ws i) (evaluated T t i s)
+    evaluated-wired X Y ws o f a w m = by-source (ℕ-discrete (w .src .comp .0) i) (a w m)
+      where
+        by-source : Dec (w .src .comp .0 ≡ i) → Agree T s w ⊎ (X (w .src .comp .0) ⊎ In w [])
+            → Agree T (evaluated T t i s) w ⊎ (Y (w .src .comp .0) ⊎ In w (wiresFrom ws i))
+        by-source (yes e) q =
+            inr (inr (keep-complete (λ (v : Wire). eqb (v .src .comp .0) i) w ws (eq-eqb (w .src .comp .0) i e) (o .all w m)))
+        by-source (no ne) (inl q) = inl (others-agree w m ne q)
+        by-source (no ne) (inr (inl q)) = inr (inl (f (w .src .comp .0) ne q))
+        by-source (no ne) (inr (inr q)) = absurd q
+
+  -- The same within a round.
+  module _ (ws : List Wire) (o : Order T ws) (t i : ℕ) (rest : List ℕ) (h : i < T .counts .components) (s : State)
+      (a : Mid T t (i ∷ rest) [] s) where
     clock-stands : (d : ℕ) → clocked T d ≡ true → Dec (d ≡ i) → In d (s .standing) → In d (evaluated T t i s .standing)
     unfolding evaluated
     clock-stands d e (yes p) m =
@@ -237,25 +263,16 @@ module _ (T : Tables) (g : Sound T) where
     evaluated-mid =
         record {
           held = evaluated-held T g t i h s (a .held);
-          wired = λ w m. wire w m (ℕ-discrete (w .src .comp .0) i) (a .wired w m);
+          wired = evaluated-wired t i h s (a .held) (Due T (i ∷ rest) s) (Due T rest (evaluated T t i s)) ws o still-due (a .wired);
           fitted = λ d q. fit d q (ℕ-discrete d i) (a .fitted d q);
           clock-following = a .clock-following;
           clock-standing = λ d q e. clock-stands d e (ℕ-discrete d i) (a .clock-standing d q e);
         }
       where
-        wire : (w : Wire) → In w (wiresIn T) → Dec (w .src .comp .0 ≡ i)
-            → Agree T s w ⊎ (Due T (i ∷ rest) s (w .src .comp .0) ⊎ In w [])
-            → Agree T (evaluated T t i s) w ⊎ (Due T rest (evaluated T t i s) (w .src .comp .0) ⊎ In w (wiresFrom ws i))
-        wire w m (yes e) q =
-            inr (inr (keep-complete (λ (v : Wire). eqb (v .src .comp .0) i) w ws (eq-eqb (w .src .comp .0) i e) (o .all w m)))
-        wire w m (no ne) (inl q) = inl (others-agree w m ne q)
-        wire w m (no ne) (inr (inl q)) = inr (inl (still-due (w .src .comp .0) ne q))
-        wire w m (no ne) (inr (inr q)) = absurd q
-
         fit : (d : ℕ) → d < n → Dec (d ≡ i) → Fits T t s d ⊎ Due T (i ∷ rest) s d
             → Fits T t (evaluated T t i s) d ⊎ Due T rest (evaluated T t i s) d
-        fit d q (yes e) f = inl (subst (λ (k : ℕ). Fits T t (evaluated T t i s) k) (sym e) evaluated-fits)
-        fit d q (no ne) (inl f) = inl (others-fit d q ne f)
+        fit d q (yes e) f = inl (subst (λ (k : ℕ). Fits T t (evaluated T t i s) k) (sym e) (evaluated-fits t i h s (a .held)))
+        fit d q (no ne) (inl f) = inl (others-fit t i h s (a .held) d q ne f)
         fit d q (no ne) (inr f) = inr (still-due d ne f)
 
   -- A round at time u, its wires in any order.

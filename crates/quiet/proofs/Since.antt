@@ -15,15 +15,17 @@ use Rattle.kinds.specs.Kinds.{is}
 use Rattle.tables.specs.declared.Wire.{Wire}
 use Rattle.tables.specs.Tables.{Tables, fieldsAt, wiresIn, currentList, followingList, standingList}
 use Rattle.net.specs.Net.{netNumber}
-use Rattle.rounds.specs.Round.{State, stateOf, leave, wiresFrom, round, roundOf}
+use Rattle.rounds.specs.Round.{State, stateOf, leave, wiresFrom, round, roundBy, roundOf}
 use Rattle.simulator.specs.Edit.{Way, editedState}
 use Rattle.simulator.specs.Calls.{roundTables, editNumber, editTables}
+use Rattle.simulator.specs.Ordered.{wiresBy, orderedNumber, orderedTables}
 use Rattle.rounds.proofs.Sound.{net-sound}
 use Rattle.rounds.proofs.Held.{Order, stored-order}
 use Rattle.quiet.proofs.Edited.{editNumber-editable}
 use Rattle.rounds.proofs.Left.{stateOf-leave, net-held}
 use Rattle.simulator.proofs.EditsLaws.{edit-is-net, edit-there}
 use Rattle.simulator.proofs.Kept.{by-number}
+use Rattle.simulator.proofs.OrderedLaws.{order-order}
 use Rattle.quiet.proofs.Invariant.{Inv, round-inv, start-inv}
 use Rattle.quiet.proofs.EditInvariant.{edited-inv}
 
@@ -81,6 +83,19 @@ roundTables-unbroken T ran t u a = by-number (eqb (netNumber T) 0) refl
     by-number true e =
         subst (λ (r : Bool). Unbroken (roundOf u T) r u) (sym (or-true ran))
         (round-unbroken T (wiresIn T) (stored-order T) ran t u (eqb-true (netNumber T) 0 e) a)
+    by-number false e = subst (λ (r : Bool). Unbroken T r t) (sym (or-false ran)) a
+
+-- So does a round in an order.
+pub orderedTables-unbroken : (T : Tables) (order bits : List ℕ) (ran : Bool) (t u : ℕ) → netNumber T ≡ 0 → Unbroken T ran t
+    → Unbroken (orderedTables T order bits u) (ran || eqb (orderedNumber T order bits) 0) (cond (eqb (orderedNumber T order bits) 0) u t)
+unfolding orderedTables
+orderedTables-unbroken T order bits ran t u z a = by-number (eqb (orderedNumber T order bits) 0) refl
+  where
+    by-number : (b : Bool) → eqb (orderedNumber T order bits) 0 ≡ b → Unbroken (cond b (roundBy (wiresBy T order) u T) T) (ran || b) (cond b u t)
+    by-number true e =
+        subst (λ (r : Bool). Unbroken (roundBy (wiresBy T order) u T) r u) (sym (or-true ran))
+        (round-unbroken T (wiresBy T order)
+        (order-order T order bits (orderedNumber T order bits) refl (eqb-true (orderedNumber T order bits) 0 e)) ran t u z a)
     by-number false e = subst (λ (r : Bool). Unbroken T r t) (sym (or-false ran)) a
 
 -- An edit as a call keeps it, of either way, refused or not.

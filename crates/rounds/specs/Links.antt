@@ -1,7 +1,7 @@
 -- Links from each component to its wires, and marks of the components that a list names. Nobody has to believe anything here: only
 -- contracts of functions inside our crates cite it.
 --   sourceIn ws k                  the component that wire k leaves
---   Chain n after k ks             following `after` from wire k meets exactly the wires ks, and then a number not below n
+--   Along n after k ks             following `after` from wire k meets exactly the wires ks, and then a number not below n
 --   IsLinked ws n head after ks    from its head, each component's wires are met, in the order ks of wires by their numbers
 --   Follows ws n head after vs     vs are the wires of such an order; HasLinks: there is one
 --   Ready b ws n head after        b says whether the n wires are linked, in stored order; if not, none is
@@ -25,9 +25,9 @@ abbrev pub sourceIn : List ℕ → ℕ → ℕ
 sourceIn ws k = wireIn ws k .src .comp .0
 
 -- What following `after` from wire k meets.
-abbrev pub Chain : ℕ → List ℕ → ℕ → List ℕ → Type 0
-Chain n after k [] = n ≤ k
-Chain n after k (x ∷ xs) = (k ≡ x) × (k < n) × Chain n after (getD after k 0) xs
+abbrev pub Along : ℕ → List ℕ → ℕ → List ℕ → Type 0
+Along n after k [] = n ≤ k
+Along n after k (x ∷ xs) = (k ≡ x) × (k < n) × Along n after (getD after k 0) xs
 
 -- Component i's wires, by their numbers, in an order of all wires.
 abbrev pub numbersFrom : List ℕ → ℕ → List ℕ → List ℕ
@@ -36,7 +36,7 @@ numbersFrom ws i order = keep (λ k. eqb (sourceIn ws k) i) order
 pub record IsLinked (ws : List ℕ) (n : ℕ) (head after order : List ℕ) : Type 0 where
   pub heads : length head ≡ 256
   pub afters : length after ≡ 1024
-  pub linked : (i : ℕ) → i < 256 → Chain n after (getD head i 0) (numbersFrom ws i order)
+  pub linked : (i : ℕ) → i < 256 → Along n after (getD head i 0) (numbersFrom ws i order)
 
 pub record Follows (ws : List ℕ) (n : ℕ) (head after : List ℕ) (vs : List Wire) : Type 0 where
   pub order : List ℕ

@@ -21,6 +21,8 @@ use crate::marks::append_marked;
 pub use calm::net_calm;
 use kinds::Kind;
 pub use links::NO_WIRE;
+pub use links::is_order;
+pub use links::link_by;
 pub use links::link_once;
 pub use marks::mark;
 use tables::Counts;

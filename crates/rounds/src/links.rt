@@ -4,8 +4,10 @@ ghost use mathlib.Core.Path.{_≡_};
 ghost use mathlib.Core.Bool.{true, false};
 ghost use mathlib.Core.List.{List, [], _∷_};
 ghost use Prim.Native.Nat.{ℕ, _≤_, _<_};
+ghost use lib.ListN.{length};
 ghost use Rattle.lists.specs.Lists.{from, has};
 ghost use Rattle.tables.specs.Words.{WireInside, WiresInside};
+ghost use Rattle.rounds.specs.Round.{orderList, isOrder};
 ghost use Rattle.rounds.specs.Links.{sourceIn, IsLinked, Ready, SourcesFew};
 
 // The head of a component that no wire leaves: past the wires of every net.
@@ -35,6 +37,48 @@ fn link(wires: &[u16], count: usize, head: &mut [u16; 256], after: &mut [u16; 10
     while 0 < k {
         k -= 1;
         link_first(wires, k, head, after);
+    }
+}
+
+// Whether the first `count` entries of an order name each of `count` wires once: each wire that is named is marked. Crate simulator calls
+// it for the wires of a net.
+pub fn is_order(order: &[u16], count: usize) -> bool
+    requires { ⌜ (count ≤ 1024) × (count ≤ length (now order)) ⌝ }
+    ensures { λ r. ⌜ r ≡ isOrder count (now (order .entry)) ⌝ }
+{
+    let mut seen = [0u8; 1024];
+    let mut k: usize = 0;
+    while k < count {
+        let named = tables::entry(order, k);
+        if count <= named {
+            return false;
+        }
+        if seen[named] != 0 {
+            return false;
+        }
+        seen[named] = 1;
+        k += 1;
+    }
+    true
+}
+
+// Links the wires in an order: the last is put first, and each before those behind it. Crate simulator calls it for an order of a net's
+// wires.
+pub fn link_by(
+    wires: &[u16],
+    order: &[u16],
+    count: usize,
+    head: &mut [u16; 256],
+    after: &mut [u16; 1024],
+)
+    requires { ⌜ (count ≤ 1024) × (count ≤ length (now order)) × (isOrder count (now order) ≡ true) × SourcesFew (now wires) count
+        × IsLinked (now wires) count (now head) (now after) [] × WiresInside (now wires) count ⌝ }
+    ensures { λ _. ⌜ IsLinked (now (wires .entry)) count (now (head .exit)) (now (after .exit)) (orderList count (now (order .entry))) ⌝ }
+{
+    let mut k = count;
+    while 0 < k {
+        k -= 1;
+        link_first(wires, tables::entry(order, k), head, after);
     }
 }
 

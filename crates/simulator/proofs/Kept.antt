@@ -11,7 +11,7 @@ use Rattle.tables.specs.declared.Wire.{Wire}
 use Rattle.tables.specs.Tables.{Tables, fullSize, wiresIn}
 use Rattle.net.specs.Net.{isNet, netNumber}
 use Rattle.net.proofs.NetLaws.{netNumber-full, netNumber-isNet, netNumber-0}
-use Rattle.rounds.specs.Round.{stateOf, leave, wiresFrom, round, roundOf}
+use Rattle.rounds.specs.Round.{stateOf, leave, wiresFrom, round, roundBy, roundOf}
 use Rattle.simulator.specs.Calls.{after, roundTables}
 use Rattle.rounds.proofs.Sound.{Sound, isNet-wiring}
 use Rattle.rounds.proofs.Held.{Held, Order, stored-order, round-held}
@@ -34,14 +34,12 @@ module _ (T : Tables) (full : fullSize T ≡ true) (net : isNet T ≡ true) wher
     pub round-fullSize : fullSize (leave T (round T (wiresFrom ws) t (stateOf T))) ≡ true
     round-fullSize = fullSize-kept T full net (round T (wiresFrom ws) t (stateOf T)) round-leaves
 
-  -- In particular in stored order.
-  pub roundOf-isNet : (t : ℕ) → isNet (roundOf t T) ≡ true
-  unfolding roundOf
-  roundOf-isNet t = round-isNet (wiresIn T) (stored-order T) t
-
-  pub roundOf-fullSize : (t : ℕ) → fullSize (roundOf t T) ≡ true
-  unfolding roundOf
-  roundOf-fullSize t = round-fullSize (wiresIn T) (stored-order T) t
+-- A round of a net, in any order, leaves a net: the next call is given neither 2 nor 16.
+pub round-net : (T : Tables) (ws : List Wire) → Order T ws → (t : ℕ) → netNumber T ≡ 0 → netNumber (roundBy ws t T) ≡ 0
+round-net T ws o t e =
+    let f = netNumber-full T e in
+    let n = netNumber-isNet T e in
+    sym (netNumber-0 (roundBy ws t T) (round-fullSize T f n ws o t) (round-isNet T f n ws o t))
 
 -- A call either is not refused, and its tables are the new ones, or it is, and they are the old ones.
 pub by-number : (P : Tables → Type 0) (k : ℕ) (new old : Tables) → (k ≡ 0 → P new) → P old → P (after k new old)
@@ -63,10 +61,7 @@ roundTables-wiring T t =
     by-number (SameWiring T) (netNumber T) (roundOf t T) T (λ e. leave-wiring T (round T (wiresFrom (wiresIn T)) t (stateOf T)))
     (sameWiring-none T)
 
--- A round of a net leaves a net: the next call is given neither 2 nor 16.
+-- A round in stored order of a net leaves a net.
 pub roundTables-net : (T : Tables) (t : ℕ) → netNumber T ≡ 0 → netNumber (roundTables T t) ≡ 0
-roundTables-net T t e =
-    let f = netNumber-full T e in
-    let n = netNumber-isNet T e in
-    ap netNumber (roundTables-done T t e)
-    ∙ sym (netNumber-0 (roundOf t T) (roundOf-fullSize T f n t) (roundOf-isNet T f n t))
+unfolding roundOf
+roundTables-net T t e = ap netNumber (roundTables-done T t e) ∙ round-net T (wiresIn T) (stored-order T) t e

@@ -15,7 +15,7 @@ use tables::Answer;
 use tables::Counts;
 
 // Full size of a table of bits: a word for each component that a round can evaluate.
-const WORDS: usize = 256;
+pub(crate) const WORDS: usize = 256;
 
 // A round at a time, on any tables and counts: 2, 16. Which outputs changed of component k of the current list is written to entry k of
 // `moved`, bit i for output i; entries past the list are kept. "A refusal of any call changes no lent table."

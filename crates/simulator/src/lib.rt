@@ -1,8 +1,10 @@
-// Rounds, edits and runs until calm as calls over lent tables. Rules: docs/SPECIFICATION.md, "Rounds" and "Numbers given back". Source: simulator.rs.
+// Rounds, in stored order or in one that is handed in, edits and runs until calm as calls over lent tables. Rules:
+// docs/SPECIFICATION.md, "Rounds" and "Numbers given back". Source: simulator.rs.
 mod calls;
 mod edits;
 mod first;
 mod moved;
+mod ordered;
 mod standing;
 
 pub use calls::round;
@@ -12,6 +14,7 @@ pub use edits::set_port;
 pub use first::edit;
 use kinds::Refusal;
 pub use moved::count_moved;
+pub use ordered::round_ordered;
 pub use standing::edit_standing;
 use tables::Counts;
 

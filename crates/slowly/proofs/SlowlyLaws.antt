@@ -1,5 +1,5 @@
 -- The slow engine's calls from C, lent too few words or answered by the engine; each number and position fits the answer.
---   IsSlow file v     v is a load's own verdict with a number of at most 20 behind it
+--   IsSlow file v     v is a load's own verdict with a number of at most 28 behind it
 -- Assumes nothing.
 use mathlib.Core.Path.{_≡_, refl, sym, ap, _∙_, subst}
 use Prim.Native.Nat.{ℕ, _≤_, _<_}
@@ -98,15 +98,15 @@ module _ (P : SlowTables → SlowRan → SlowTables → Type 0) (few : Bool) (ws
 pub record IsSlow (file : List ℕ) (v : Verdict) : Type 0 where
   pub long : Bool
   pub number : ℕ
-  pub small : number ≤ 20
+  pub small : number ≤ 28
   pub behind : v ≡ slowVerdict file long number
 
 module _ (file : List ℕ) (S : SlowTables) where
-  number-small : slowNumber (recordAt file) (recordCount file) S ≤ 20
+  number-small : slowNumber (recordAt file) (recordCount file) S ≤ 28
   unfolding slowNumber
   number-small = by-right (slowRight (recordAt file) (recordCount file) S)
     where
-      by-right : (b : Bool) → refusal ((20 if not b) ∷ []) ≤ 20
+      by-right : (b : Bool) → refusal ((20 if not b) ∷ []) ≤ 28
       by-right true = omega arith
       by-right false = omega arith
 
@@ -123,7 +123,7 @@ module _ (file : List ℕ) (S : SlowTables) where
   unfolding slowRunVerdict
   run-is = record { long = slowFull S; number = slowNumber (recordAt file) (recordCount file) S; small = number-small; behind = refl }
 
-  edit-small : (i v : ℕ) → slowEditNumber (recordAt file) (recordCount file) S i v ≤ 20
+  edit-small : (i v : ℕ) → slowEditNumber (recordAt file) (recordCount file) S i v ≤ 28
   unfolding slowEditNumber
   edit-small i v =
       let f = fieldsAt (drawn (recordAt file) (recordCount file) S) i in
@@ -135,7 +135,7 @@ module _ (file : List ℕ) (S : SlowTables) where
       (refusal-small own
       (omega arith, (omega arith, (omega arith, omega arith))))
     where
-      by-right : (b : Bool) (cs : List (ℕ × Bool)) → refusal cs ≤ 19 → refusal ((20 if not b) ∷ cs) ≤ 20
+      by-right : (b : Bool) (cs : List (ℕ × Bool)) → refusal cs ≤ 28 → refusal ((20 if not b) ∷ cs) ≤ 28
       by-right true cs h = omega (arith, h)
       by-right false cs h = omega arith
 
@@ -153,7 +153,7 @@ laid h = some-of (h .values)
 
 -- So what is said fits.
 module _ (file : List ℕ) (v : Verdict) (s : IsSlow file v) (g : Given) (xs : List ℕ) (e : g ≡ verdictGives v xs) where
-  verdict-small : (long : Bool) (k : ℕ) → k ≤ 20 → spokenOf (slowVerdict file long k) < 4294967296
+  verdict-small : (long : Bool) (k : ℕ) → k ≤ 28 → spokenOf (slowVerdict file long k) < 4294967296
   verdict-small long k h =
       cond-small (sized file) (cond long (andThen (judgement file) k) (refused 2 0)) (refused 1 0)
       (cond-small long (andThen (judgement file) k) (refused 2 0) (by-judgement (judgement file) refl) (omega arith)) (omega arith)

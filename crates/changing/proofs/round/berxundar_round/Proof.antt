@@ -3,6 +3,7 @@
 use mathlib.Core.Path.{_∙_}
 use Rattle.tables.specs.declared.Counts.{Counts}
 use Rattle.tables.specs.Tables.{Tables, tablesOf, answerGives}
+use Rattle.simulator.specs.Calls.{Rounds}
 use Rattle.words.proofs.PlainLaws.{plain-fits, plain-spoken}
 use Rattle.changing.proofs.ChangingLaws.{round-short, round-answered, rounded-plain}
 use borrow.Author.Needs.{needs}
@@ -18,7 +19,8 @@ came s =
 
 returns : tie.Need-returns
 returns c =
-    round-short _ _ _ _ (c .if1 .taken)
+    let s = c .before .before .before .before .before .before .before .before .before .before in
+    round-short (λ bs′ T a U. Rounds (s .args .time) (s .args .moved .now) T a U bs′) _ _ _ (c .if1 .taken)
 
 keep-requires : tie.Need-keep-requires
 keep-requires c κs =
@@ -39,7 +41,7 @@ returns-2 c =
     let m = at-counts-in .counts-in in
     let r = at-round .round in
     let p = rounded-plain (came s (m .result)) (s .args .moved .now) (answerGives (r .result)) _ (r .ensures .0 .0) in
-    round-answered (s .args .time) (s .args .counts .now) (s .args .moved .now) (came s) (r .result) (m .result) (k .last .0) _ _ (k .result)
+    round-answered (λ bs′ T a U. Rounds (s .args .time) (s .args .moved .now) T a U bs′) (s .args .counts .now) (s .args .moved .now) (came s) (r .result) (m .result) (k .last .0) _ _ (k .result)
     (at-if1 .if1 .left) (m .ensures) (r .ensures) (k .ensures .0 ∙ plain-spoken (answerGives (r .result)) p) (k .ensures .1)
 
 pub berxundar-round-spec : {M : Type 1} → statement M

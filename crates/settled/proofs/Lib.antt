@@ -1,0 +1,5 @@
+pub mod Drawn
+pub mod Rounds
+pub mod Settling
+pub mod Stored
+pub mod Cases

@@ -1,0 +1,1 @@
+// No code: when a drawing settles, stated on the drawing, and proved.
