@@ -217,7 +217,7 @@ int main(int argc, char **argv)
         return 2;
     length = (size_t)read;
     status = settles();
-    if (fflush(stdout) != 0) {
+    if (fflush(stdout) != 0 || ferror(stdout)) {
         perror("settles: standard output");
         return 2;
     }
