@@ -1,17 +1,22 @@
 //! Drawings without Clocks whose wires form no cycle. Each is loaded twice, and after a load rounds are run, in the
 //! stored order and in others, at any times, some past the number after which it must be calm; calm and satisfied are
-//! asked after each, and the state is shown at the end. `tests/settled` reads the commands and the answers.
+//! asked after each, and the state is shown at the end. Then rounds from any other values on, which must come to the same.
+//! `tests/settled` reads the commands and the answers.
 
 use super::drawing::{blank, boxes_profile, drawing, file_of, running_profile, voting};
 use super::nest::nest;
 use super::order::{round_in_none, round_in_order, shuffle};
 use super::random::Random;
 use super::rounds::{first_time, next_time};
+use super::tables::change_values;
 use super::Stream;
 use crate::command::Command;
 use crate::plain::chains::{longest_chain, rounds_until_calm};
 use crate::plain::drawing::{Drawing, Port, Record, COMPONENT, CONNECTION, INPUT_MAP, OUTPUT_MAP};
 use crate::plain::judge::judge;
+use crate::plain::net::entries;
+use crate::plain::running::wires;
+use crate::tables::{Tables, COMPONENTS, CURRENT, INPUTS, OUTPUTS};
 use std::io::{Result, Write};
 
 const NOT: u8 = 3;
@@ -35,7 +40,44 @@ pub fn one<W: Write>(random: &mut Random, stream: &mut Stream<W>) -> Result<()> 
         }
         stream.put(Command::State)?;
     }
-    Ok(())
+    from_other_values(random, stream)
+}
+
+/// Any values but at the outputs of Switches and at inputs without a wire, every component listed, and as many rounds as
+/// the longest chain asks for.
+fn from_other_values<W: Write>(random: &mut Random, stream: &mut Stream<W>) -> Result<()> {
+    let settled = &stream.program.tables;
+    let longest = longest_chain(settled).expect("no cycle is left");
+    let mut other = settled.clone();
+    change_values(random, &mut other);
+    keep_undriven(settled, &mut other);
+    other.put(CURRENT, &(0..settled.counts[COMPONENTS]).collect::<Vec<u64>>());
+    for table in [INPUTS, OUTPUTS, CURRENT] {
+        let words = other.used(table).to_vec();
+        stream.put(Command::WriteWords { table: table as u8, place: 0, words })?;
+    }
+    stream.put(Command::SetCount { which: CURRENT as u8, number: other.counts[CURRENT] })?;
+    for _ in 0..longest {
+        one_round(random, stream, 0)?;
+    }
+    stream.put_all([Command::Calm, Command::State])
+}
+
+/// The outputs of Switches, and inputs without a wire, hold in one what they hold in the other.
+fn keep_undriven(from: &Tables, to: &mut Tables) {
+    let wires = wires(from);
+    for (index, entry) in entries(from).iter().enumerate() {
+        if entry.fields.kind == SWITCH as u64 {
+            to.words_mut(OUTPUTS)[entry.first_output as usize] =
+                from.words[OUTPUTS][entry.first_output as usize];
+        }
+        for port in 0..entry.fields.inputs {
+            if !wires.iter().any(|wire| (wire[2], wire[3]) == (index as u64, port)) {
+                let place = (entry.first_input + port) as usize;
+                to.words_mut(INPUTS)[place] = from.words[INPUTS][place];
+            }
+        }
+    }
 }
 
 /// A round in the stored order or in another; now and then one before it that is refused, and counts for nothing.
