@@ -240,11 +240,11 @@ uint32_t berxundar_round(
     uint16_t *following, size_t following_length, uint16_t *standing, size_t standing_length, uint64_t *counts,
     size_t counts_length, uint64_t time, uint64_t *moved, size_t moved_length);
 
-/* The same with an order of all wires: 2, 16, 24. `order` has 1,024 entries or more, of which the first, as many as there are wires,
- * are numbers of wires, each wire once: wire k is the one whose words begin at wires[4 * k]. Those past them are not looked at. Each
- * component sends along its own wires in the order in which they stand there, so that the components it changes are listed in that
- * order; it may be another in every round. The numbers in order, 0, 1, 2 and so on, give the round above. In whatever orders rounds
- * run, what is said of lighting holds. */
+/* The same with an order of all wires: 2, 16, 24. `order` has 1,024 entries or more, of which the first, as many as there are
+ * wires, are numbers of wires, each wire once: wire k is the one whose words begin at wires[4 * k]. Entries past them are not looked
+ * at. Each component sends along its own wires in the order in which they stand there, so that the components that it changes are
+ * listed in that order; it may be another one in every round. The numbers in order, 0, 1, 2 and so on, give the round above. In
+ * whatever orders rounds run, what is said of lighting holds. */
 uint32_t berxundar_round_ordered(
     const uint64_t *components, size_t components_length, uint64_t *inputs, size_t inputs_length, uint64_t *outputs,
     size_t outputs_length, const uint16_t *wires, size_t wires_length, uint16_t *current, size_t current_length,

@@ -1,13 +1,13 @@
 /*
- * What the header says beside the calls' own rules: NULL with length 0 is an empty file and a table of no words, so that each
- * call answers as for any short table (2), a load, a look and a mending as for an empty file (1), and a component without ports
- * is evaluated; a net of zeros is one of no components, the net of a root alone, which is looked at along no path; a sentence
- * belongs to an answer and to its number; half of the votes are not most of them; of two records that meet the first call says
- * 13, and the others what they are; an edit goes first, or stands, the old way, and both may be mixed; while an edit waits a net
- * is not calm, and not satisfied where it has something to change; a bit is set for each output that an evaluation changes, and
- * too little room for the bits is 2; a round in an order of wires follows it, and one that is none is 24; a mending writes what comes out and the positions that it drops, and where it is refused
- * nothing; the slow engine answers and writes what the other calls do, and refuses what is not the file's with 20. Leaves with 1 at
- * the first other answer.
+ * What the header says beside the calls' own rules: NULL with length 0 is an empty file and a table of no words, so that each call
+ * answers as for any short table (2), a load, a look and a mending as for an empty file (1), and a component without ports is
+ * evaluated; a net of zeros is one of no components, the net of a root alone, which is looked at along no path; a sentence belongs
+ * to an answer and to its number; half of the votes are not most of them; of two records that meet the first call says 13, and the
+ * others what they are; an edit goes first, or stands, the old way, and both may be mixed; while an edit waits a net is not calm,
+ * and not satisfied where it has something to change; a bit is set for each output that an evaluation changes, and too little room
+ * for the bits is 2; a round in an order of wires follows it, and one that is none is 24; a mending writes what comes out and the
+ * positions that it drops, and where it is refused nothing; the slow engine answers and writes what the other calls do, and
+ * refuses what is not the file's with 20. Leaves with 1 at the first other answer.
  */
 #include "berxundar.h"
 
@@ -396,7 +396,8 @@ static int refused_in_order(size_t entries, size_t words, uint32_t number)
     for (i = 0; i < BERXUNDAR_MOVED; i++)
         bits[i] = 9;
     before = net;
-    if (berxundar_round_ordered(BERXUNDAR_LENT(&net), net.counts, 7, 0, order, entries, bits, words) != NUMBER(number) || !same_net(&before))
+    if (berxundar_round_ordered(BERXUNDAR_LENT(&net), net.counts, 7, 0, order, entries, bits, words) != NUMBER(number)
+        || !same_net(&before))
         return 0;
     for (i = 0; i < BERXUNDAR_MOVED; i++)
         if (bits[i] != 9)
@@ -410,8 +411,8 @@ static int refused_in_order(size_t entries, size_t words, uint32_t number)
  */
 static int no_order(void)
 {
-    static const uint16_t none[][3] = { { 0, 1, 1 }, { 2, 1, 2 }, { 0, 0, 0 }, { 0, 1, 3 }, { 3, 1, 2 }, { 0, 1024, 2 }, { 0, 1, 65535 },
-        { 256, 1, 2 } };
+    static const uint16_t none[][3] = { { 0, 1, 1 }, { 2, 1, 2 }, { 0, 0, 0 }, { 0, 1, 3 }, { 3, 1, 2 }, { 0, 1024, 2 },
+        { 0, 1, 65535 }, { 256, 1, 2 } };
     size_t i;
     if (load_fan() != 0)
         return 0;
@@ -653,5 +654,6 @@ static int not_the_files(void)
 int main(void)
 {
     return !(zeros() && nothing_lent() && looked_at() && joined() && split() && voted() && sentences() && met() && went_first()
-        && waited() && judged() && bits_moved() && no_order() && in_order() && mended_up() && nothing_lent_slowly() && ran_slowly() && not_the_files());
+        && waited() && judged() && bits_moved() && no_order() && in_order() && mended_up() && nothing_lent_slowly() && ran_slowly()
+        && not_the_files());
 }

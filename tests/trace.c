@@ -367,13 +367,15 @@ static int run_round(int ordered)
 {
     uint8_t bytes[8];
     uint64_t *bits, evaluated = net.counts[CURRENT], time, i;
+    uint16_t *row;
     uint32_t answer;
     if (!take(bytes, 8))
         return 0;
     time = number_in(bytes, 8);
     lend_all(0, 0);
     bits = (uint64_t *)lend(19, moved, 8 * lent[MOVED]);
-    answer = ordered ? berxundar_round_ordered(NOW, time, (uint16_t *)lend(29, order, 2 * lent[ORDER]), lent[ORDER], bits, lent[MOVED])
+    row = (uint16_t *)lend(29, order, 2 * lent[ORDER]);
+    answer = ordered ? berxundar_round_ordered(NOW, time, row, lent[ORDER], bits, lent[MOVED])
                      : berxundar_round(NOW, time, bits, lent[MOVED]);
     back_all(0);
     back(moved, bits, 8 * lent[MOVED]);

@@ -1,7 +1,7 @@
 //! Drawings without Clocks whose wires form no cycle. Each is loaded twice, and after a load rounds are run, in the
 //! stored order and in others, at any times, some past the number after which it must be calm; calm and satisfied are
-//! asked after each, and the state is shown at the end. Then rounds from any other values on, which must come to the same.
-//! `tests/settled` reads the commands and the answers.
+//! asked after each, and the state is shown at the end. Then rounds from any other values on, which must come to the
+//! same. `tests/settled` reads the commands and the answers.
 
 use super::drawing::{blank, boxes_profile, drawing, file_of, running_profile, voting};
 use super::nest::nest;
