@@ -67,6 +67,10 @@
  * nothing but Clocks: no edit waits, and nothing else is left to evaluate. So satisfied may say 1 some rounds before calm does, as
  * long as those that wait have nothing to change; it looks only at what the lists name, and is asked after each round.
  * `berxundar_run_until_calm` runs rounds until calm, up to a limit. Before the first round light nothing.
+ *
+ * HOW SOON: of a drawing without Clocks whose wires form no cycle, let D be the most components on any chain of wires. With no edit
+ * since the load it is calm after D rounds, or after 2 where D is less, and stays so, at whatever times and in whatever orders of
+ * wires they run. `./berxundar settles FILE` says D. Of other drawings nothing is promised.
  */
 #ifndef BERXUNDAR_H
 #define BERXUNDAR_H
@@ -86,6 +90,7 @@ extern "C" {
 #define BERXUNDAR_NAMES 256 /* of a list of components */
 #define BERXUNDAR_SHOWN 256 /* of a list of numbers, or of widths, that a look shows */
 #define BERXUNDAR_MOVED 256 /* of the bits of a round, a word for each component evaluated */
+#define BERXUNDAR_ORDER 1024 /* of an order of all wires */
 #define BERXUNDAR_COUNTS 7
 #define BERXUNDAR_SLOW_COUNTS 5
 
@@ -151,7 +156,7 @@ enum {
     BERXUNDAR_SAME_ID = 10, BERXUNDAR_TOO_MANY_PORTS = 11, BERXUNDAR_NO_CHILD = 12, BERXUNDAR_ENTERED_TWICE = 13,
     BERXUNDAR_OUTPUT_MAPS = 14, BERXUNDAR_WIDTHS_DIFFER = 15, BERXUNDAR_NO_NET = 16, BERXUNDAR_NOT_FOUND = 17,
     BERXUNDAR_NOT_SETTABLE = 18, BERXUNDAR_NO_FIT = 19, BERXUNDAR_NO_PATH = 20, BERXUNDAR_NOTHING_BEHIND = 21,
-    BERXUNDAR_WIRE_AND_MAP = 22, BERXUNDAR_TWO_MAPS = 23
+    BERXUNDAR_WIRE_AND_MAP = 22, BERXUNDAR_TWO_MAPS = 23, BERXUNDAR_NO_ORDER = 24
 };
 
 /* The number of an answer. */
@@ -193,11 +198,12 @@ static inline const char *berxundar_words(uint32_t answer_or_number)
     case BERXUNDAR_NOTHING_BEHIND: return "an input of the composite leads to no component inside it, so it has no value";
     case BERXUNDAR_WIRE_AND_MAP: return "the input map enters an input that a connection has entered";
     case BERXUNDAR_TWO_MAPS: return "the input map enters an input that an earlier input map has entered";
+    case BERXUNDAR_NO_ORDER: return "the order of wires does not name each wire once";
     default: return "this is no number of the engine";
     }
 }
 
-/* ---- The twenty-two calls, with every pointer and its length in entries of the pointer's type. What is marked `const` is only
+/* ---- The twenty-three calls, with every pointer and its length in entries of the pointer's type. What is marked `const` is only
  * read; the numbers behind a colon are those of the refusals that a call can give. ---- */
 
 /* Judges the bytes of a file as a load would, without tables: 1, 3 to 15. Two records that enter one input are 13 here, whatever
@@ -233,6 +239,17 @@ uint32_t berxundar_round(
     size_t outputs_length, const uint16_t *wires, size_t wires_length, uint16_t *current, size_t current_length,
     uint16_t *following, size_t following_length, uint16_t *standing, size_t standing_length, uint64_t *counts,
     size_t counts_length, uint64_t time, uint64_t *moved, size_t moved_length);
+
+/* The same with an order of all wires: 2, 16, 24. `order` has 1,024 entries or more, of which the first, as many as there are
+ * wires, are numbers of wires, each wire once: wire k is the one whose words begin at wires[4 * k]. Entries past them are not looked
+ * at. Each component sends along its own wires in the order in which they stand there, so that the components that it changes are
+ * listed in that order; it may be another one in every round. The numbers in order, 0, 1, 2 and so on, give the round above. In
+ * whatever orders rounds run, what is said of lighting holds. */
+uint32_t berxundar_round_ordered(
+    const uint64_t *components, size_t components_length, uint64_t *inputs, size_t inputs_length, uint64_t *outputs,
+    size_t outputs_length, const uint16_t *wires, size_t wires_length, uint16_t *current, size_t current_length,
+    uint16_t *following, size_t following_length, uint16_t *standing, size_t standing_length, uint64_t *counts,
+    size_t counts_length, uint64_t time, const uint16_t *order, size_t order_length, uint64_t *moved, size_t moved_length);
 
 /* Sets the component at an index, a Switch or an Input that no wire enters, and appends it to the current list unless there, so
  * that the very next round evaluates it, whatever edits come between: 2, 16, 17, 18, 19. */
@@ -419,6 +436,14 @@ static inline uint32_t berxundar_net_round(berxundar_net *net, uint64_t time, ui
 {
     uint64_t unasked[BERXUNDAR_MOVED];
     return berxundar_round(BERXUNDAR_LENT(net), net->counts, BERXUNDAR_COUNTS, time, moved ? moved : unasked, BERXUNDAR_MOVED);
+}
+
+/* `order` has 1,024 entries, and `moved` room for 256, or is NULL where nobody asks. */
+static inline uint32_t berxundar_net_round_ordered(berxundar_net *net, uint64_t time, const uint16_t *order, uint64_t *moved)
+{
+    uint64_t unasked[BERXUNDAR_MOVED];
+    return berxundar_round_ordered(BERXUNDAR_LENT(net), net->counts, BERXUNDAR_COUNTS, time, order, BERXUNDAR_ORDER,
+        moved ? moved : unasked, BERXUNDAR_MOVED);
 }
 
 /* The next round evaluates it. */

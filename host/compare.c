@@ -80,14 +80,9 @@ static void end_progress(void)
 /* The words of the component at an index in the flat engine's table. */
 static const uint64_t *words_of(uint64_t index) { return flat.components + BERXUNDAR_WORDS_OF_COMPONENT * index; }
 
-/* The component at an index: the one in the file with so many before it that are no composites. */
 static void say_component(uint64_t index)
 {
-    size_t position;
-    for (position = 0; record_in(bytes, length, position).form == COMPONENT; position++)
-        if (record_in(bytes, length, position).kind != BERXUNDAR_COMPOSITE && index-- == 0)
-            break;
-    refusal_say_component(stdout, bytes, length, position);
+    refusal_say_component(stdout, bytes, length, record_primitive(bytes, length, (size_t)index));
 }
 
 /* Says after which call they differ, and begins the line that says where. */

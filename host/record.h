@@ -53,6 +53,16 @@ static inline size_t record_component(const uint8_t *bytes, size_t length, size_
     return RECORD_NOWHERE;
 }
 
+/* The component of a drawing at an index, which has so many before it that are no composites: its position. */
+static inline size_t record_primitive(const uint8_t *bytes, size_t length, size_t index)
+{
+    size_t position;
+    for (position = 0; record_in(bytes, length, position).form == COMPONENT; position++)
+        if (record_in(bytes, length, position).kind != BERXUNDAR_COMPOSITE && index-- == 0)
+            return position;
+    return RECORD_NOWHERE;
+}
+
 /* Child `number` of component `owner`: its position. The root, which is component 0, is nobody's child. */
 static inline size_t record_child(const uint8_t *bytes, size_t length, unsigned owner, unsigned number)
 {

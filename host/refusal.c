@@ -493,7 +493,7 @@ static void explain_in_particular(const drawing *of, unsigned number, size_t pos
     }
 }
 
-/* What to do about a refusal of a file; a null pointer where no file is at fault. */
+/* What to do about a refusal of a file, or of what is lent beside it; a null pointer where there is nothing to say. */
 static const char *advice(unsigned number)
 {
     switch (number) {
@@ -515,6 +515,7 @@ static const char *advice(unsigned number)
     case BERXUNDAR_WIDTHS_DIFFER: return "give both ends the same number of bits, or put a Splitter or a Joiner between them";
     case BERXUNDAR_NO_PATH: return "lend what a load of this very file has written, and write to it through calls alone";
     case BERXUNDAR_NOTHING_BEHIND: return "lead the input to a component inside with an input map, or look at one inside instead";
+    case BERXUNDAR_NO_ORDER: return "name each wire once, by its place in the table of wires, from 0";
     default: return NULL;
     }
 }

@@ -1,13 +1,13 @@
 /*
- * What the header says beside the calls' own rules: NULL with length 0 is an empty file and a table of no words, so that each
- * call answers as for any short table (2), a load, a look and a mending as for an empty file (1), and a component without ports
- * is evaluated; a net of zeros is one of no components, the net of a root alone, which is looked at along no path; a sentence
- * belongs to an answer and to its number; half of the votes are not most of them; of two records that meet the first call says
- * 13, and the others what they are; an edit goes first, or stands, the old way, and both may be mixed; while an edit waits a net
- * is not calm, and not satisfied where it has something to change; a bit is set for each output that an evaluation changes, and
- * too little room for the bits is 2; a mending writes what comes out and the positions that it drops, and where it is refused
- * nothing; the slow engine answers and writes what the other calls do, and refuses what is not the file's with 20. Leaves with 1 at
- * the first other answer.
+ * What the header says beside the calls' own rules: NULL with length 0 is an empty file and a table of no words, so that each call
+ * answers as for any short table (2), a load, a look and a mending as for an empty file (1), and a component without ports is
+ * evaluated; a net of zeros is one of no components, the net of a root alone, which is looked at along no path; a sentence belongs
+ * to an answer and to its number; half of the votes are not most of them; of two records that meet the first call says 13, and the
+ * others what they are; an edit goes first, or stands, the old way, and both may be mixed; while an edit waits a net is not calm,
+ * and not satisfied where it has something to change; a bit is set for each output that an evaluation changes, and too little room
+ * for the bits is 2; a round in an order of wires follows it, and one that is none is 24; a mending writes what comes out and the
+ * positions that it drops, and where it is refused nothing; the slow engine answers and writes what the other calls do, and
+ * refuses what is not the file's with 20. Leaves with 1 at the first other answer.
  */
 #include "berxundar.h"
 
@@ -19,6 +19,7 @@
 static berxundar_net net;
 static berxundar_slow_net slow;
 static berxundar_single single;
+static uint16_t order[BERXUNDAR_ORDER + 1];
 
 static int nothing_lent(void)
 {
@@ -30,6 +31,12 @@ static int nothing_lent(void)
         && berxundar_load(NONE, SEVEN, NONE) == NUMBER(1) && berxundar_round(SEVEN, NONE, 3, NONE) == NUMBER(2)
         && berxundar_round(SEVEN, net.counts, 7, 3, numbers, 256) == NUMBER(2)
         && berxundar_round(BERXUNDAR_LENT(&net), net.counts, 7, 3, NONE) == NUMBER(2)
+        && berxundar_round_ordered(SEVEN, NONE, 3, NONE, NONE) == NUMBER(2)
+        && berxundar_round_ordered(SEVEN, net.counts, 7, 3, order, BERXUNDAR_ORDER, numbers, 256) == NUMBER(2)
+        && berxundar_round_ordered(BERXUNDAR_LENT(&net), NONE, 3, order, BERXUNDAR_ORDER, numbers, 256) == NUMBER(2)
+        && berxundar_round_ordered(BERXUNDAR_LENT(&net), net.counts, 6, 3, order, BERXUNDAR_ORDER, numbers, 256) == NUMBER(2)
+        && berxundar_round_ordered(BERXUNDAR_LENT(&net), net.counts, 7, 3, NONE, numbers, 256) == NUMBER(2)
+        && berxundar_round_ordered(BERXUNDAR_LENT(&net), net.counts, 7, 3, order, BERXUNDAR_ORDER, NONE) == NUMBER(2)
         && berxundar_edit(SEVEN, NONE, 3, 3) == NUMBER(2) && berxundar_edit(SEVEN, net.counts, 7, 3, 3) == NUMBER(2)
         && berxundar_edit_standing(SEVEN, NONE, 3, 3) == NUMBER(2) && berxundar_edit_standing(SEVEN, net.counts, 7, 3, 3) == NUMBER(2)
         && berxundar_run_until_calm(SEVEN, NONE, 3, 3, NONE) == NUMBER(2)
@@ -61,7 +68,8 @@ static int nothing_lent(void)
 static int zeros(void)
 {
     uint64_t calm = 0, satisfied = 0, rounds = 9, moved = 9;
-    return berxundar_net_check(&net) == 0 && berxundar_net_calm(&net, &calm) == 0 && calm == 1
+    return berxundar_net_check(&net) == 0 && berxundar_net_round_ordered(&net, 3, order, NULL) == 0
+        && berxundar_net_calm(&net, &calm) == 0 && calm == 1
         && berxundar_net_satisfied(&net, &satisfied) == 0 && satisfied == 1
         && berxundar_net_run_until_calm(&net, 5, 7, &rounds, NULL, &moved) == 0 && rounds == 1 && moved == 0
         && berxundar_net_edit(&net, 0, 0) == NUMBER(17) && berxundar_net_edit_standing(&net, 0, 0) == NUMBER(17);
@@ -159,7 +167,7 @@ static int voted(void)
 static int sentences(void)
 {
     uint32_t a, b;
-    for (a = 0; a <= 24; a++) {
+    for (a = 0; a <= 25; a++) {
         if (berxundar_words(a) != berxundar_words(NUMBER(a) + (a ? 1023 : 0)))
             return 0;
         for (b = 0; b < a; b++)
@@ -338,6 +346,124 @@ static int bits_moved(void)
     if (berxundar_net_round(&net, 0, bits) != 0 || bits[0] != 0 || bits[1] != 9)
         return 0;
     return berxundar_net_round(&net, 0, bits) == 0 && bits[0] == 0 && bits[1] == 1;
+}
+
+/* ---- Rounds in an order of wires. ---- */
+
+/* Draws a Const that is 1 and leads to three Outputs, one wire to each, and loads it. */
+static uint32_t load_fan(void)
+{
+    static uint8_t fan[8 * BERXUNDAR_RECORD];
+    uint8_t i;
+    record(fan, 1, BERXUNDAR_COMPOSITE, 0, 0, 0, 0, 1);
+    record(fan + 24, 1, BERXUNDAR_CONST, 0, 0, 1, 1, 2);
+    fan[24 + 16] = 1;
+    for (i = 0; i < 3; i++) {
+        record(fan + 24 * (2 + i), 1, BERXUNDAR_OUTPUT, 0, 1, 1, 0, (uint8_t)(3 + i));
+        fan[24 * (2 + i) + 16] = 1;
+        record(fan + 24 * (5 + i), 2, 0, 0, 0, 0, (uint8_t)(1 + i), 0);
+    }
+    return berxundar_net_load(&net, fan, sizeof fan);
+}
+
+/* The order of the three wires; words behind it that are none. */
+static void lay_order(uint16_t first, uint16_t second, uint16_t third)
+{
+    size_t i;
+    order[0] = first;
+    order[1] = second;
+    order[2] = third;
+    for (i = 3; i <= BERXUNDAR_ORDER; i++)
+        order[i] = 65535;
+}
+
+/* Whether a net has the words of another. */
+static int same_net(const berxundar_net *other)
+{
+    size_t i;
+    for (i = 0; i < sizeof net; i++)
+        if (((const uint8_t *)&net)[i] != ((const uint8_t *)other)[i])
+            return 0;
+    return 1;
+}
+
+/* Whether a round in the order, lent so many entries of it and so many words for bits, gives a number, and writes nothing. */
+static int refused_in_order(size_t entries, size_t words, uint32_t number)
+{
+    static berxundar_net before;
+    uint64_t bits[BERXUNDAR_MOVED];
+    size_t i;
+    for (i = 0; i < BERXUNDAR_MOVED; i++)
+        bits[i] = 9;
+    before = net;
+    if (berxundar_round_ordered(BERXUNDAR_LENT(&net), net.counts, 7, 0, order, entries, bits, words) != NUMBER(number)
+        || !same_net(&before))
+        return 0;
+    for (i = 0; i < BERXUNDAR_MOVED; i++)
+        if (bits[i] != 9)
+            return 0;
+    return 1;
+}
+
+/*
+ * An order that has a wire twice, or a number that is no wire's, is 24; tables that are no net are 16 before that, and too little
+ * room for the order, or for the bits, 2 before both.
+ */
+static int no_order(void)
+{
+    static const uint16_t none[][3] = { { 0, 1, 1 }, { 2, 1, 2 }, { 0, 0, 0 }, { 0, 1, 3 }, { 3, 1, 2 }, { 0, 1024, 2 },
+        { 0, 1, 65535 }, { 256, 1, 2 } };
+    size_t i;
+    if (load_fan() != 0)
+        return 0;
+    for (i = 0; i < sizeof none / sizeof none[0]; i++) {
+        lay_order(none[i][0], none[i][1], none[i][2]);
+        if (!refused_in_order(1024, 256, BERXUNDAR_NO_ORDER) || !refused_in_order(1023, 256, 2) || !refused_in_order(1024, 255, 2)
+            || !refused_in_order(3, 256, 2))
+            return 0;
+        net.counts[BERXUNDAR_COUNT_CURRENT] = 257;
+        if (!refused_in_order(1024, 256, 16) || !refused_in_order(1023, 256, 2) || !refused_in_order(1024, 255, 2))
+            return 0;
+        net.counts[BERXUNDAR_COUNT_CURRENT] = 4;
+    }
+    lay_order(0, 1, 2);
+    net.counts[BERXUNDAR_COUNT_WIRES] = 1025;
+    return refused_in_order(1024, 256, 16) && refused_in_order(1023, 256, 2);
+}
+
+/*
+ * The Outputs are listed in the order of the wires, behind the Const, which stood there before; each moves, bits past the four are
+ * kept, and so is the order. The stored order gives a plain round.
+ */
+static int in_order(void)
+{
+    static const uint16_t orders[6][3] = { { 0, 1, 2 }, { 0, 2, 1 }, { 1, 0, 2 }, { 1, 2, 0 }, { 2, 0, 1 }, { 2, 1, 0 } };
+    static berxundar_net plain;
+    uint64_t bits[BERXUNDAR_MOVED + 1];
+    size_t turn, i;
+    if (load_fan() != 0 || berxundar_net_round(&net, 0, NULL) != 0)
+        return 0;
+    plain = net;
+    for (turn = 0; turn < 6; turn++) {
+        const uint16_t *row = orders[turn];
+        for (i = 0; i <= BERXUNDAR_MOVED; i++)
+            bits[i] = 9;
+        lay_order(row[0], row[1], row[2]);
+        if (load_fan() != 0
+            || berxundar_round_ordered(BERXUNDAR_LENT(&net), net.counts, 7, 0, order, 1024 + turn % 2, bits, 256 + turn % 2) != 0
+            || !named(4, 0, 0) || net.current[0] != 0)
+            return 0;
+        for (i = 0; i < 3; i++)
+            if (net.current[1 + i] != 1 + row[i] || order[i] != row[i] || bits[1 + i] != 1 || net.inputs[i] != 1)
+                return 0;
+        for (i = 4; i <= BERXUNDAR_MOVED; i++)
+            if (bits[i] != 9)
+                return 0;
+        if (bits[0] != 0 || same_net(&plain) != (turn == 0) || order[3] != 65535)
+            return 0;
+    }
+    return berxundar_net_round_ordered(&net, 0, order, bits) == 0 && bits[0] == 0 && bits[3] == 0 && bits[4] == 9 && named(0, 0, 0)
+        && berxundar_net_round_ordered(&net, 0, order, NULL) == 0;
 }
 
 static uint8_t mended[BERXUNDAR_DAMAGED + 1];
@@ -528,5 +654,6 @@ static int not_the_files(void)
 int main(void)
 {
     return !(zeros() && nothing_lent() && looked_at() && joined() && split() && voted() && sentences() && met() && went_first()
-        && waited() && judged() && bits_moved() && mended_up() && nothing_lent_slowly() && ran_slowly() && not_the_files());
+        && waited() && judged() && bits_moved() && no_order() && in_order() && mended_up() && nothing_lent_slowly() && ran_slowly()
+        && not_the_files());
 }

@@ -13,11 +13,13 @@ static berxundar_slow_net slow;
 
 static uint32_t changed(const uint8_t *bytes, size_t length)
 {
+    static uint16_t order[BERXUNDAR_ORDER];
     uint64_t rounds, evaluations, moved, bits[BERXUNDAR_MOVED], found[2];
     return berxundar_judge(bytes, length) + (uint32_t)(berxundar_judge_pair(bytes, length) >> 16)
         + berxundar_earlier(1, bytes, length) + berxundar_mend_file(&mending, bytes, length)
         + berxundar_net_load(&net, bytes, length)
-        + berxundar_net_round(&net, 1, bits) + berxundar_net_edit(&net, 0, 1) + berxundar_net_edit_standing(&net, 0, 1)
+        + berxundar_net_round(&net, 1, bits) + berxundar_net_round_ordered(&net, 1, order, bits)
+        + berxundar_net_edit(&net, 0, 1) + berxundar_net_edit_standing(&net, 0, 1)
         + berxundar_net_run_until_calm(&net, 1, 2, &rounds, &evaluations, &moved)
         + berxundar_single_evaluate(&single, 1, &moved)
         + berxundar_mend(bytes, length, mended, sizeof mended, dropped, BERXUNDAR_DROPPED, found, 2);
@@ -45,7 +47,7 @@ static uint32_t asked(const berxundar_net *of)
 int main(void)
 {
     uint32_t answer = changed(NULL, 0) + asked(&net) + slowly(NULL, 0);
-    return berxundar_number(answer) == BERXUNDAR_TWO_MAPS && berxundar_position(answer) == BERXUNDAR_FILE
+    return berxundar_number(answer) == BERXUNDAR_NO_ORDER && berxundar_position(answer) == BERXUNDAR_FILE
         && mending.length == BERXUNDAR_DAMAGED && mending.count == BERXUNDAR_DROPPED
         && net.components[BERXUNDAR_WORD_FIRST_OUTPUT] == BERXUNDAR_CONST && net.wires[BERXUNDAR_WIRE_TO_INPUT] == BERXUNDAR_BITS
         && net.counts[BERXUNDAR_COUNT_STANDING] == BERXUNDAR_SIDE_OUTPUTS && berxundar_words(answer) == NULL

@@ -27,6 +27,9 @@ static uint64_t at = 5;
 static berxundar_net net, loaded, quiet, one, idle;
 static uint64_t found, moved[BERXUNDAR_MOVED];
 
+/* The stored order of any wires. */
+static uint16_t order[BERXUNDAR_ORDER];
+
 /* What a slow call works on: the ports and lists of the same states. */
 static berxundar_slow_net slow;
 
@@ -40,6 +43,7 @@ static uint32_t nothing(void) { return 0; }
 static uint32_t judge(void) { return berxundar_judge(bytes, length); }
 static uint32_t load(void) { return berxundar_net_load(&net, bytes, length); }
 static uint32_t run_round(void) { return berxundar_net_round(&net, at, moved); }
+static uint32_t run_round_ordered(void) { return berxundar_net_round_ordered(&net, at, order, moved); }
 static uint32_t run(void) { return berxundar_net_run_until_calm(&net, at, ROUNDS_MAX, NULL, NULL, NULL); }
 static uint32_t check(void) { return berxundar_net_check(&net); }
 static uint32_t satisfied(void) { return berxundar_net_satisfied(&net, &found); }
@@ -63,7 +67,8 @@ static const struct {
     { "net check", &quiet, check }, { "satisfied, none listed", &quiet, satisfied }, { "satisfied, one listed", &one, satisfied },
     { "satisfied, all listed", &idle, satisfied }, { "run until calm", &loaded, run }, { "mend", &loaded, mend },
     { "slow load", &loaded, slow_load }, { "slow round, all listed", &loaded, slow_round }, { "slow idle, all listed", &idle, slow_round },
-    { "slow quiet", &quiet, slow_round } };
+    { "slow quiet", &quiet, slow_round }, { "round in an order, all listed", &loaded, run_round_ordered },
+    { "idle in an order, all listed", &idle, run_round_ordered }, { "quiet in an order", &quiet, run_round_ordered } };
 
 /* A system call that no kernel has, which the plugin sees. */
 static void mark(long what, long name)
@@ -154,11 +159,14 @@ int main(int argc, char **argv)
     int with_time = argc == 3;
     long read = argc == 2 || with_time ? file_read(argv[1], bytes) : -1;
     int rounds = 0;
+    size_t i;
     if (read < 0) {
         fprintf(stderr, "usage: instructions FILE [TIME | mend]\n");
         return 1;
     }
     length = (size_t)read;
+    for (i = 0; i < BERXUNDAR_ORDER; i++)
+        order[i] = (uint16_t)i;
     if (with_time && strcmp(argv[2], "mend") == 0) {
         if (!measure_all(mend))
             return 1;

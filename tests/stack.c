@@ -16,6 +16,7 @@ static uint8_t bytes[FILE_ROOM];
 static size_t length;
 static berxundar_net net;
 static uint16_t list[BERXUNDAR_NAMES];
+static uint16_t order[BERXUNDAR_ORDER];
 static uint64_t found, moved[BERXUNDAR_MOVED];
 static berxundar_slow_net slow;
 static berxundar_single single;
@@ -64,6 +65,8 @@ static uint32_t judge_pair(void) { return (uint32_t)berxundar_judge_pair(bytes, 
 static uint32_t load(void) { return berxundar_net_load(&net, bytes, length); }
 static uint32_t run_round(void) { return berxundar_net_round(&net, 3, moved); }
 static uint32_t run_round_unasked(void) { return berxundar_net_round(&net, 3, NULL); }
+static uint32_t run_round_ordered(void) { return berxundar_net_round_ordered(&net, 3, order, moved); }
+static uint32_t run_round_ordered_unasked(void) { return berxundar_net_round_ordered(&net, 3, order, NULL); }
 static uint32_t run(void) { return berxundar_net_run_until_calm(&net, 4, 5, NULL, NULL, NULL); }
 static uint32_t edit(void) { return berxundar_net_edit(&net, 0, 1); }
 static uint32_t edit_standing(void) { return berxundar_net_edit_standing(&net, 0, 1); }
@@ -113,7 +116,9 @@ static const struct {
     size_t said;
 } calls[] = { { "judge", judge, 32000 }, { "judge a pair", judge_pair, 32000 }, { "load", load, 32000 },
     { "look at the root", look, 49152 }, { "look inside", look_inside, 49152 }, { "round", run_round, 12000 },
-    { "round, bits unasked", run_round_unasked, 12000 }, { "run until calm", run, 12000 }, { "edit", edit, 8000 },
+    { "round, bits unasked", run_round_unasked, 12000 }, { "round in an order", run_round_ordered, 12000 },
+    { "round in an order, bits unasked", run_round_ordered_unasked, 12000 }, { "run until calm", run, 12000 },
+    { "edit", edit, 8000 },
     { "edit, the old way", edit_standing, 8000 }, { "calm", calm, 8000 }, { "satisfied", satisfied, 8000 },
     { "index", index_of, 8000 }, { "value", value, 8000 }, { "sources", sources, 8000 }, { "targets", targets, 8000 },
     { "check", check, 8000 }, { "evaluate", evaluate, 8000 }, { "mend", mend, 98304 },
@@ -127,6 +132,8 @@ int main(void)
     size_t i, bytes_taken;
     int wrong = read < 0;
     length = read < 0 ? 0 : (size_t)read;
+    for (i = 0; i < BERXUNDAR_ORDER; i++)
+        order[i] = (uint16_t)i;
     single.kind = BERXUNDAR_AND;
     single.outputs = 1;
     single.output_widths[0] = 1;

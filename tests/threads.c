@@ -1,9 +1,9 @@
 /*
  * Calls on different nets in several threads at once: threads <FILE. Each thread loads the drawing on standard input over and
- * over, sets its first component where that can be set, runs it and looks at that component, which stands right below the root, on
- * a net of its own, makes the same calls in the slow engine, and mends the drawing with a part of a record behind it. Leaves with 1
- * where a net, what a look showed, which outputs moved, what the slow engine is lent, or what was mended, does not end up with the
- * very words that a single thread's has.
+ * over, sets its first component where that can be set, runs it, in an order of wires too, which all threads are lent and none
+ * writes, and looks at that component, which stands right below the root, on a net of its own, makes the same calls in the slow
+ * engine, and mends the drawing with a part of a record behind it. Leaves with 1 where a net, what a look showed, which outputs
+ * moved, what the slow engine is lent, or what was mended, does not end up with the very words that a single thread's has.
  */
 #include "berxundar.h"
 #include "file.h"
@@ -18,6 +18,7 @@ int pthread_join(unsigned long thread, void **ended);
 
 static uint8_t bytes[FILE_ROOM + 1];
 static size_t length;
+static uint16_t order[BERXUNDAR_ORDER];
 
 /* What a thread has of its own. */
 typedef struct {
@@ -58,6 +59,8 @@ static void *work(void *argument)
         berxundar_net_edit(net, 0, (uint64_t)turn % 2);
         berxundar_net_run_until_calm(net, (uint64_t)turn, 20, NULL, NULL, NULL);
         berxundar_net_round(net, 7, mine->moved);
+        berxundar_net_edit(net, 0, (uint64_t)turn % 3 / 2);
+        berxundar_net_round_ordered(net, 8, order, mine->moved);
         first = (uint32_t)net->components[BERXUNDAR_WORD_ID];
         berxundar_net_look(net, bytes, length, &first, 1, &mine->box);
         berxundar_mend(bytes, length + 1, mine->mended, sizeof mine->mended, mine->dropped, BERXUNDAR_DROPPED, mine->found, 2);
@@ -74,6 +77,8 @@ int main(void)
     if (read < 0)
         return 2;
     length = (size_t)read;
+    for (i = 0; i < BERXUNDAR_ORDER; i++)
+        order[i] = (uint16_t)i;
     work(&owns[THREADS]);
     for (i = 0; i < THREADS; i++)
         if (pthread_create(&threads[i], NULL, work, &owns[i]) != 0)

@@ -14,11 +14,11 @@ long write(int file, const void *from, size_t count);
 enum {
     COMPONENTS, INPUTS, OUTPUTS, WIRES, CURRENT, FOLLOWING, STANDING, TABLES,
     LIST = TABLES, NUMBERS, WIDTHS, MOVED, MENDED, DROPPED,
-    SLOW_INPUTS, SLOW_OUTPUTS, SLOW_CURRENT, SLOW_FOLLOWING, SLOW_STANDING, LENT
+    SLOW_INPUTS, SLOW_OUTPUTS, SLOW_CURRENT, SLOW_FOLLOWING, SLOW_STANDING, ORDER, LENT
 };
 
 /* The counts of the slow engine, each in the place that its table has among the five. */
-#define SLOW_COUNTS (LENT - SLOW_INPUTS)
+#define SLOW_COUNTS (ORDER - SLOW_INPUTS)
 
 /* Of a file of more bytes, which is read to its end, so many stand for it: they are too many as well. */
 #define LONGEST 30000
@@ -32,7 +32,8 @@ enum {
 
 static const size_t full_words[LENT] = { BERXUNDAR_COMPONENT_WORDS, BERXUNDAR_INPUTS, BERXUNDAR_OUTPUTS, BERXUNDAR_WIRE_WORDS,
     BERXUNDAR_NAMES, BERXUNDAR_NAMES, BERXUNDAR_NAMES, BERXUNDAR_NAMES, BERXUNDAR_SHOWN, BERXUNDAR_SHOWN, BERXUNDAR_MOVED,
-    LONGEST, BERXUNDAR_DROPPED, BERXUNDAR_INPUTS, BERXUNDAR_OUTPUTS, BERXUNDAR_NAMES, BERXUNDAR_NAMES, BERXUNDAR_NAMES };
+    LONGEST, BERXUNDAR_DROPPED, BERXUNDAR_INPUTS, BERXUNDAR_OUTPUTS, BERXUNDAR_NAMES, BERXUNDAR_NAMES, BERXUNDAR_NAMES,
+    BERXUNDAR_ORDER };
 static const size_t full_entries[TABLES] = { BERXUNDAR_COMPONENTS, BERXUNDAR_INPUTS, BERXUNDAR_OUTPUTS, BERXUNDAR_WIRES,
     BERXUNDAR_NAMES, BERXUNDAR_NAMES, BERXUNDAR_NAMES };
 static const char *const table_names[TABLES]
@@ -44,7 +45,7 @@ static berxundar_box box;
 static uint64_t moved[BERXUNDAR_MOVED];
 static uint64_t found[3];
 static uint8_t file[LONGEST], kept[LONGEST], mended[LONGEST];
-static uint16_t dropped[BERXUNDAR_DROPPED];
+static uint16_t dropped[BERXUNDAR_DROPPED], order[BERXUNDAR_ORDER];
 /* The slow engine's own tables and counts. */
 static struct {
     uint64_t inputs[BERXUNDAR_INPUTS], outputs[BERXUNDAR_OUTPUTS], counts[SLOW_COUNTS];
@@ -186,7 +187,7 @@ int mprotect(void *at, size_t length, int allowed);
 
 #define PAGE 4096
 #define ROOM (8 * PAGE)
-#define PLACES 29
+#define PLACES 30
 
 static uint8_t *places[PLACES];
 
@@ -361,16 +362,21 @@ static int load(void)
     return 1;
 }
 
-static int run_round(void)
+/* A round, in the stored order of wires or in the one of its table, which is only read. */
+static int run_round(int ordered)
 {
     uint8_t bytes[8];
-    uint64_t *bits, evaluated = net.counts[CURRENT], i;
+    uint64_t *bits, evaluated = net.counts[CURRENT], time, i;
+    uint16_t *row;
     uint32_t answer;
     if (!take(bytes, 8))
         return 0;
+    time = number_in(bytes, 8);
     lend_all(0, 0);
     bits = (uint64_t *)lend(19, moved, 8 * lent[MOVED]);
-    answer = berxundar_round(NOW, number_in(bytes, 8), bits, lent[MOVED]);
+    row = (uint16_t *)lend(29, order, 2 * lent[ORDER]);
+    answer = ordered ? berxundar_round_ordered(NOW, time, row, lent[ORDER], bits, lent[MOVED])
+                     : berxundar_round(NOW, time, bits, lent[MOVED]);
     back_all(0);
     back(moved, bits, 8 * lent[MOVED]);
     put_words("round");
@@ -795,6 +801,7 @@ static uint16_t *shorts_of(unsigned table)
     case STANDING: return net.standing;
     case LIST: return list;
     case DROPPED: return dropped;
+    case ORDER: return order;
     case SLOW_CURRENT: return slow.current;
     case SLOW_FOLLOWING: return slow.following;
     case SLOW_STANDING: return slow.standing;
@@ -870,7 +877,7 @@ static int set_count(void)
         return 0;
     if (bytes[0] < TABLES)
         net.counts[bytes[0]] = number_in(bytes + 1, 8);
-    else if (SLOW_INPUTS <= bytes[0] && bytes[0] < LENT)
+    else if (SLOW_INPUTS <= bytes[0] && bytes[0] <= SLOW_STANDING)
         slow.counts[bytes[0] - SLOW_INPUTS] = number_in(bytes + 1, 8);
     return 1;
 }
@@ -896,7 +903,8 @@ static int answer_one(uint8_t letter)
     case 'N': show_net(); return 1;
     case 'P': show_state(); return 1;
     case 'A': show_all(); return 1;
-    case 'R': return run_round();
+    case 'R': return run_round(0);
+    case 'O': return run_round(1);
     case 'E': return edit(0);
     case 'G': return edit(1);
     case 'U': return run();

@@ -188,6 +188,22 @@ impl Engine {
         updates.map(|(before, after)| bits_between(before, after)).collect()
     }
 
+    /// Added: a pass in which each component's connections stand in the order of all wires that is
+    /// handed in, where logix would shuffle them; afterwards they stand as they did.
+    pub fn round_ordered(&mut self, order: &[u64], time: u64) -> Vec<u64> {
+        let stored = self.simulator.state(|state| {
+            let mut ordered = vec![vec![]; state.comp.connections.len()];
+            for wire in order {
+                let conn = state.comp.flat_conns[*wire as usize];
+                ordered[conn.from.0].push(conn);
+            }
+            std::mem::replace(&mut state.comp.connections, ordered)
+        });
+        let bits = self.round(time);
+        self.simulator.state(|state| state.comp.connections = stored);
+        bits
+    }
+
     /// How many components the next round evaluates.
     pub fn current_length(&mut self) -> u64 {
         self.simulator.state(|state| state.local_upd_list.len() as u64)

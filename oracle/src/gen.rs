@@ -12,8 +12,10 @@ mod load;
 pub mod look;
 pub mod mend;
 mod nest;
+pub mod order;
 pub mod random;
 pub mod rounds;
+pub mod settle;
 pub mod slow;
 pub mod tables;
 mod torn;
@@ -30,7 +32,8 @@ use std::collections::BTreeMap;
 use std::io::{BufWriter, Error, Result, Write};
 
 const USAGE: &str =
-    "usage: oracle | oracle gen evaluate|judge|load|run|tables|look|votes|mend|slow SEED COUNT [--stats]";
+    "usage: oracle | oracle gen evaluate|judge|load|run|tables|look|votes|mend|slow|order|settle \
+                     SEED COUNT [--stats]";
 
 pub fn usage() -> Result<()> {
     Err(Error::other(USAGE))
@@ -42,8 +45,9 @@ pub struct Stream<W: Write> {
     output: BufWriter<W>,
     program: Program,
     /// How often each answer was given, by its line's first two words, those of the slow
-    /// engine apart; how often each clause was the first that the tables broke; what mending
-    /// dropped; and which checks of the slow engine failed together.
+    /// engine and of rounds in an order apart; how often each clause was the first that the
+    /// tables broke; what mending dropped; which checks of the slow engine, and of rounds in an
+    /// order, failed together; and how often an order told.
     answers: BTreeMap<String, u64>,
 }
 
@@ -57,21 +61,25 @@ impl<W: Write> Stream<W> {
         let mut bytes = Vec::new();
         command.write(&mut bytes);
         let mut lines = String::new();
+        let before = self.program.tables.clone();
         self.program.answer(&command, &mut lines);
         if lines.starts_with("calm 16") {
             let clause = broken(&self.program.tables).unwrap_or("");
             *self.answers.entry(format!("not a net: {clause}")).or_default() += 1;
         }
-        let slow = slow::is_call(&command);
+        let (apart, counted) = match command {
+            Command::RoundOrdered { time } => {
+                (Some("ordered"), order::counted(&before, &self.program.tables, time))
+            }
+            _ if slow::is_call(&command) => (Some("slow"), slow::counted(&self.program, &command)),
+            _ => (None, vec![]),
+        };
         if let Some(first) = lines.lines().next() {
-            let words: Vec<&str> =
-                slow.then_some("slow").into_iter().chain(first.split(' ').take(2)).collect();
+            let words: Vec<&str> = apart.into_iter().chain(first.split(' ').take(2)).collect();
             *self.answers.entry(words.join(" ")).or_default() += 1;
         }
-        if slow {
-            for one in slow::counted(&self.program, &command) {
-                *self.answers.entry(one).or_default() += 1;
-            }
+        for one in counted {
+            *self.answers.entry(one).or_default() += 1;
         }
         if lines.starts_with("mend 0 ") || lines.starts_with("mend 1 ") {
             self.count_dropped(lines.starts_with("mend 0 "));
@@ -140,6 +148,8 @@ pub fn run(words: &[String], output: impl Write) -> Result<()> {
             "votes" => votes::one(&mut random, &mut stream)?,
             "mend" => mend::one(&mut random, &mut stream)?,
             "slow" => slow::one(&mut random, &mut stream)?,
+            "order" => order::one(&mut random, &mut stream)?,
+            "settle" => settle::one(&mut random, &mut stream)?,
             _ => return usage(),
         }
     }

@@ -5,6 +5,7 @@
 //! where logix has a component's kind, the program holds the two against each other.
 
 pub mod calls;
+pub mod chains;
 pub mod drawing;
 pub mod flat;
 pub mod host;

@@ -10,7 +10,7 @@ use crate::command::{Command, Single, FILE_KEPT};
 use crate::engine::Engine;
 use crate::io::{Channel, Stop};
 use crate::plain::calls::{edit_number, index_number, load_verdict, neighbours_number};
-use crate::plain::calls::{net_number, round_number, value_number};
+use crate::plain::calls::{net_number, ordered_number, round_number, value_number};
 use crate::plain::drawing::{records, Drawing, Id};
 use crate::plain::host::{first_answer, second_answer};
 use crate::plain::judge::{judge, words, Refusal};
@@ -21,7 +21,7 @@ use crate::plain::running::{self, Judged, Way};
 use crate::plain::single::{single_number, PortValue};
 use crate::primitive::{evaluated, in_logix};
 use crate::tables::{Tables, ANSWER, COMPONENTS, CURRENT, DROPPED, FLAT, INPUTS, MENDED, MOVED};
-use crate::tables::{NUMBERS, OUTPUTS, SLOW, WIDTHS, WIRES};
+use crate::tables::{NUMBERS, OUTPUTS, SLOW, STANDING, WIDTHS, WIRES};
 use slow::Beside;
 use std::fmt::{Debug, Write as _};
 use std::io::{Read, Result, Write};
@@ -89,6 +89,7 @@ impl Program {
             Command::State => self.state(lines),
             Command::All => self.all(lines),
             Command::Round { time } => self.round(*time, lines),
+            Command::RoundOrdered { time } => self.round_ordered(*time, lines),
             Command::Edit { index, number } => {
                 let refused = self.edit(Way::Standing, *index, *number);
                 line(lines, "edit", [refused, 0]);
@@ -143,11 +144,11 @@ impl Program {
         }
     }
 
-    /// A table, or its count, is changed by hand.
+    /// A table, or its count, is changed by hand. What is no table of an engine plays no part.
     fn by_hand(&mut self, table: usize) {
         if SLOW.contains(&table) {
             self.beside = None;
-        } else {
+        } else if table <= STANDING {
             self.engine = None;
             self.reached = None;
         }
@@ -185,13 +186,47 @@ impl Program {
             0 => self.one_round(time),
             _ => vec![],
         };
+        self.tell_round(number, bits, lines);
+    }
+
+    fn round_ordered(&mut self, time: u64, lines: &mut String) {
+        let number = ordered_number(&self.tables);
+        let bits = match number {
+            0 => self.one_round_ordered(time),
+            _ => vec![],
+        };
+        self.tell_round(number, bits, lines);
+    }
+
+    /// Lays the bits of a round over their table, and says them.
+    fn tell_round(&mut self, number: u64, bits: Vec<u64>, lines: &mut String) {
         self.tables.lay(MOVED, &bits);
         line(lines, "round", [number, 0].into_iter().chain(bits));
     }
 
     /// A round: the bits of each component evaluated.
     fn one_round(&mut self, time: u64) -> Vec<u64> {
-        let bits = self.change(|engine| engine.round(time), |tables| running::round(tables, time));
+        self.round_at(time, |engine| engine.round(time), |tables| running::round(tables, time))
+    }
+
+    /// The same in the order of wires.
+    fn one_round_ordered(&mut self, time: u64) -> Vec<u64> {
+        let order = self.tables.order().to_vec();
+        self.round_at(
+            time,
+            |engine| engine.round_ordered(&order, time),
+            |tables| running::round_ordered(tables, time),
+        )
+    }
+
+    /// A round in both codings, and that it has run.
+    fn round_at(
+        &mut self,
+        time: u64,
+        logix: impl FnOnce(&mut Engine) -> Vec<u64>,
+        plain: impl FnOnce(&mut Tables) -> Vec<u64>,
+    ) -> Vec<u64> {
+        let bits = self.change(logix, plain);
         if let Some(reached) = &mut self.reached {
             reached.last_round = Some(time);
         }

@@ -1,5 +1,5 @@
 //! The seven lent tables at full size, their counts, the lists lent for answers, the slow
-//! engine's five tables with their counts, and how much of each is lent.
+//! engine's five tables with their counts, the order of wires, and how much of each is lent.
 
 use std::rc::Rc;
 
@@ -25,8 +25,10 @@ pub const SLOW_OUTPUTS: usize = 14;
 pub const SLOW_CURRENT: usize = 15;
 pub const SLOW_FOLLOWING: usize = 16;
 pub const SLOW_STANDING: usize = 17;
+/// An order of all wires, which a round may be handed.
+pub const ORDER: usize = 18;
 /// How many tables there are in all.
-pub const ALL: usize = 18;
+pub const ALL: usize = 19;
 
 /// The tables of ports and lists: inputs, outputs, current, following, standing.
 pub type Five = [usize; 5];
@@ -38,9 +40,11 @@ pub const SLOW: Five = [SLOW_INPUTS, SLOW_OUTPUTS, SLOW_CURRENT, SLOW_FOLLOWING,
 pub const ENTRY_WORDS: [usize; 7] = [8, 1, 1, 4, 1, 1, 1];
 /// "Full size: 256 components, 1,024 inputs, 1,024 outputs, 1,024 wires, three lists of 256."
 pub const FULL_ENTRIES: [u64; 7] = [256, 1_024, 1_024, 1_024, 256, 256, 256];
-/// Full size in words: of the seven, of the six lists lent for an answer, of the slow engine's five.
+/// Full size in words: of the seven, of the six lists lent for an answer, of the slow engine's five,
+/// of the order.
 pub const FULL_WORDS: [usize; ALL] = [
-    2_048, 1_024, 1_024, 4_096, 256, 256, 256, 256, 256, 256, 256, 30_000, 1_025, 1_024, 1_024, 256, 256, 256,
+    2_048, 1_024, 1_024, 4_096, 256, 256, 256, 256, 256, 256, 256, 30_000, 1_025, 1_024, 1_024, 256, 256,
+    256, 1_024,
 ];
 /// What each word holds at the program's start.
 const FIRST_WORD: u64 = 7;
@@ -123,6 +127,12 @@ impl Tables {
     /// The words below a table's count, which is within the table.
     pub fn used(&self, table: usize) -> &[u64] {
         &self.words[table][..self.count(table) as usize * entry_words(table)]
+    }
+
+    /// The order of wires: the first words of its table, as many as there are wires. Their count is
+    /// within the table.
+    pub fn order(&self) -> &[u64] {
+        &self.words[ORDER][..self.counts[WIRES] as usize]
     }
 
     /// Lays words over the front of a table; those past them keep what they held.

@@ -1,5 +1,5 @@
 //! Tests: the lamp drawing, the limits, values of 64 bits, records that meet, both ways of an edit, outputs that moved, mending,
-//! the slow engine, the language, and where logix and the plain coding can be laid side by side.
+//! the slow engine, orders of wires, settling, the language, and where logix and the plain coding can be laid side by side.
 
 mod agreement;
 mod differences;
@@ -13,7 +13,9 @@ mod meet;
 mod mend;
 mod moved;
 mod net;
+mod ordered;
 mod satisfied;
+mod settle;
 mod slow;
 mod votes;
 mod wide;

@@ -1,10 +1,11 @@
 //! The numbers of loads, rounds, edits and questions: "2, 16, 17, 18, 19 in that
-//! order, as far as each applies". Those of looks are in `look`, those of mending in `mend`.
+//! order, as far as each applies", and 24 "after 16". Those of looks are in `look`, those of
+//! mending in `mend`.
 
 use super::judge::{check_1, judge_records, Refusal, Verdict};
 use super::kinds::fits;
 use super::net::{entries, is_net, Entry};
-use crate::tables::{Tables, ANSWER, FULL_WORDS, MOVED, WIRES};
+use crate::tables::{Tables, ANSWER, FULL_WORDS, MOVED, ORDER, WIRES};
 
 /// A load: checks 1, 2, 3 to 15.
 pub fn load_verdict(tables: &Tables, file: &[u8]) -> Verdict {
@@ -28,6 +29,24 @@ pub fn round_number(tables: &Tables) -> u64 {
         return 2;
     }
     net_number(tables)
+}
+
+/// A round that is handed an order: checks 2, here with the table of bits and that of the order,
+/// 16, 24.
+pub fn ordered_number(tables: &Tables) -> u64 {
+    if lent_short(tables, ORDER) {
+        return 2;
+    }
+    match round_number(tables) {
+        0 if !is_order(tables) => 24,
+        number => number,
+    }
+}
+
+/// Check 24, of tables that are a net: "an order that is not each wire once".
+pub fn is_order(tables: &Tables) -> bool {
+    let order = tables.order();
+    (0..tables.counts[WIRES]).all(|wire| order.iter().filter(|word| **word == wire).count() == 1)
 }
 
 /// Run until calm, the questions of calm and of satisfied: checks 2 and 16.

@@ -41,6 +41,19 @@ pub fn load(drawing: &Drawing, tables: &mut Tables) {
 /// The lists are put into the tables at the end alone. Gives the bits of each component
 /// evaluated, in list order.
 pub fn round(tables: &mut Tables, time: u64) -> Vec<u64> {
+    let stored = wires(tables);
+    round_along(tables, &stored, time)
+}
+
+/// The same with "an order of all wires, which each component's wires follow".
+pub fn round_ordered(tables: &mut Tables, time: u64) -> Vec<u64> {
+    let stored = wires(tables);
+    let ordered: Vec<[u64; 4]> = tables.order().iter().map(|wire| stored[*wire as usize]).collect();
+    round_along(tables, &ordered, time)
+}
+
+/// A round in which each component's wires stand in the order of all that are handed in.
+fn round_along(tables: &mut Tables, wires: &[[u64; 4]], time: u64) -> Vec<u64> {
     let mut following = tables.used(FOLLOWING).to_vec();
     let mut standing = tables.used(STANDING).to_vec();
     let mut bits = vec![];
@@ -49,7 +62,7 @@ pub fn round(tables: &mut Tables, time: u64) -> Vec<u64> {
         if entry(tables, index).fields.kind != CLOCK {
             standing.retain(|other| *other != index);
         }
-        for wire in wires(tables).iter().filter(|wire| wire[0] == index) {
+        for wire in wires.iter().filter(|wire| wire[0] == index) {
             send(tables, wire, &mut following);
         }
     }
@@ -199,6 +212,6 @@ fn entry(tables: &Tables, index: u64) -> Entry {
     Entry::of(&tables.used(COMPONENTS)[8 * index as usize..][..8])
 }
 
-fn wires(tables: &Tables) -> Vec<[u64; 4]> {
+pub fn wires(tables: &Tables) -> Vec<[u64; 4]> {
     tables.used(WIRES).chunks_exact(4).map(|wire| wire.try_into().expect("four words")).collect()
 }

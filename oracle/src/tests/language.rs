@@ -157,6 +157,9 @@ fn words_that_do_not_fit_are_left_out() {
     answer(&mut program, word(15, 255, 65_535));
     answer(&mut program, word(16, 255, 65_536));
     answer(&mut program, word(17, 256, 1));
+    answer(&mut program, word(18, 1_023, 65_535));
+    answer(&mut program, word(18, 1_022, 65_536));
+    answer(&mut program, word(18, 1_024, 1));
     assert_eq!(*program.tables.words[4], vec![7; 256]);
     assert_eq!(program.tables.words[1][..3], [7, u64::MAX, 7]);
     assert_eq!(*program.tables.words[7], vec![7; 256]);
@@ -167,6 +170,7 @@ fn words_that_do_not_fit_are_left_out() {
     assert_eq!(program.tables.words[12][1_022..], [7, 7, 65_535]);
     assert_eq!(program.tables.words[13][1_022..], [7, u64::MAX]);
     assert_eq!(program.tables.words[15][254..], [7, 65_535]);
+    assert_eq!(program.tables.words[18][1_021..], [7, 7, 65_535]);
     for table in [14, 16, 17] {
         assert_eq!(*program.tables.words[table], vec![7; FULL_WORDS[table]]);
     }
@@ -181,7 +185,7 @@ fn words_are_written_one_after_the_other() {
     answer(&mut program, words(8, 254, &[u64::MAX, 1, 2]));
     assert_eq!(program.tables.words[8][253..], [7, u64::MAX, 1]);
     answer(&mut program, words(4, 65_535, &[1; 3]));
-    answer(&mut program, words(18, 0, &[1; 3]));
+    answer(&mut program, words(19, 0, &[1; 3]));
     answer(&mut program, words(15, 254, &[65_535, 65_536, 1]));
     assert_eq!(program.tables.words[15][253..], [7, 65_535, 7]);
     answer(&mut program, words(11, 29_998, &[255, 256, 1]));
@@ -199,7 +203,7 @@ fn a_table_is_shown_whole_whatever_is_lent() {
         let line = format!("table {table}{}\n", " 7".repeat(words));
         assert_eq!(shown(&mut program, table as u8), line);
     }
-    assert_eq!(shown(&mut program, 18), "no table\n");
+    assert_eq!(shown(&mut program, 19), "no table\n");
     assert_eq!(shown(&mut program, 255), "no table\n");
 }
 
@@ -248,6 +252,7 @@ fn commands_are_read_as_written() {
         Command::Judge(vec![1, 2, 3]),
         Command::Host(vec![1, 2, 3, 4]),
         Command::Round { time: u64::MAX - 3 },
+        Command::RoundOrdered { time: u64::MAX - 4 },
         Command::Edit { index: 513, number: 1 << 63 },
         Command::EditFirst { index: 514, number: 1 << 62 },
         Command::Run { time: 5, limit: 258 },
@@ -273,7 +278,7 @@ fn commands_are_read_as_written() {
         command.write(&mut bytes);
     }
     let lines =
-        "judge 1 0 0\nhost 65536 4294967296\nround 0 0\nedit 17 0\nfirst 17 0\nrun 0 1 0 0\nindex 17 0\nvalue 17 0 0\n\
+        "judge 1 0 0\nhost 65536 4294967296\nround 0 0\nround 0 0\nedit 17 0\nfirst 17 0\nrun 0 1 0 0\nindex 17 0\nvalue 17 0 0\n\
                  look 2 0 0 0 0\nno table\nmend 3 0 0 0\ndropped\nbytes\nnet 0 0 0 0\nload 3 0 0\nround 3 0 0\n\
                  edit 3 0 0\nfirst 3 0 0\nrun 3 0 0 0 0 0\ninputs\noutputs\ncurrent\nfollowing\nstanding\n";
     assert_eq!(printed(&bytes), lines);
