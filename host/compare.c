@@ -384,7 +384,7 @@ int main(int argc, char **argv)
         return 2;
     length = (size_t)read;
     status = compare(steps);
-    if (fflush(stdout) != 0) {
+    if (fflush(stdout) != 0 || ferror(stdout)) {
         perror("compare: standard output");
         return 2;
     }

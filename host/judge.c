@@ -48,7 +48,7 @@ int main(int argc, char **argv)
         if (status < asked)
             status = asked;
     }
-    if (fflush(stdout) != 0) {
+    if (fflush(stdout) != 0 || ferror(stdout)) {
         perror("judge: standard output");
         return 2;
     }

@@ -145,7 +145,7 @@ int main(int argc, char **argv)
         show_boxes();
     else
         status = look(argv[1], path, path_length);
-    if (fflush(stdout) != 0) {
+    if (fflush(stdout) != 0 || ferror(stdout)) {
         perror("look: standard output");
         return 2;
     }

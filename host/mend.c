@@ -81,7 +81,7 @@ int main(int argc, char **argv)
         say_mended(argv[1], argv[2]);
     else
         say_refused(argv[1], argv[2], answer);
-    if (fflush(stdout) != 0) {
+    if (fflush(stdout) != 0 || ferror(stdout)) {
         perror("mend: standard output");
         return 2;
     }

@@ -231,7 +231,7 @@ int main(int argc, char **argv)
     if (status)
         return status;
     show(settled);
-    if (fflush(stdout) != 0) {
+    if (fflush(stdout) != 0 || ferror(stdout)) {
         perror("screen: standard output");
         return 2;
     }

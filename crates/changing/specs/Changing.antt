@@ -1,5 +1,6 @@
--- What a round, in stored order or in one that is handed in, and run until calm promise, called from C. docs/SPECIFICATION.md, "Rounds" (the host's call) and "Numbers given back". Each promise is the
--- engine's own, by name, on the tables that the lent slices and the count words make. (An edit promises `CallChanges`.)
+-- What a round, in stored order or in one that is handed in, and run until calm promise, called from C. docs/SPECIFICATION.md, "Rounds" (the host's call)
+-- and "Numbers given back". Each promise is the engine's own, by name, on the tables that the lent slices and the count words make. (An edit promises
+-- `CallChanges`.)
 --   CallRounds          the promise of a round
 --   CallRoundsOrdered   the promise of a round in an order
 --   CallRuns            the promise of run until calm

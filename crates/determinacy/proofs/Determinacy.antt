@@ -45,8 +45,8 @@ moves k new told a a′ b b′ p q =
     let moved = p .1 ∙ sym (q .1) in
     (d .0, λ i. (left i, moved i))
 
--- For evaluating one component, a load, a round, one in an order, an edit of either way, a run until calm, and the questions, looks and mendings that write lent lists; then for
--- judging, also as the host's two calls, check 16, calm, satisfied, the index of an id, a port's value, and a value's methods.
+-- For evaluating one component, a load, a round, one in an order, an edit of either way, a run until calm, and the questions, looks and mendings that write
+-- lent lists; then for judging, also as the host's two calls, check 16, calm, satisfied, the index of an id, a port's value, and a value's methods.
 pub determinacy : Determinacy
 determinacy = (
   λ f xs vs ys ws t. outcome evaluatedGives evaluatedGives-is

@@ -41,8 +41,8 @@ returns-2 c =
     let m = at-counts-in .counts-in in
     let r = at-round .round in
     let p = rounded-plain (came s (m .result)) (s .args .moved .now) (answerGives (r .result)) _ (r .ensures .0 .0) in
-    round-answered (λ bs′ T a U. Rounds (s .args .time) (s .args .moved .now) T a U bs′) (s .args .counts .now) (s .args .moved .now) (came s) (r .result) (m .result) (k .last .0) _ _ (k .result)
-    (at-if1 .if1 .left) (m .ensures) (r .ensures) (k .ensures .0 ∙ plain-spoken (answerGives (r .result)) p) (k .ensures .1)
+    round-answered (λ bs′ T a U. Rounds (s .args .time) (s .args .moved .now) T a U bs′) (s .args .counts .now) (s .args .moved .now) (came s)
+    (r .result) (m .result) (k .last .0) _ _ (k .result) (at-if1 .if1 .left) (m .ensures) (r .ensures) (k .ensures .0 ∙ plain-spoken (answerGives (r .result)) p) (k .ensures .1)
 
 pub berxundar-round-spec : {M : Type 1} → statement M
 berxundar-round-spec =

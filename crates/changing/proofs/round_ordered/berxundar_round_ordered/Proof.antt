@@ -28,7 +28,9 @@ keep-requires c κs =
     let m = r .before in
     let at-if1 = m .before .before .before .before .before .before .before .before in
     let s = at-if1 .before .before .before .before .before .before .before .before .before .before .before in
-    let p = ordered-plain (came s (m .counts-in .result)) (s .args .order .now) (s .args .moved .now) (answerGives (r .round-ordered .result)) _ (r .round-ordered .ensures .0 .0) in
+    let p =
+    ordered-plain (came s (m .counts-in .result)) (s .args .order .now) (s .args .moved .now) (answerGives (r .round-ordered .result)) _
+    (r .round-ordered .ensures .0 .0) in
     (at-if1 .if1 .left, plain-fits (answerGives (r .round-ordered .result)) p)
 
 returns-2 : tie.Need-returns-2
@@ -41,8 +43,8 @@ returns-2 c =
     let m = at-counts-in .counts-in in
     let r = at-round .round-ordered in
     let p = ordered-plain (came s (m .result)) (s .args .order .now) (s .args .moved .now) (answerGives (r .result)) _ (r .ensures .0 .0) in
-    round-answered (λ bs′ T a U. RoundsOrdered (s .args .time) (s .args .order .now) (s .args .moved .now) T a U bs′) (s .args .counts .now) (s .args .moved .now) (came s) (r .result) (m .result) (k .last .0) _ _ (k .result)
-    (at-if1 .if1 .left) (m .ensures) (r .ensures) (k .ensures .0 ∙ plain-spoken (answerGives (r .result)) p) (k .ensures .1)
+    round-answered (λ bs′ T a U. RoundsOrdered (s .args .time) (s .args .order .now) (s .args .moved .now) T a U bs′) (s .args .counts .now) (s .args .moved .now) (came s)
+    (r .result) (m .result) (k .last .0) _ _ (k .result) (at-if1 .if1 .left) (m .ensures) (r .ensures) (k .ensures .0 ∙ plain-spoken (answerGives (r .result)) p) (k .ensures .1)
 
 pub berxundar-round-ordered-spec : {M : Type 1} → statement M
 berxundar-round-ordered-spec =

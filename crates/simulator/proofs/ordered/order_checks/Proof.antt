@@ -20,7 +20,9 @@ abbrev start : tie.Else1 → tie.Start
 start c = c .before .before .before .before .before .before .before .before .before .before
 
 returns : tie.Need-returns
-returns c = let s = c .before .before .before .before .before .before .before .before .before .before in ordered-short (came s) (s .args .order .now) (s .args .moved .now) (c .if1 .taken)
+returns c =
+    let s = c .before .before .before .before .before .before .before .before .before .before in
+    ordered-short (came s) (s .args .order .now) (s .args .moved .now) (c .if1 .taken)
 
 returns-2 : tie.Need-returns-2
 returns-2 c =

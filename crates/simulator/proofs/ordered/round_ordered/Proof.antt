@@ -47,7 +47,8 @@ link-by-requires c κs =
 -- The wires are linked in the order.
 follows : (c : tie.After-link-by) →
     let s = start (c .before .before .before) in
-    Follows (s .args .wires .now) (s .args .counts .wires) (c .link-by .last .1 .1 .1 .0) (c .link-by .last .1 .1 .1 .1 .0) (wiresBy (came s) (s .args .order .now))
+    Follows (s .args .wires .now) (s .args .counts .wires) (c .link-by .last .1 .1 .1 .0) (c .link-by .last .1 .1 .1 .1 .0)
+    (wiresBy (came s) (s .args .order .now))
 follows c = record { order = _; links = c .link-by .ensures; these = refl }
 
 net-round-requires : tie.Need-net-round-requires
