@@ -1,4 +1,4 @@
-"""How a stream of commands of the trace language (docs/TRACE.md) and its answers are read: for tests/alike and tests/settled."""
+"""How a stream of commands of the trace language (docs/TRACE.md) and its answers are read: for tests/alike, tests/settled and tests/limits."""
 import struct
 
 # The bytes behind a letter, where they are of fixed number; and the lines of a command, where they are.
