@@ -20,13 +20,18 @@ use Rattle.primitive.specs.Own.{Own}
 use Rattle.primitive.proofs.MovedLaws.{moved-port}
 use Rattle.primitive.proofs.FitLaws.{outputsAfter-length}
 use Rattle.primitive.proofs.EvaluateLaws.{passed-own, done-outputs}
-use Rattle.tables.specs.Tables.{Tables, fieldsAt, currentList}
-use Rattle.rounds.specs.Round.{calm, roundBits}
+use Rattle.tables.specs.declared.Wire.{Wire}
+use Rattle.tables.specs.Tables.{Tables, fieldsAt, wiresIn, currentList}
+use Rattle.net.specs.Net.{netNumber}
+use Rattle.rounds.specs.Round.{calm, bitsBy, roundBy, roundBits, roundOf}
+use Rattle.rounds.proofs.Held.{Order, stored-order}
 use Rattle.simulator.specs.Calls.{roundTables, roundMoved, bitsSet, noRound, runBy, run}
+use Rattle.simulator.specs.Ordered.{wiresBy, orderedNumber, orderedTables}
 use Rattle.simulator.proofs.Kept.{roundTables-done}
+use Rattle.simulator.proofs.OrderedLaws.{made-net, order-order, orderedTables-done}
 use Rattle.simulator.proofs.CallsLaws.{roundNumber-room, roundCall-room}
 use Rattle.quiet.proofs.Moved.{round-bits-length, round-bit, round-still}
-use Rattle.demands.specs.Moved.{EvaluatedRight, changed, BitsRight, BitsBeside, roundsOn, RunSum}
+use Rattle.demands.specs.Moved.{EvaluatedRight, changed, Tells, BitsRight, BitsBeside, roundsOn, RunSum}
 
 -- What an evaluation leaves: the component's outputs as it made them, and behind them what was there.
 module _ (f : Fields) (xs vs ys ws : List ℕ) (t : ℕ) (z : evaluateNumber f xs vs ys ws ≡ 0) where
@@ -61,15 +66,24 @@ evaluated-right f xs vs ys ws t bits zs p j =
     ap (λ (l : List ℕ). bitOf (getD l 0 0) j) (given .1) ∙ evaluated-bit f xs vs ys ws t (given .0) j
     ∙ ap (λ (l : List ℕ). level (ltb j (f .outputs) && not (eqb (getD ys j 0) (getD l j 0)))) (sym (p .1))
 
+-- A round of a net, its wires in any order.
+tells : (T : Tables) → netNumber T ≡ 0 → (ws : List Wire) → Order T ws → (t : ℕ) (U : Tables) → U ≡ roundBy ws t T → Tells T (bitsBy ws t T) U
+tells T z ws o t U e = (
+  round-bits-length T z ws o t,
+  λ k j h. round-bit T z ws o t k j h
+      ∙ ap (λ (W : Tables). level (ltb j (fieldsAt T (getD (currentList T) k 0) .outputs) && changed T W (getD (currentList T) k 0) j)) (sym e),
+  λ i j q l n. ap (λ (W : Tables). changed T W i j) e
+      ∙ round-still T z ws o t i j q (λ m. true≢false (sym (has-complete i (currentList T) m) ∙ n)) l,
+)
+
 pub bits-right : BitsRight
-bits-right T t z =
-    let e = roundTables-done T t z in (
-      round-bits-length T z t,
-      λ k j h. round-bit T z t k j h
-          ∙ ap (λ (U : Tables). level (ltb j (fieldsAt T (getD (currentList T) k 0) .outputs) && changed T U (getD (currentList T) k 0) j)) (sym e),
-      λ i j q l n. ap (λ (U : Tables). changed T U i j) e
-          ∙ round-still T z t i j q (λ m. true≢false (sym (has-complete i (currentList T) m) ∙ n)) l,
-    )
+unfolding roundBits roundOf
+bits-right = (
+  λ T t z. tells T z (wiresIn T) (stored-order T) t (roundTables T t) (roundTables-done T t z),
+  λ T order bits t e.
+      tells T (made-net T order bits (orderedNumber T order bits) refl e) (wiresBy T order)
+      (order-order T order bits (orderedNumber T order bits) refl e) t (orderedTables T order bits t) (orderedTables-done T order bits t e),
+)
 
 pub bits-beside : BitsBeside
 unfolding roundMoved

@@ -18,8 +18,9 @@ use Rattle.primitive.specs.declared.Evaluated.the-variants.{Done}
 use Rattle.primitive.specs.Evaluate.{Evaluates}
 use Rattle.tables.specs.Tables.{Tables, fieldsAt, endAt, outputPlace, currentList}
 use Rattle.net.specs.Net.{netNumber}
-use Rattle.rounds.specs.Round.{roundBits}
+use Rattle.rounds.specs.Round.{bitsBy, roundBits}
 use Rattle.simulator.specs.Calls.{roundTables, roundNumber, roundCall, roundMoved, bitsSet, run}
+use Rattle.simulator.specs.Ordered.{wiresBy, orderedNumber, orderedTables}
 
 -- Evaluating a component, not refused, which finds the outputs ys and leaves zs: bit j tells of the component's output j and of nothing else.
 abbrev pub EvaluatedRight : Type 0
@@ -31,17 +32,21 @@ EvaluatedRight =
 abbrev pub changed : Tables → Tables → ℕ → ℕ → Bool
 changed T U i j = not (eqb (getD (T .outputs) (outputPlace T (endAt i j)) 0) (getD (U .outputs) (outputPlace T (endAt i j)) 0))
 
--- A round of a net: a word for each component of the current list, whose bit j tells of output j and of nothing else; and a component that the list
--- does not name changes no output.
+-- The bits that a round passes on, on the tables T, and the tables U that it leaves: a word for each component of the current list, whose bit j tells of
+-- output j and of nothing else; and a component that the list does not name changes no output.
+abbrev pub Tells : Tables → List ℕ → Tables → Type 0
+Tells T bits U =
+    (length bits ≡ length (currentList T))
+    × ((k j : ℕ) → k < length (currentList T)
+    → bitOf (getD bits k 0) j ≡ level (ltb j (fieldsAt T (getD (currentList T) k 0) .outputs) && changed T U (getD (currentList T) k 0) j))
+    × ((i j : ℕ) → i < T .counts .components → j < fieldsAt T i .outputs → has i (currentList T) ≡ false → changed T U i j ≡ false)
+
+-- Every round that is made tells so, in stored order and in one that it is handed.
 abbrev pub BitsRight : Type 0
 BitsRight =
-    (T : Tables) (t : ℕ) → netNumber T ≡ 0
-    → (length (roundBits t T) ≡ length (currentList T))
-    × ((k j : ℕ) → k < length (currentList T)
-    → bitOf (getD (roundBits t T) k 0) j
-    ≡ level (ltb j (fieldsAt T (getD (currentList T) k 0) .outputs) && changed T (roundTables T t) (getD (currentList T) k 0) j))
-    × ((i j : ℕ) → i < T .counts .components → j < fieldsAt T i .outputs → has i (currentList T) ≡ false
-    → changed T (roundTables T t) i j ≡ false)
+    ((T : Tables) (t : ℕ) → netNumber T ≡ 0 → Tells T (roundBits t T) (roundTables T t))
+    × ((T : Tables) (order bits : List ℕ) (t : ℕ) → orderedNumber T order bits ≡ 0
+    → Tells T (bitsBy (wiresBy T order) t T) (orderedTables T order bits t))
 
 -- "Values and lists stay those of demand 2."
 abbrev pub BitsBeside : Type 0

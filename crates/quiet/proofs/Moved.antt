@@ -1,7 +1,7 @@
 -- What the bits of a round say: in the word of each component evaluated bit i is set exactly where output i of it is not after the round what it was
 -- before; and no output of any other component moves. docs/SPECIFICATION.md, "Rounds" (which outputs moved).
---   outputIn T os i j     output j of component i, in the outputs os
---   movedIn T z t i j     it is not after a round at time t what it was before
+--   outputIn T os i j        output j of component i, in the outputs os
+--   movedIn T z ws o t i j   it is not after a round at time t, its wires in the order ws, what it was before
 -- Assumes nothing.
 use mathlib.Core.Path.{_≡_, refl, sym, ap, subst, _∙_}
 use mathlib.Core.Bool.{Bool, true, false, not, _&&_}
@@ -18,12 +18,12 @@ use Rattle.value.specs.Value.{level, bitOf}
 use Rattle.primitive.specs.Evaluate.{moved, movedOutputs}
 use Rattle.primitive.proofs.MovedLaws.{moved-port}
 use Rattle.tables.specs.declared.Wire.{Wire}
-use Rattle.tables.specs.Tables.{Tables, fieldsAt, firstOutput, outputsAt, wiresIn, currentList}
+use Rattle.tables.specs.Tables.{Tables, fieldsAt, firstOutput, outputsAt, currentList}
 use Rattle.net.specs.Net.{netNumber}
-use Rattle.rounds.specs.Round.{State, stateOf, leave, wiresFrom, evaluated, send, visit, movedAt, movedBy, round, roundBits, roundOf}
+use Rattle.rounds.specs.Round.{State, stateOf, leave, wiresFrom, evaluated, send, visit, movedAt, movedBy, round, bitsBy, roundBy}
 use Rattle.rounds.proofs.Sound.{Sound, net-sound}
 use Rattle.rounds.proofs.Ports.{numbers-length, numbers-at}
-use Rattle.rounds.proofs.Held.{Held, Order, stored-order, SendCase, agrees, writes, send-case, written, made, made-length, others-left, own, own-outputs, outputs-room, visit-held}
+use Rattle.rounds.proofs.Held.{Held, Order, SendCase, agrees, writes, send-case, written, made, made-length, others-left, own, own-outputs, outputs-room, visit-held}
 use Rattle.rounds.proofs.Left.{net-held}
 use Rattle.rounds.proofs.MovedLaws.{movedBy-length}
 
@@ -116,30 +116,24 @@ module _ (T : Tables) (g : Sound T) (ws : List Wire) (o : Order T ws) (t : ℕ) 
           (ltb-true j (fieldsAt T (getD xs k 0) .outputs) e))
       by-port false e = refl
 
--- A round of a net, its wires in stored order.
-module _ (T : Tables) (z : netNumber T ≡ 0) (t : ℕ) where
-  abbrev U : Tables
-  U = roundOf t T
-
+-- A round of a net.
+module _ (T : Tables) (z : netNumber T ≡ 0) (ws : List Wire) (o : Order T ws) (t : ℕ) where
   -- Output j of component d is not after the round what it was before.
   abbrev pub movedIn : ℕ → ℕ → Bool
-  movedIn d j = not (eqb (outputIn T (T .outputs) d j) (outputIn T (U .outputs) d j))
+  movedIn d j = not (eqb (outputIn T (T .outputs) d j) (outputIn T (roundBy ws t T .outputs) d j))
 
-  pub round-bits-length : length (roundBits t T) ≡ length (currentList T)
-  unfolding roundBits
-  round-bits-length = movedBy-length T (wiresFrom (wiresIn T)) t (stateOf T) (currentList T)
+  pub round-bits-length : length (bitsBy ws t T) ≡ length (currentList T)
+  round-bits-length = movedBy-length T (wiresFrom ws) t (stateOf T) (currentList T)
 
   pub round-bit : (k j : ℕ) → k < length (currentList T)
-      → bitOf (getD (roundBits t T) k 0) j ≡ level (ltb j (fieldsAt T (getD (currentList T) k 0) .outputs) && movedIn (getD (currentList T) k 0) j)
-  unfolding roundBits roundOf round leave
-  round-bit k j h =
-      visits-bits T (net-sound T z) (wiresIn T) (stored-order T) t (currentList T) (net-held T z .current) (stateOf T) (net-held T z) k j h
+      → bitOf (getD (bitsBy ws t T) k 0) j ≡ level (ltb j (fieldsAt T (getD (currentList T) k 0) .outputs) && movedIn (getD (currentList T) k 0) j)
+  unfolding round leave
+  round-bit k j h = visits-bits T (net-sound T z) ws o t (currentList T) (net-held T z .current) (stateOf T) (net-held T z) k j h
 
   pub round-still : (d j : ℕ) → d < T .counts .components → (In d (currentList T) → ⊥) → j < fieldsAt T d .outputs → movedIn d j ≡ false
-  unfolding roundOf round leave
+  unfolding round leave
   round-still d j q ne l =
       rw (
-        visits-others T (net-sound T z) (wiresIn T) (stored-order T) t (currentList T) (stateOf T) (net-held T z) (net-held T z .current .exist)
-            d j q ne l,
+        visits-others T (net-sound T z) ws o t (currentList T) (stateOf T) (net-held T z) (net-held T z .current .exist) d j q ne l,
         eq-eqb (outputIn T (T .outputs) d j) (outputIn T (T .outputs) d j) refl,
       )

@@ -2,7 +2,7 @@
 -- A round evaluates what its current list names. A standing component that the round at hand does not evaluate stays
 -- standing, so the following list names it after, and what that list names the next round makes current.
 -- Assumes nothing.
-use mathlib.Core.Path.{_≡_, sym, ap, _∙_, subst}
+use mathlib.Core.Path.{_≡_, sym, subst}
 use mathlib.Core.Logic.{_⊎_, inl, inr, ⊎-elim}
 use mathlib.Core.List.{List, [], _∷_, foldl}
 use Prim.Native.Nat.{ℕ}
@@ -10,13 +10,10 @@ use native.Mathlib.Decide.{ℕ-discrete}
 use Rattle.lists.proofs.MembersLaws.{In}
 use Rattle.lists.proofs.NamesLaws.{appendNew-kept}
 use Rattle.tables.specs.declared.Wire.{Wire}
-use Rattle.tables.specs.Tables.{Tables, wiresIn, currentList, followingList, standingList}
-use Rattle.net.specs.Net.{netNumber}
-use Rattle.rounds.specs.Round.{State, stateOf, wiresFrom, evaluated, send, visit, round, roundOf}
-use Rattle.simulator.specs.Calls.{roundTables}
+use Rattle.tables.specs.Tables.{Tables, currentList, followingList, standingList}
+use Rattle.rounds.specs.Round.{State, stateOf, wiresFrom, evaluated, send, visit, round, roundBy}
 use Rattle.rounds.proofs.Held.{foldl-keeps, written, SendCase, agrees, writes, send-case}
 use Rattle.rounds.proofs.Left.{stateOf-leave}
-use Rattle.simulator.proofs.Kept.{roundTables-done}
 use Rattle.quiet.proofs.Invariant.{evaluated-standing}
 
 -- Within a round.
@@ -78,17 +75,15 @@ module _ (T : Tables) (x : ℕ) where
     unfolding round
     round-following s m = visits-following (s .current) s m
 
--- The same of the tables after a round.
-module _ (T : Tables) (x t : ℕ) (e : netNumber T ≡ 0) where
-  after-state : stateOf (roundTables T t) ≡ round T (wiresFrom (wiresIn T)) t (stateOf T)
-  unfolding roundOf
-  after-state = ap stateOf (roundTables-done T t e) ∙ stateOf-leave T (round T (wiresFrom (wiresIn T)) t (stateOf T))
+-- The same of the tables after a round, whatever the order of its wires.
+module _ (T : Tables) (x : ℕ) (ws : List Wire) (t : ℕ) where
+  after-state : stateOf (roundBy ws t T) ≡ round T (wiresFrom ws) t (stateOf T)
+  after-state = stateOf-leave T (round T (wiresFrom ws) t (stateOf T))
 
-  pub roundTables-standing : In x (standingList T) → In x (currentList T) ⊎ In x (followingList (roundTables T t))
-  roundTables-standing m =
+  pub roundBy-standing : In x (standingList T) → In x (currentList T) ⊎ In x (followingList (roundBy ws t T))
+  roundBy-standing m =
       ⊎-elim (λ k. inl k) (λ k. inr (subst (λ (s : State). In x (s .following)) (sym after-state) k))
-      (round-standing T x (wiresFrom (wiresIn T)) t (stateOf T) m)
+      (round-standing T x (wiresFrom ws) t (stateOf T) m)
 
-  pub roundTables-following : In x (followingList T) → In x (currentList (roundTables T t))
-  roundTables-following m =
-      subst (λ (s : State). In x (s .current)) (sym after-state) (round-following T x (wiresFrom (wiresIn T)) t (stateOf T) m)
+  pub roundBy-following : In x (followingList T) → In x (currentList (roundBy ws t T))
+  roundBy-following m = subst (λ (s : State). In x (s .current)) (sym after-state) (round-following T x (wiresFrom ws) t (stateOf T) m)
