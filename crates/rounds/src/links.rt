@@ -75,10 +75,10 @@ pub fn link_by(
         × IsLinked (now wires) count (now head) (now after) [] × WiresInside (now wires) count ⌝ }
     ensures { λ _. ⌜ IsLinked (now (wires .entry)) count (now (head .exit)) (now (after .exit)) (orderList count (now (order .entry))) ⌝ }
 {
-    let mut k = count;
-    while 0 < k {
-        k -= 1;
-        link_first(wires, tables::entry(order, k), head, after);
+    let mut place = count;
+    while 0 < place {
+        place -= 1;
+        link_first(wires, tables::entry(order, place), head, after);
     }
 }
 

@@ -11,10 +11,10 @@ use Rattle.rounds.proofs.links.link_by.Statement.{statement}
 use Rattle.rounds.proofs.links.link_by.Tie as tie
 
 abbrev Inv-loop : tie.InvT-loop
-Inv-loop wires order count head₀ after₀ k₀ head after k = (k ≤ count) × IsLinked wires count head after (slice k count order)
+Inv-loop wires order count head₀ after₀ place₀ head after place = (place ≤ count) × IsLinked wires count head after (slice place count order)
 
 abbrev μ-loop : tie.MeasureT-loop
-μ-loop wires order count head₀ after₀ k₀ head after k = k
+μ-loop wires order count head₀ after₀ place₀ head after place = place
 
 loop-holds : tie.Need-loop-holds Inv-loop μ-loop
 loop-holds c =
@@ -33,7 +33,7 @@ link-first-requires c κs =
     omega (
       arith,
       c .before .before .entry .ensures,
-      order-below (s .args .count) (s .args .order .now) (s .pre .1) (s .pre .2) (l .k - 1) (omega (arith, l .inv .0, b)),
+      order-below (s .args .count) (s .args .order .now) (s .pre .1) (s .pre .2) (l .place - 1) (omega (arith, l .inv .0, b)),
     ) in
     (omega (arith, x, s .pre .0), s .pre .3 (c .before .before .entry .result) x, omega (arith, x, s .pre .5))
 
@@ -46,10 +46,10 @@ loop-again c =
     let e = c .before .before .before .entry .ensures in
     let x = c .before .before .before .entry .result in (
       omega (arith, l .inv .0),
-      order-next (a .count) (a .order .now) (s .pre .1) (s .pre .2) (a .wires .now) _ _ (l .k) x b (l .inv .0) e
-          (c .link-first .ensures (a .count) (slice (l .k) (a .count) (a .order .now))
-          (omega (arith, e, order-below (a .count) (a .order .now) (s .pre .1) (s .pre .2) (l .k - 1) (omega (arith, l .inv .0, b))))
-          (order-new (a .count) (a .order .now) (s .pre .1) (s .pre .2) (l .k) x b (l .inv .0) e) (l .inv .1)),
+      order-next (a .count) (a .order .now) (s .pre .1) (s .pre .2) (a .wires .now) _ _ (l .place) x b (l .inv .0) e
+          (c .link-first .ensures (a .count) (slice (l .place) (a .count) (a .order .now))
+          (omega (arith, e, order-below (a .count) (a .order .now) (s .pre .1) (s .pre .2) (l .place - 1) (omega (arith, l .inv .0, b))))
+          (order-new (a .count) (a .order .now) (s .pre .1) (s .pre .2) (l .place) x b (l .inv .0) e) (l .inv .1)),
     )
 
 returns : tie.Need-returns Inv-loop μ-loop
@@ -57,7 +57,7 @@ returns c =
     let s = c .before .before .before .before in
     let l = c .before .loop in
     let a = s .args in
-    let e : l .k ≡ 0 = omega arith in
+    let e : l .place ≡ 0 = omega arith in
     subst (λ (k : ℕ). IsLinked (a .wires .now) (a .count) (l .head) (l .after) (slice k (a .count) (a .order .now))) e (l .inv .1)
 
 pub link-by-spec : {M : Type 1} → statement M
