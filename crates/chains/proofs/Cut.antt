@@ -1,5 +1,4 @@
 -- The port tables of a net cut to the counts: they have a number for each port, the same at each port, and satisfy the net where its tables do.
---   cutInputs T, cutOutputs T   the port tables so cut
 -- Assumes nothing.
 use mathlib.Core.Path.{_≡_, sym, ap, _∙_}
 use mathlib.Core.List.{List}
@@ -15,13 +14,7 @@ use Rattle.net.proofs.NetLaws.{Net, netNumber-net, netNumber-sizes}
 use Rattle.rounds.proofs.Ports.{numbers-cong}
 use Rattle.rounds.proofs.Sound.{inputCount, outputCount, Sound, net-sound, net-within}
 use Rattle.quiet.proofs.Obeyed.{SatisfiedAt}
-use Rattle.chains.proofs.Unique.{withPorts}
-
-abbrev pub cutInputs : Tables → List ℕ
-cutInputs T = take (T .counts .inputs) (T .inputs)
-
-abbrev pub cutOutputs : Tables → List ℕ
-cutOutputs T = take (T .counts .outputs) (T .outputs)
+use Rattle.chains.specs.Chains.{valuesOf, withValues}
 
 numbers-take : (c : ℕ) (l : List ℕ) (a k : ℕ) → a + k ≤ c → c ≤ length l → numbers (take c l) a k ≡ numbers l a k
 numbers-take c l a k h u =
@@ -41,29 +34,29 @@ module _ (T : Tables) (z : netNumber T ≡ 0) where
   outputs-long : T .counts .outputs ≤ length (T .outputs)
   outputs-long = omega (arith, net-within T z .outputs, netNumber-sizes T z .outputs)
 
-  pub cut-inputs-length : length (cutInputs T) ≡ T .counts .inputs
+  pub cut-inputs-length : length (valuesOf T .inputs) ≡ T .counts .inputs
   cut-inputs-length = length-take-le (T .counts .inputs) (T .inputs) inputs-long
 
-  pub cut-outputs-length : length (cutOutputs T) ≡ T .counts .outputs
+  pub cut-outputs-length : length (valuesOf T .outputs) ≡ T .counts .outputs
   cut-outputs-length = length-take-le (T .counts .outputs) (T .outputs) outputs-long
 
   -- At the ports of a component, all of one side or one.
   module _ (i : ℕ) (h : i < T .counts .components) where
-    pub cut-inputs : inputsAt T (cutInputs T) i ≡ inputsAt T (T .inputs) i
+    pub cut-inputs : inputsAt T (valuesOf T .inputs) i ≡ inputsAt T (T .inputs) i
     cut-inputs =
         numbers-take (T .counts .inputs) (T .inputs) (firstInput T i) (fieldsAt T i .inputs) (portsFollow-inputs T (clauses .ports) i h) inputs-long
 
-    pub cut-outputs : outputsAt T (cutOutputs T) i ≡ outputsAt T (T .outputs) i
+    pub cut-outputs : outputsAt T (valuesOf T .outputs) i ≡ outputsAt T (T .outputs) i
     cut-outputs =
         numbers-take (T .counts .outputs) (T .outputs) (firstOutput T i) (fieldsAt T i .outputs) (portsFollow-outputs T (clauses .ports) i h) outputs-long
 
-    pub cut-input : (p : ℕ) → p < inputCount T i → getD (cutInputs T) (firstInput T i + p) 0 ≡ getD (T .inputs) (firstInput T i + p) 0
+    pub cut-input : (p : ℕ) → p < inputCount T i → getD (valuesOf T .inputs) (firstInput T i + p) 0 ≡ getD (T .inputs) (firstInput T i + p) 0
     cut-input p u = getD-take (T .counts .inputs) (T .inputs) (firstInput T i + p) 0 (omega (arith, portsFollow-inputs T (clauses .ports) i h))
 
-    pub cut-output : (p : ℕ) → p < outputCount T i → getD (cutOutputs T) (firstOutput T i + p) 0 ≡ getD (T .outputs) (firstOutput T i + p) 0
+    pub cut-output : (p : ℕ) → p < outputCount T i → getD (valuesOf T .outputs) (firstOutput T i + p) 0 ≡ getD (T .outputs) (firstOutput T i + p) 0
     cut-output p u = getD-take (T .counts .outputs) (T .outputs) (firstOutput T i + p) 0 (omega (arith, portsFollow-outputs T (clauses .ports) i h))
 
-  pub satisfied-cut : (t : ℕ) → SatisfiedAt T t → SatisfiedAt (withPorts T (cutInputs T) (cutOutputs T)) t
+  pub satisfied-cut : (t : ℕ) → SatisfiedAt T t → SatisfiedAt (withValues T (valuesOf T)) t
   satisfied-cut t s =
       record {
         equal = λ w m.

@@ -1,6 +1,5 @@
 -- Where no chain of wires is longer than D, the values that satisfy a net are fixed by the switch outputs and the values at inputs without a wire, Clocks taken
 -- at one time: along chains each component's inputs come from components that chains reach before it.
---   withPorts T ins outs   the tables T with other values at their ports
 -- Assumes nothing.
 use mathlib.Core.Path.{_≡_, refl, sym, ap, _∙_, subst}
 use mathlib.Core.Bool.{Bool, true, false, true≢false}
@@ -18,18 +17,15 @@ use Rattle.kinds.specs.declared.Kind.the-variants.{Switch}
 use Rattle.kinds.specs.Kinds.{is}
 use Rattle.primitive.specs.Evaluate.{functionOf}
 use Rattle.tables.specs.declared.Wire.{Wire}
-use Rattle.tables.specs.Tables.{Tables, tablesOf, fieldsAt, firstInput, firstOutput, inputPlace, outputsAt, wiresIn}
+use Rattle.tables.specs.Tables.{Tables, fieldsAt, firstInput, firstOutput, inputPlace, outputsAt, wiresIn}
 use Rattle.net.specs.Net.{netNumber}
 use Rattle.net.proofs.ClausesLaws.{portsFollow-inputCount, portsFollow-outputCount, portsFollow-firstInput, portsFollow-firstOutput, portsFollow-inputs, portsFollow-outputs}
 use Rattle.net.proofs.NetLaws.{Net, netNumber-net}
 use Rattle.rounds.proofs.Ports.{off-apart, numbers-at, numbers-cong}
 use Rattle.rounds.proofs.Sound.{inputCount, outputCount, Sound, net-sound, inputs-off}
 use Rattle.quiet.proofs.Obeyed.{SatisfiedAt}
-use Rattle.chains.specs.Chains.{Chain, IsIndex, Joins}
+use Rattle.chains.specs.Chains.{Chain, Values, withValues, IsIndex, Joins}
 use Rattle.chains.proofs.Joints.{wire-found, Deep, deep-one, deep-wire}
-
-abbrev pub withPorts : Tables → List ℕ → List ℕ → Tables
-withPorts T ins outs = tablesOf (T .components) ins outs (T .wires) (T .current) (T .following) (T .standing) (T .counts)
 
 -- Each number below a sum belongs to one of its parts.
 total-part : (f : ℕ → ℕ) (n j : ℕ) → j < total f (from 0 n) → (i : ℕ) × (i < n) × (total f (from 0 i) ≤ j) × (j < total f (from 0 i) + f i)
@@ -70,28 +66,28 @@ module _ (T : Tables) (z : netNumber T ≡ 0) where
       (r .0, j - firstOutput T (r .0), r .1, omega (arith, r .2, r .3, e), omega (arith, r .2, e))
 
   -- Values v and x that satisfy the net, with the same switch outputs and the same values at inputs that no wire enters.
-  module _ (t : ℕ) (v-inputs v-outputs x-inputs x-outputs : List ℕ) (vi : length v-inputs ≡ T .counts .inputs) (vo : length v-outputs ≡ T .counts .outputs)
-      (xi : length x-inputs ≡ T .counts .inputs) (xo : length x-outputs ≡ T .counts .outputs)
-      (sv : SatisfiedAt (withPorts T v-inputs v-outputs) t) (sx : SatisfiedAt (withPorts T x-inputs x-outputs) t)
-      (switches : (i : ℕ) → i < T .counts .components → is Switch (fieldsAt T i) ≡ true → outputsAt T v-outputs i ≡ outputsAt T x-outputs i)
+  module _ (t : ℕ) (v x : Values) (vi : length (v .inputs) ≡ T .counts .inputs) (vo : length (v .outputs) ≡ T .counts .outputs)
+      (xi : length (x .inputs) ≡ T .counts .inputs) (xo : length (x .outputs) ≡ T .counts .outputs)
+      (sv : SatisfiedAt (withValues T v) t) (sx : SatisfiedAt (withValues T x) t)
+      (switches : (i : ℕ) → i < T .counts .components → is Switch (fieldsAt T i) ≡ true → outputsAt T (v .outputs) i ≡ outputsAt T (x .outputs) i)
       (loose : (i p : ℕ) → i < T .counts .components → p < inputCount T i
       → ((w : Wire) → In w (wiresIn T) → inputPlace T (w .dst) ≡ firstInput T i + p → ⊥)
-      → getD v-inputs (firstInput T i + p) 0 ≡ getD x-inputs (firstInput T i + p) 0) where
+      → getD (v .inputs) (firstInput T i + p) 0 ≡ getD (x .inputs) (firstInput T i + p) 0) where
     abbrev SameOutputs : ℕ → Type 0
-    SameOutputs i = outputsAt T v-outputs i ≡ outputsAt T x-outputs i
+    SameOutputs i = outputsAt T (v .outputs) i ≡ outputsAt T (x .outputs) i
 
     one-output : (i p : ℕ) → i < n → p < outputCount T i → SameOutputs i
-        → getD v-outputs (firstOutput T i + p) 0 ≡ getD x-outputs (firstOutput T i + p) 0
+        → getD (v .outputs) (firstOutput T i + p) 0 ≡ getD (x .outputs) (firstOutput T i + p) 0
     one-output i p h u e =
         let room = portsFollow-outputs T (clauses .ports) i h in
-        sym (numbers-at v-outputs (firstOutput T i) (fieldsAt T i .outputs) (omega (arith, vo, room)) p u)
+        sym (numbers-at (v .outputs) (firstOutput T i) (fieldsAt T i .outputs) (omega (arith, vo, room)) p u)
         ∙ ap (λ (l : List ℕ). getD l p 0) e
-        ∙ numbers-at x-outputs (firstOutput T i) (fieldsAt T i .outputs) (omega (arith, xo, room)) p u
+        ∙ numbers-at (x .outputs) (firstOutput T i) (fieldsAt T i .outputs) (omega (arith, xo, room)) p u
 
     -- An input, from the outputs of the wire that enters it, if any does.
     one-input : (i p : ℕ) → i < n → p < inputCount T i
         → ((w : Wire) → In w (wiresIn T) → w .dst .comp .0 ≡ i → SameOutputs (w .src .comp .0))
-        → getD v-inputs (firstInput T i + p) 0 ≡ getD x-inputs (firstInput T i + p) 0
+        → getD (v .inputs) (firstInput T i + p) 0 ≡ getD (x .inputs) (firstInput T i + p) 0
     one-input i p h u before = by-wire (any enters (wiresIn T)) refl
       where
         enters : Wire → Bool
@@ -102,7 +98,7 @@ module _ (T : Tables) (z : netNumber T ≡ 0) where
         ends-here w m e (no q) =
             absurd (off-apart (firstInput T i) (inputCount T i) (inputPlace T (w .dst)) p (inputs-off T g i w h m q) u (sym e))
 
-        by-wire : (b : Bool) → any enters (wiresIn T) ≡ b → getD v-inputs (firstInput T i + p) 0 ≡ getD x-inputs (firstInput T i + p) 0
+        by-wire : (b : Bool) → any enters (wiresIn T) ≡ b → getD (v .inputs) (firstInput T i + p) 0 ≡ getD (x .inputs) (firstInput T i + p) 0
         by-wire false e =
             loose i p h u (λ w m q. true≢false (sym (eq-eqb (inputPlace T (w .dst)) (firstInput T i + p) q) ∙ any-none enters w (wiresIn T) e m))
         by-wire true e =
@@ -110,7 +106,7 @@ module _ (T : Tables) (z : netNumber T ≡ 0) where
             let w = r .0 in
             let q : inputPlace T (w .dst) ≡ firstInput T i + p = eqb-true (inputPlace T (w .dst)) (firstInput T i + p) (r .2) in
             let d = ends-here w (r .1) q (ℕ-discrete (w .dst .comp .0) i) in
-            subst (λ (j : ℕ). getD v-inputs j 0 ≡ getD x-inputs j 0) q
+            subst (λ (j : ℕ). getD (v .inputs) j 0 ≡ getD (x .inputs) j 0) q
             (sym (sv .equal w (r .1))
             ∙ one-output (w .src .comp .0) (w .src .port) (g .source w (r .1)) (g .source-port w (r .1)) (before w (r .1) d)
             ∙ sx .equal w (r .1))
@@ -129,27 +125,27 @@ module _ (T : Tables) (z : netNumber T ≡ 0) where
             let room = portsFollow-inputs T (clauses .ports) i h in
             sv .follow i h e
             ∙ ap (λ (l : List ℕ). functionOf (fieldsAt T i) l t)
-            (numbers-cong v-inputs x-inputs (firstInput T i) (fieldsAt T i .inputs) (omega (arith, vi, room)) (omega (arith, xi, room))
+            (numbers-cong (v .inputs) (x .inputs) (firstInput T i) (fieldsAt T i .inputs) (omega (arith, vi, room)) (omega (arith, xi, room))
             (λ p u. one-input i p h u before))
             ∙ sym (sx .follow i h e)
 
     -- They are the same.
-    pub unique : (D : ℕ) → ((k i j : ℕ) → Chain (IsIndex T) (Joins T) k i j → k ≤ D) → (v-inputs ≡ x-inputs) × (v-outputs ≡ x-outputs)
-    unique D most = (same-inputs, same-outputs)
+    pub unique : (D : ℕ) → ((k i j : ℕ) → Chain (IsIndex T) (Joins T) k i j → k ≤ D) → v ≡ x
+    unique D most = λ k. record { inputs = same-inputs k; outputs = same-outputs k }
       where
         all : (i : ℕ) → i < n → SameOutputs i
         all i h = outputs-same D i h (λ r q. most r (q .0) i (q .1))
 
-        same-inputs : v-inputs ≡ x-inputs
+        same-inputs : v .inputs ≡ x .inputs
         same-inputs =
-            ext-getD 0 v-inputs x-inputs (vi ∙ sym xi)
+            ext-getD 0 (v .inputs) (x .inputs) (vi ∙ sym xi)
             (λ j h. let r = input-port j (omega (arith, vi)) in
-            subst (λ (q : ℕ). getD v-inputs q 0 ≡ getD x-inputs q 0) (sym (r .4))
+            subst (λ (q : ℕ). getD (v .inputs) q 0 ≡ getD (x .inputs) q 0) (sym (r .4))
             (one-input (r .0) (r .1) (r .2) (r .3) (λ w m e. all (w .src .comp .0) (g .source w m))))
 
-        same-outputs : v-outputs ≡ x-outputs
+        same-outputs : v .outputs ≡ x .outputs
         same-outputs =
-            ext-getD 0 v-outputs x-outputs (vo ∙ sym xo)
+            ext-getD 0 (v .outputs) (x .outputs) (vo ∙ sym xo)
             (λ j h. let r = output-port j (omega (arith, vo)) in
-            subst (λ (q : ℕ). getD v-outputs q 0 ≡ getD x-outputs q 0) (sym (r .4))
+            subst (λ (q : ℕ). getD (v .outputs) q 0 ≡ getD (x .outputs) q 0) (sym (r .4))
             (one-output (r .0) (r .1) (r .2) (r .3) (all (r .0) (r .2))))

@@ -30,10 +30,10 @@ use Rattle.loaded.proofs.Drawn.{IsDrawn}
 use Rattle.loaded.proofs.LoadTheorems.{accepted-drawn, accepted-standing, accepted-primitive, accepted-below, accepted-leads-wired, accepted-wire-drawn}
 use Rattle.rounds.proofs.Sound.{inputCount}
 use Rattle.quiet.proofs.Invariant.{clocked}
-use Rattle.chains.specs.Chains.{Chain, Cycle, Most, IsIndex, Joins}
+use Rattle.chains.specs.Chains.{Chain, Cycle, Most, Values, IsIndex, Joins}
 use Rattle.chains.proofs.Joints.{chain-map, wire-joins, joins-wire}
 use Rattle.demands.proofs.Demand3.{from-primitive, into-primitive}
-use Rattle.settled.specs.Settled.{Values, There, Joined, HasCycle, IsMost, Clockless, Among}
+use Rattle.settled.specs.Settled.{There, Joined, HasCycle, IsMost, Clockless, Among}
 
 module _ (file : List ℕ) (T₀ : Tables) (a : loadVerdict file T₀ ≡ Accepted) (T : Tables) (same : SameWiring (loadTables file T₀) T) where
   abbrev at : ℕ → Record

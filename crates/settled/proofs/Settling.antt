@@ -14,15 +14,15 @@ use Rattle.load.specs.Load.{loadTables}
 use Rattle.rounds.specs.Round.{onlyClocks, calm}
 use Rattle.rounds.proofs.Sound.{net-sound}
 use Rattle.quiet.proofs.Since.{Fresh}
-use Rattle.chains.specs.Chains.{Most, IsIndex, Joins, larger, longest}
+use Rattle.chains.specs.Chains.{Most, Values, valuesOf, withValues, IsIndex, Joins, larger, longest}
 use Rattle.chains.proofs.Longest.{larger-left, larger-right, longest-most}
 use Rattle.chains.proofs.Settle.{ran-net, ran-wiring, settles}
 use Rattle.chains.proofs.Unique.{unique}
-use Rattle.chains.proofs.Cut.{cutInputs, cutOutputs, cut-inputs-length, cut-outputs-length, cut-outputs, cut-input, satisfied-cut}
+use Rattle.chains.proofs.Cut.{cut-inputs-length, cut-outputs-length, cut-outputs, cut-input, satisfied-cut}
 use Rattle.demands.specs.Demand.{Satisfied}
 use Rattle.demands.proofs.Demand3.{load-fresh, satisfied-at}
 use Rattle.demands.proofs.Calm.{calm-satisfied}
-use Rattle.settled.specs.Settled.{Values, valuesOf, withValues, HasCycle, Clockless, Among, Settling}
+use Rattle.settled.specs.Settled.{HasCycle, Clockless, Among, Settling}
 use Rattle.settled.proofs.Drawn.{cycle-drawn, most-drawn, clockless-tables, among-switches, among-loose, load-consts}
 use Rattle.settled.proofs.Rounds.{RoundsFrom, rounds-from}
 
@@ -78,14 +78,13 @@ module _ (file : List ℕ) (k t : ℕ) (T : Tables) (f : RoundsFrom file k t T) 
     settled-only : (v : Values) → Among (recordAt file) (recordCount file) T v → Satisfied (recordAt file) (recordCount file) (withValues T v) t
         → v ≡ valuesOf T
     settled-only v m s =
-        let same = unique T net t (v .inputs) (v .outputs) (cutInputs T) (cutOutputs T) (m .inputs-length) (m .outputs-length)
+        unique T net t v (valuesOf T) (m .inputs-length) (m .outputs-length)
         (cut-inputs-length T net) (cut-outputs-length T net)
         (satisfied-at file (f .lent) (f .accepted) (withValues T v) (values-wiring L T v wiring) t s)
         (satisfied-cut T net t (satisfied-at file (f .lent) (f .accepted) T wiring t settled-satisfied))
         (λ i h e. among-switches file (f .lent) (f .accepted) T wiring v m i h e ∙ sym (cut-outputs T net i h))
         (λ i p h u none. among-loose file (f .lent) (f .accepted) T wiring v m i p h u none ∙ sym (cut-input T net i h p u))
-        (longest T) (most .bound) in
-        λ i. record { inputs = same .0 i; outputs = same .1 i }
+        (longest T) (most .bound)
 
 -- For an accepted drawing without Clocks whose wires form no cycle, `longest` is the most primitives on any chain of wires; and after max(D, 2) rounds or
 -- more with no edit since the load, in whatever orders, it is calm and satisfied, with the only port values that could satisfy it.

@@ -3,7 +3,7 @@
 --   HasCycle, IsMost         the drawing's wires form a cycle; D is the most primitives on any chain of its wires
 --   Clockless                "drawings without Clocks"
 --   Unedited file k t T      tables that calls other than edits reach from a load: k rounds since, the last at time t
---   Values, Among            a number for each port; "those with the same switch outputs and the same values at inputs without a wire"
+--   Among                    "those with the same switch outputs and the same values at inputs without a wire"
 --   Settling                 the statement
 --   OrderStored              a round that is handed the stored order is a round
 -- Assumes nothing.
@@ -11,7 +11,7 @@ use mathlib.Core.Path.{_≡_}
 use Prim.Native.Nat.{ℕ, _+_, _≤_, _<_}
 use mathlib.Core.Bool.{Bool, true, false, cond, _&&_}
 use mathlib.Core.List.{List}
-use lib.ListN.{length, getD, take}
+use lib.ListN.{length, getD}
 use lib.Dec.{eqb}
 use Rattle.lists.specs.Lists.{from}
 use Rattle.kinds.specs.declared.Kind.the-variants.{Switch, Clock}
@@ -22,27 +22,14 @@ use Rattle.component.specs.Record.{IsBytes, recordAt, recordCount, fieldsOf, in
 use Rattle.component.specs.Drawing.{inputsBefore, outputsBefore}
 use Rattle.flatten.specs.declared.Pin.{Pin}
 use Rattle.flatten.specs.Leads.{Leads}
-use Rattle.tables.specs.Tables.{Tables, tablesOf, numbers}
+use Rattle.tables.specs.Tables.{Tables, numbers}
 use Rattle.load.specs.Load.{loadVerdict, loadTables}
 use Rattle.rounds.specs.Round.{orderList, calm}
 use Rattle.simulator.specs.Calls.{after, roundNumber, roundCall, roundMoved, run}
 use Rattle.simulator.specs.Ordered.{orderedNumber, orderedTables, orderedMoved}
-use Rattle.chains.specs.Chains.{Cycle, Most, larger, longest}
+use Rattle.chains.specs.Chains.{Cycle, Most, Values, valuesOf, withValues, larger, longest}
 use Rattle.demands.specs.Reached.{Call, rounded, edited, untilCalm, ordered, callNumber, callTables, isRound, callTime}
 use Rattle.demands.specs.Demand.{Satisfied}
-
--- "port values": a number for each input and each output.
-pub record Values : Type 0 where
-  pub inputs : List ℕ
-  pub outputs : List ℕ
-
--- Those of tables.
-abbrev pub valuesOf : Tables → Values
-valuesOf T = record { inputs = take (T .counts .inputs) (T .inputs); outputs = take (T .counts .outputs) (T .outputs) }
-
--- The tables with other values at their ports.
-abbrev pub withValues : Tables → Values → Tables
-withValues T v = tablesOf (T .components) (v .inputs) (v .outputs) (T .wires) (T .current) (T .following) (T .standing) (T .counts)
 
 module _ (at : ℕ → Record) (n : ℕ) where
   -- A primitive of the drawing.
