@@ -1,6 +1,8 @@
 // The calls of the screen's host program, which is written in C, that change a net: a round, one in an order, an edit of either way, run until
 // calm. Rules: docs/SPECIFICATION.md, "Rounds", its last paragraph, and "Numbers given back". host/berxundar.h declares them. Each has its engine's
 // own promise, on the tables that the lent slices and count words make; a function of many slices stands in a module of its own.
+#![tactic(auto)]
+
 mod edit;
 mod edit_standing;
 mod round;

@@ -1,5 +1,7 @@
 // The checks 3 to 14. Those of one record by itself answer the refusal's number, or 0; those that look at earlier records too go over all of
 // them, with what they have to know of the earlier ones carried along. Rule: docs/SPECIFICATION.md, "Numbers given back".
+#![tactic(auto)]
+
 mod passes;
 
 ghost use Rattle.std.specs.Prelude.{◌≡◌, false, cond, ◌&&◌, ◌||◌, ◌⊎◌, ◌≤◌, ◌<◌, eqb, leb, ltb};
@@ -233,7 +235,7 @@ fn id_before(file: &[u8], p: usize, id: Id) -> bool
 }
 
 // The inputs and the outputs of some primitives.
-#[derive(Drop)]
+#[derive(Clone, Copy)]
 struct Ports {
     inputs: usize,
     outputs: usize,
@@ -319,7 +321,7 @@ fn check12(file: &[u8], index: &[u16], p: usize) -> u32
 }
 
 // A child's input that a record enters, or none.
-#[derive(Drop)]
+#[derive(Clone, Copy)]
 pub enum Entry {
     Of { owner: u16, to: ChildNo, input: u16 },
     Nothing,

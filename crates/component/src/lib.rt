@@ -1,5 +1,7 @@
 // The records of a drawing file. Rules: docs/SPECIFICATION.md, "The drawing file" and "Numbers given back". Source:
 // component.rs.
+#![tactic(auto)]
+
 mod reader;
 
 use kinds::{Fields, Id, Refusal};
@@ -9,11 +11,11 @@ pub use reader::{
 };
 
 // A child, counted below one owner.
-#[derive(Drop)]
+#[derive(Clone, Copy)]
 pub struct ChildNo(pub u16);
 
 // A record as the file has it: its nine numbers.
-#[derive(Drop)]
+#[derive(Clone, Copy)]
 pub struct Record {
     pub form: u8,
     pub kind: u8,
@@ -27,7 +29,7 @@ pub struct Record {
 }
 
 // What a record says of its owner.
-#[derive(Drop)]
+#[derive(Clone, Copy)]
 pub enum Says {
     Component {
         id: Id,
@@ -51,21 +53,21 @@ pub enum Says {
 }
 
 // What reading a record answers: the record taken apart, or the number that refuses it.
-#[derive(Drop)]
+#[derive(Clone, Copy)]
 pub enum Reading {
     Taken { owner: u16, says: Says },
     Refused(u32),
 }
 
 // The component at a position, if there is one.
-#[derive(Drop)]
+#[derive(Clone, Copy)]
 pub enum Stands {
     Component { owner: u16, id: Id, fields: Fields },
     Nothing,
 }
 
 // What a file's bytes are judged to be.
-#[derive(Drop)]
+#[derive(Clone, Copy)]
 pub enum Verdict {
     Accepted,
     Refused(Refusal),

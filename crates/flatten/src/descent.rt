@@ -14,7 +14,7 @@ use component::{Reading, Says, deepest, is_primitive_at, known_at};
 use index::{child_of, out_map_of, stretch_of};
 
 // Where a record leads from an input of a composite: to an input of a child, if it is one of that input's maps, or nowhere.
-#[derive(Drop)]
+#[derive(Clone, Copy)]
 enum Entered {
     To(usize, u16),
     Nothing,

@@ -1,4 +1,6 @@
 // Flattening a drawing. Rules: docs/SPECIFICATION.md, "Flattening" and "Numbers given back". Source: flatten.rs.
+#![tactic(auto)]
+
 mod descent;
 mod judgement;
 mod targets;
@@ -9,14 +11,14 @@ pub use judgement::{verdict, verdict_indexed};
 pub use targets::target_at;
 
 // A port of a component of a drawing, by the component's number.
-#[derive(Drop)]
+#[derive(Clone, Copy)]
 pub struct Pin {
     pub comp: usize,
     pub port: u16,
 }
 
 // From an output to an input that it leads to.
-#[derive(Drop)]
+#[derive(Clone, Copy)]
 pub struct Lead {
     pub src: Pin,
     pub dst: Pin,

@@ -2,6 +2,8 @@
 // mending, evaluating. Those that change a net are crate changing's, the questions about a net crate asking's, the slow engine's calls
 // crate slowly's. Rules: docs/SPECIFICATION.md, "Rounds", its last paragraph, "Numbers given back", "Looking at a box" and "Mending a
 // drawing". host/berxundar.h declares them. Each has its engine's own promise, on the tables that the lent slices and count words make.
+#![tactic(auto)]
+
 mod evaluate;
 mod judge;
 mod loading;

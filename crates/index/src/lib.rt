@@ -7,6 +7,8 @@
 //   words 1792 to 2303    the input maps of composite c stand from word 1792 + c to before word 2048 + c
 //   words 2304 to 2815    guesses: the children, owner by owner; where those of each owner start
 //   words 2816 to 3071    guesses: the first output map of each owner
+#![tactic(auto)]
+
 ghost use Rattle.std.specs.Prelude.{◌≡◌, true, ℕ, ◌+◌, ◌≤◌, ◌<◌, length, get_or, eqb};
 ghost use Rattle.component.specs.Record.{record_at, record_count};
 ghost use Rattle.component.specs.Reading.{said, form_by, Readable};
@@ -18,7 +20,7 @@ ghost use Rattle.component.specs.Drawing.{child, out_map};
 use component::{ChildNo, Reading, Says, Stands, component_at, known_at};
 
 // The positions from `first` to before `end`.
-#[derive(Drop)]
+#[derive(Clone, Copy)]
 pub struct Stretch {
     pub first: usize,
     pub end: usize,

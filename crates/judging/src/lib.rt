@@ -1,5 +1,7 @@
 // Satisfied or not: the values of a net are judged at the components that its three lists name, Switches and Clocks aside, and at the wires
 // that leave any component named. Rule: docs/SPECIFICATION.md, "Rounds" (satisfied or not). The Rust has nothing of it.
+#![tactic(auto)]
+
 mod components;
 mod wires;
 

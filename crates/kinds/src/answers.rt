@@ -4,7 +4,7 @@ ghost use Rattle.kinds.specs.Given.{refused_by};
 
 // A number given back, the position of the record that it is about, 0 where it is about none, and of the earlier record which that one
 // meets, 0 where it meets none.
-#[derive(Drop)]
+#[derive(Clone, Copy)]
 pub struct Refusal {
     pub number: u32,
     pub position: u32,

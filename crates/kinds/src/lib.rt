@@ -1,4 +1,6 @@
 // The kinds of component, their numbers and their table. Rule: docs/SPECIFICATION.md, "The drawing file". Source: primitive.rs, `Primitive`.
+#![tactic(auto)]
+
 mod answers;
 mod table;
 
@@ -10,7 +12,7 @@ pub use answers::{Refusal, refused_by};
 pub use table::{Fields, Row, Span, input_width, is_primitive, obeys, output_width};
 
 // An id as drawn.
-#[derive(Drop)]
+#[derive(Clone, Copy)]
 pub struct Id(pub u32);
 
 // To whoever adds a kind: append yours after the last, never between two. A kind's number is saved in the drawing files of every
@@ -18,7 +20,7 @@ pub struct Id(pub u32);
 // a screen would light a closed run. 14 is kept for the Rust's `Custom`, and 15 is Majority: the next number is 16. Besides this
 // file the table of kinds, the rules and the names want a line, and so do the definitions of all four; docs/CHECKLISTS.md has
 // the whole way.
-#[derive(Drop)]
+#[derive(Clone, Copy)]
 pub enum Kind {
     Composite,
     And,
@@ -41,7 +43,7 @@ pub enum Kind {
 pub const NO_KIND: u8 = 255;
 
 // What a number is read as: a kind, the number kept for Custom, or no kind.
-#[derive(Drop)]
+#[derive(Clone, Copy)]
 pub enum Seen {
     Known(Kind),
     Kept,

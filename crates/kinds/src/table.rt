@@ -7,7 +7,7 @@ use crate::{Kind, Seen, is_kept, is_unknown, kind_of};
 use value::WIDEST;
 
 // The fields of a component that say what it is; width is field C.
-#[derive(Drop)]
+#[derive(Clone, Copy)]
 pub struct Fields {
     pub kind: u8,
     pub inputs: u16,
@@ -17,14 +17,14 @@ pub struct Fields {
 }
 
 // The numbers from least to most.
-#[derive(Drop)]
+#[derive(Clone, Copy)]
 pub struct Span {
     pub least: u64,
     pub most: u64,
 }
 
 // A row of the table: what a component's fields may be, and the bits of each input and of each output.
-#[derive(Drop)]
+#[derive(Clone, Copy)]
 pub struct Row {
     pub inputs: Span,
     pub outputs: Span,

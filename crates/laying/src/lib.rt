@@ -1,6 +1,8 @@
 // Laying the tables of an accepted drawing: components, ports, wires and lists, each by a pass over the records. Rules:
 // docs/SPECIFICATION.md, "Flattening" and "Rounds" (the state at load). Source: flatten.rs, `FlattenComponent::new`; simulator.rs,
 // `Simulator::new`.
+#![tactic(auto)]
+
 mod names;
 mod rows;
 mod wires;

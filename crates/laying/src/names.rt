@@ -17,7 +17,7 @@ use component::is_primitive_at;
 use kinds::{Fields, Kind};
 
 // How many components stand before, and how many of them are in the standing list.
-#[derive(Drop)]
+#[derive(Clone, Copy)]
 pub struct Stood {
     pub components: usize,
     pub count: usize,

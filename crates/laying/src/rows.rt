@@ -15,14 +15,14 @@ use component::{Stands, component_at};
 use kinds::{Fields, Id, Kind};
 
 // A primitive of the drawing, or any other record.
-#[derive(Drop)]
+#[derive(Clone, Copy)]
 pub enum Drawn {
     Primitive { id: Id, fields: Fields },
     Other,
 }
 
 // How many components, inputs and outputs the primitives before have.
-#[derive(Drop)]
+#[derive(Clone, Copy)]
 pub struct Before {
     pub components: usize,
     pub inputs: usize,

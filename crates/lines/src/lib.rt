@@ -1,4 +1,6 @@
 // The lines of the listing in a lent buffer. Rule: docs/SPECIFICATION.md, "The lamp drawing and marked cases".
+#![tactic(auto)]
+
 ghost use Rattle.std.specs.Prelude.{[], ◌∷◌, ◌++◌, ◌≤◌, length, take};
 ghost use Rattle.tables.specs.Tables.{tables_of, counts_of};
 ghost use Rattle.tables.specs.Words.{RowInside, RowsInside, WiresInside, fields_in, id_in};

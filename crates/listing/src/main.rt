@@ -1,9 +1,12 @@
 // The listing program: reads a drawing from standard input and writes its listing.
 // Rule: docs/SPECIFICATION.md, "The lamp drawing and marked cases".
+#![tactic(auto)]
+
 ghost use Rattle.text.specs.Text.{Puts};
 ghost use Rattle.listing.specs.Listing.{listing};
 
-use libc::STDIN_FILENO;
+// The descriptor of standard input.
+const STDIN: i32 = 0;
 use tables::Answer;
 
 // Lists a drawing in a lent buffer, and answers how many bytes that is.
@@ -51,7 +54,7 @@ fn main() {
     // One record more than the largest file, so that a file that is too long is seen to be.
     let mut file = [0u8; 24600];
     let mut out = io::large_buffer();
-    let count = io::read_full(STDIN_FILENO, &mut file);
+    let count = io::read_full(STDIN, &mut file);
     let end = list(&file[..count], &mut out);
     text::flush(&out, end);
 }

@@ -1,5 +1,7 @@
 // Loading a drawing into lent tables. Rules: docs/SPECIFICATION.md, "Flattening" and "Rounds" (the state at load).
 // Source: flatten.rs, `FlattenComponent::new`; simulator.rs, `Simulator::new`.
+#![tactic(auto)]
+
 ghost use Rattle.std.specs.Prelude.{◌≡◌, ◌≤◌, length};
 ghost use Rattle.component.specs.Record.{record_at, record_count};
 ghost use Rattle.index.specs.Index.{IsIndex};

@@ -1,5 +1,7 @@
 // The judgement of a file's bytes: the verdict, and of two records that meet what they are and which is the earlier.
 // Rule: docs/SPECIFICATION.md, "Numbers given back", 13, 22 and 23.
+#![tactic(auto)]
+
 ghost use Rattle.std.specs.Prelude.{◌≡◌, length};
 ghost use Rattle.component.specs.Record.{record_at};
 ghost use Rattle.component.specs.declared.Verdict.TheVariants.{Accepted};

@@ -1,4 +1,6 @@
 // The names of the kinds in a lent buffer. Rule: docs/SPECIFICATION.md, "The lamp drawing and marked cases".
+#![tactic(auto)]
+
 ghost use Rattle.std.specs.Prelude.{◌≡◌};
 ghost use Rattle.kinds.specs.Kinds.{seen_as, kind_of};
 ghost use Rattle.text.specs.Text.{Puts};

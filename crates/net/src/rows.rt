@@ -11,7 +11,7 @@ use crate::values::{row_fits, row_held};
 use tables::Counts;
 
 // Where the next component's inputs and outputs start.
-#[derive(Drop)]
+#[derive(Clone, Copy)]
 struct Next {
     input: usize,
     output: usize,

@@ -1,4 +1,6 @@
 // Evaluating a component. Rules: docs/SPECIFICATION.md, "The drawing file" and "Rounds". Source: primitive.rs.
+#![tactic(auto)]
+
 mod remainder;
 mod rules;
 mod single;
@@ -8,7 +10,7 @@ pub use rules::update;
 pub use single::evaluate;
 
 // The answer to evaluating a single component: which of its outputs changed, bit i for output i.
-#[derive(Drop)]
+#[derive(Clone, Copy)]
 pub enum Evaluated {
     Done(u64),
     Refused(Refusal),

@@ -1,6 +1,8 @@
 // The questions: calm or not, satisfied or not, the index of an id, a port's value, a component's sources and targets. They change no table
 // of a net.
 // Rule: docs/SPECIFICATION.md, "Numbers given back". Source: flatten.rs, `id_to_idx`, `deps`, `inv_deps`; the others are added.
+#![tactic(auto)]
+
 ghost use Rattle.std.specs.Prelude.{◌≡◌, cond, [], ℕ, ◌+◌, ◌<◌, ◌≤◌, length, get_or, eqb};
 ghost use Rattle.lists.specs.Lists.{from, first, overlay};
 ghost use Rattle.tables.specs.Tables.{tables_of};
@@ -17,35 +19,35 @@ use tables::{Counts, FlatIdx, Wire};
 use value::Value;
 
 // Which ports of a component.
-#[derive(Drop)]
+#[derive(Clone, Copy)]
 pub enum Side {
     Inputs,
     Outputs,
 }
 
 // Whether something is so.
-#[derive(Drop)]
+#[derive(Clone, Copy)]
 pub enum Whether {
     Is(bool),
     Refused(Refusal),
 }
 
 // The index of an id.
-#[derive(Drop)]
+#[derive(Clone, Copy)]
 pub enum Index {
     Is(FlatIdx),
     Refused(Refusal),
 }
 
 // A port's value.
-#[derive(Drop)]
+#[derive(Clone, Copy)]
 pub enum Port {
     Is(Value),
     Refused(Refusal),
 }
 
 // A component's sources or targets: how many stand in the lent list.
-#[derive(Drop)]
+#[derive(Clone, Copy)]
 pub enum Listed {
     Count(usize),
     Refused(Refusal),
@@ -55,7 +57,7 @@ pub enum Listed {
 const NAMES: usize = 256;
 
 // The ends of a wire.
-#[derive(Drop)]
+#[derive(Clone, Copy)]
 pub enum Tip {
     Source,
     Target,

@@ -1,1 +1,3 @@
 // What rounds and edits keep, and when a net is quiet: theorems only, no code.
+#![tactic(auto)]
+

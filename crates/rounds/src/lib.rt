@@ -1,6 +1,8 @@
 // A round of a net: each component of the current list evaluated, its wires sent, and the lists turned. Rule:
 // docs/SPECIFICATION.md, "Rounds". Source: simulator.rs, one pass of the loop in `start`, as with `keep_running` true.
 // Each step is the definition of the same name in specs/Round.antt.
+#![tactic(auto)]
+
 mod calm;
 mod links;
 mod marks;
@@ -24,21 +26,21 @@ pub use marks::mark;
 use tables::{Counts, Wire};
 
 // How many entries of the following and the standing list are in use.
-#[derive(Drop)]
+#[derive(Clone, Copy)]
 pub struct Sizes {
     pub following: usize,
     pub standing: usize,
 }
 
 // What an evaluation comes to: the standing list's new count, and which outputs changed, bit i for output i.
-#[derive(Drop)]
+#[derive(Clone, Copy)]
 pub struct Outcome {
     pub standing: usize,
     pub moved: u64,
 }
 
 // What a visit comes to: the new counts of the two lists, and which outputs changed.
-#[derive(Drop)]
+#[derive(Clone, Copy)]
 pub struct Visited {
     pub sizes: Sizes,
     pub moved: u64,

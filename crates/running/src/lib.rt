@@ -1,4 +1,6 @@
 // The rounds of a listing, until calm, in a lent buffer. Rule: docs/SPECIFICATION.md, "The lamp drawing and marked cases".
+#![tactic(auto)]
+
 ghost use Rattle.std.specs.Prelude.{◌≡◌, ◌≤◌, length};
 ghost use Rattle.tables.specs.Tables.{tables_of, counts_after};
 ghost use Rattle.net.specs.Net.{net_number};
@@ -13,7 +15,7 @@ use tables::{Answer, Counts};
 const ROUNDS: u64 = 16;
 
 // What a round leaves: the counts, and whether it left calm.
-#[derive(Drop)]
+#[derive(Clone, Copy)]
 struct Left {
     counts: Counts,
     calm: bool,

@@ -1,1 +1,3 @@
 // No code: when a drawing settles, stated on the drawing, and proved.
+#![tactic(auto)]
+

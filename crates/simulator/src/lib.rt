@@ -1,5 +1,7 @@
 // Rounds, in stored order or in one that is handed in, edits and runs until calm as calls over lent tables. Rules:
 // docs/SPECIFICATION.md, "Rounds" and "Numbers given back". Source: simulator.rs.
+#![tactic(auto)]
+
 mod calls;
 mod edits;
 mod first;
@@ -17,7 +19,7 @@ pub use standing::edit_standing;
 use tables::Counts;
 
 // Run until calm: the new counts, the rounds run, the evaluations made and how many times an output changed.
-#[derive(Drop)]
+#[derive(Clone, Copy)]
 pub enum Ran {
     Done {
         counts: Counts,

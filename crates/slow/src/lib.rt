@@ -1,5 +1,7 @@
 // The slow engine: rounds, edits and runs until calm straight from the drawing file, for finding faults. It is lent ports and lists, and keeps
 // no wire: each source and each target is worked out through the maps when it is needed. Rule: docs/SPECIFICATION.md, "The slow engine".
+#![tactic(auto)]
+
 mod editing;
 mod entering;
 mod leading;
@@ -14,7 +16,7 @@ pub use loading::load;
 pub use rounding::{round, run_until_calm};
 
 // How many entries of each lent table are in use.
-#[derive(Drop)]
+#[derive(Clone, Copy)]
 pub struct SlowCounts {
     pub inputs: usize,
     pub outputs: usize,
@@ -24,14 +26,14 @@ pub struct SlowCounts {
 }
 
 // The answer of a call that changes the tables: the new counts, or the refusal.
-#[derive(Drop)]
+#[derive(Clone, Copy)]
 pub enum SlowAnswer {
     Done(SlowCounts),
     Refused(Refusal),
 }
 
 // Run until calm: the new counts, the rounds run, the evaluations made and how many times an output changed.
-#[derive(Drop)]
+#[derive(Clone, Copy)]
 pub enum SlowRan {
     Done {
         counts: SlowCounts,

@@ -24,7 +24,7 @@ const PORTS: usize = 1024;
 const NAMES: usize = 256;
 
 // A call past its checks has so many components; or the refusal.
-#[derive(Drop)]
+#[derive(Clone, Copy)]
 pub enum Prepared {
     Ready(usize),
     Refused(Refusal),

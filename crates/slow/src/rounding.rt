@@ -84,7 +84,7 @@ pub fn round(
 }
 
 // What a run comes to.
-#[derive(Drop)]
+#[derive(Clone, Copy)]
 struct Run {
     counts: Counts,
     rounds: u16,

@@ -1,5 +1,7 @@
 // The lent tables, their layout and counts, and the lists in them. Rules: docs/SPECIFICATION.md, "Numbers given back".
 // Components are 8 words each, wires 4, ports and the entries of lists 1; an index of a component is a 16-bit number.
+#![tactic(auto)]
+
 mod named;
 mod rows;
 mod sizes;
@@ -17,25 +19,25 @@ pub use wires::{lay_wire, wire_at};
 pub use words::{entry, word};
 
 // The place of a component in the table of components.
-#[derive(Drop)]
+#[derive(Clone, Copy)]
 pub struct FlatIdx(pub usize);
 
 // A port of a component of the net.
-#[derive(Drop)]
+#[derive(Clone, Copy)]
 pub struct End {
     pub comp: FlatIdx,
     pub port: u16,
 }
 
 // A wire of the net, from an output to an input.
-#[derive(Drop)]
+#[derive(Clone, Copy)]
 pub struct Wire {
     pub src: End,
     pub dst: End,
 }
 
 // How many entries of each lent table are in use.
-#[derive(Drop)]
+#[derive(Clone, Copy)]
 pub struct Counts {
     pub components: usize,
     pub inputs: usize,
@@ -47,7 +49,7 @@ pub struct Counts {
 }
 
 // The answer to a call that changes the tables: the new counts, or the refusal.
-#[derive(Drop)]
+#[derive(Clone, Copy)]
 pub enum Answer {
     Done(Counts),
     Refused(Refusal),

@@ -1,8 +1,11 @@
 // Lines of text in a lent buffer, for the programs. A line that has no room is cut; each program lends room for its longest line.
+#![tactic(auto)]
+
 ghost use Rattle.std.specs.Prelude.{◌≡◌, [], ◌∷◌, min, length};
 ghost use Rattle.text.specs.Text.{written, place_after, numeral, spaced};
 
-use libc::STDOUT_FILENO;
+// The descriptor of standard output.
+const STDOUT: i32 = 1;
 
 // A place, or the buffer's end where it is past that.
 fn within(out: &[u8], at: usize) -> usize
@@ -96,6 +99,6 @@ pub fn flush(out: &[u8], at: usize) -> usize
     ensures { result ≡ min at (length out.now) }
 {
     let count = within(out, at);
-    io::write_all(STDOUT_FILENO, &out[..count]);
+    io::write_all(STDOUT, &out[..count]);
     count
 }

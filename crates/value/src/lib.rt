@@ -1,5 +1,7 @@
 // A port's value: a number with its width. Rule: docs/SPECIFICATION.md, "What is taken, leaves first".
 // It stands for the type `Data` of the Rust, whose text we do not have.
+#![tactic(auto)]
+
 ghost use Rattle.std.specs.Prelude.{◌≡◌, ◌≤◌, min};
 ghost use Rattle.value.specs.Value.{widest, ones, below, fits, fits_in, bit, complement, set_to};
 
@@ -10,14 +12,14 @@ pub const WIDEST: u64 = 64;
 const WORD: u64 = 64;
 
 // A number with its width in bits; bit 0 is the lowest. Any two numbers may stand here, and `fits` says whether a port may hold them.
-#[derive(Drop)]
+#[derive(Clone, Copy)]
 pub struct Value {
     pub number: u64,
     pub width: u64,
 }
 
 // A value handed back as it came, beside whether it fits.
-#[derive(Drop)]
+#[derive(Clone, Copy)]
 pub struct Fit {
     pub value: Value,
     pub fits: bool,

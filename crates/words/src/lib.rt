@@ -1,5 +1,7 @@
 // Counts and answers in words of 64 bits, as the host's calls are lent them. Rule: docs/SPECIFICATION.md, "Numbers given back".
 // Crates changing, asking, host and slowly call it, and have tested what the functions require.
+#![tactic(auto)]
+
 mod answers;
 mod counts;
 
