@@ -1,3 +1,2 @@
 // No code: chains of wires, and when rounds of a net settle, proved on its tables.
 #![tactic(auto)]
-

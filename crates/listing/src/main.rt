@@ -7,6 +7,7 @@ ghost use Rattle.listing.specs.Listing.{listing};
 
 // The descriptor of standard input.
 const STDIN: i32 = 0;
+
 use tables::Answer;
 
 // Lists a drawing in a lent buffer, and answers how many bytes that is.

@@ -1,3 +1,2 @@
 // No code: what a mending owes, said over the definitions of the crates below, and proved.
 #![tactic(auto)]
-

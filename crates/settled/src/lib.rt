@@ -1,3 +1,2 @@
 // No code: when a drawing settles, stated on the drawing, and proved.
 #![tactic(auto)]
-

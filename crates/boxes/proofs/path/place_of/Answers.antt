@@ -1,0 +1,27 @@
+-- `place_of`: what the ids to come name below the component found so far is the answer.
+-- Assumes nothing.
+use mathlib.Core.Path.{◌≡◌, refl}
+use Prim.Native.Nat.{◌-◌}
+use mathlib.Core.List.{foldl}
+use lib.ListN.{length, drop}
+use Rattle.component.specs.Record.{record_at, record_count}
+use Rattle.flatten.proofs.Accepted.{accepted_readable}
+use Rattle.boxes.specs.Boxes.{child_named, place_of}
+use Rattle.boxes.proofs.PathLaws.{place_next, place_missed, place_end}
+use borrow.Author.Rules.{rules}
+use Rattle.boxes.proofs.path.place_of.Goals as goal
+
+pub loop-k-init : goal.loop-k-init
+loop-k-init c = refl
+
+pub child_named-c-requires : goal.child_named-c-requires
+child_named-c-requires c = search (accepted_readable)
+
+pub returns-then-c-n : goal.returns-then-c-n
+returns-then-c-n c = search (place_missed)
+
+pub loop-k-preserved : goal.loop-k-preserved
+loop-k-preserved c = search (place_next)
+
+pub returns : goal.returns
+returns c = search (place_end)

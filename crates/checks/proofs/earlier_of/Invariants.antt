@@ -1,0 +1,20 @@
+-- `earlier_of`: the invariant: the first of the records to come that enters the input is the answer.
+-- Assumes nothing.
+use mathlib.Core.Path.{◌≡◌}
+use Prim.Native.Nat.{◌-◌}
+use lib.ListN.{get_or}
+use Rattle.lists.specs.Lists.{from, keep}
+use Rattle.component.specs.Record.{record_at}
+use Rattle.component.specs.Reading.{enters}
+use Rattle.component.specs.Drawing.{earlier_of}
+use Rattle.checks.proofs.ChecksLaws.{earlier_none, earlier_start}
+use Rattle.component.proofs.ScanLaws.{tested, scan_kth_here, scan_kth_next, scan_kth_none}
+use borrow.Author.Rules.{rules}
+use Rattle.checks.proofs.earlier_of.Given as goal
+
+abbrev pub invariant-loop-q : goal.invariant-loop-q
+invariant-loop-q l =
+    get_or (keep (tested l.file (enters l.owner l.to.0 l.input)) (from l.q (l.p - l.q))) 0 l.p ≡ earlier_of (record_at l.file) l.p
+
+abbrev pub decreases-loop-q : goal.decreases-loop-q
+decreases-loop-q l = l.p - l.q

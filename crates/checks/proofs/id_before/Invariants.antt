@@ -1,0 +1,17 @@
+-- `id_before`: the invariant: whether one of the records to come has the id is the answer.
+-- Assumes nothing.
+use mathlib.Core.Path.{◌≡◌}
+use Prim.Native.Nat.{◌-◌}
+use native.Mathlib.Nat.{sub-zero}
+use Rattle.lists.specs.Lists.{from, any}
+use Rattle.component.specs.Reading.{has_id}
+use Rattle.component.proofs.ScanLaws.{tested, scan_any_here, scan_any_next, scan_any_none}
+use borrow.Author.Rules.{rules}
+use Rattle.checks.proofs.id_before.Given as goal
+
+abbrev pub invariant-loop-q : goal.invariant-loop-q
+invariant-loop-q l =
+    any (tested l.file (has_id l.id.0)) (from l.q (l.p - l.q)) ≡ any (tested l.file (has_id l.id.0)) (from 0 l.p)
+
+abbrev pub decreases-loop-q : goal.decreases-loop-q
+decreases-loop-q l = l.p - l.q

@@ -1,0 +1,21 @@
+-- `first_indexed`: the invariant: no record before q fails.
+-- Assumes nothing.
+use mathlib.Core.Logic.{◌⊎◌, inl, inr}
+use mathlib.Core.Bool.{true, false}
+use mathlib.Core.Path.{◌≡◌, refl}
+use Prim.Native.Nat.{ℕ, ◌-◌, ◌/◌, ◌≤◌, ◌<◌}
+use native.Mathlib.Omega.{arith}
+use lib.ListN.{length}
+use Rattle.component.specs.Record.{record_at}
+use Rattle.checks.proofs.PassesLaws.{NoneBefore, none_start, none_next, first_this, first_none}
+use Rattle.flatten.specs.Searches.{fails_at}
+use Rattle.flatten.proofs.Accepted.{passed_check}
+use Rattle.flatten.proofs.JudgementLaws.{fails_here, passes_here}
+use borrow.Author.Rules.{rules}
+use Rattle.flatten.proofs.judgement.first_indexed.Given as goal
+
+abbrev pub invariant-loop-q : goal.invariant-loop-q
+invariant-loop-q l = (l.q ≤ length l.file / 24) × NoneBefore (fails_at (record_at l.file) (length l.file / 24) l.k) l.q
+
+abbrev pub decreases-loop-q : goal.decreases-loop-q
+decreases-loop-q l = length l.file / 24 - l.q

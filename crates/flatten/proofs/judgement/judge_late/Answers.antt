@@ -1,0 +1,29 @@
+-- `judge_late`: the invariant: the checks made so far have passed.
+-- Assumes nothing.
+use Prim.Native.Nat.{◌-◌, ◌/◌, ◌≤◌}
+use native.Mathlib.Omega.{arith}
+use lib.ListN.{length}
+use Rattle.component.specs.Record.{record_at}
+use Rattle.flatten.specs.Searches.{PassedBefore}
+use Rattle.flatten.proofs.JudgementLaws.{judged_here, passed_next, judged_refused, judged_passed}
+use borrow.Author.Rules.{rules}
+use Rattle.flatten.proofs.judgement.judge_late.Goals as goal
+
+pub returns-in-Refused : goal.returns-in-Refused
+returns-in-Refused c =
+    let a = c.args in
+    let l = c.loop-k in
+    judged_refused (record_at a.file.now) (length a.file.now / 24) 16 _
+    (judged_here a.file.now (length a.file.now / 24) l.k l.invariant.2 _ c.refused_at.ensures _ (omega (arith, l.invariant.0)) (omega (arith, c.loop-k-test.true)) c.in-Refused.is)
+
+pub loop-k-preserved : goal.loop-k-preserved
+loop-k-preserved c =
+    let a = c.args in
+    let l = c.loop-k in (
+      omega (arith, l.invariant.0),
+      omega (arith, c.loop-k-test.true),
+      passed_next a.file.now (length a.file.now / 24) l.k l.invariant.2 _ c.refused_at.ensures (omega (arith, l.invariant.0)) (omega (arith, c.loop-k-test.true)) c.in_default.is,
+    )
+
+pub returns : goal.returns
+returns c = judged_passed (record_at c.args.file.now) _ 16 c.loop-k.k c.loop-k.invariant.2 c.loop-k.invariant.1 c.loop-k-test.false

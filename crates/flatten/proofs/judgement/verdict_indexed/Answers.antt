@@ -1,0 +1,30 @@
+-- `verdict_indexed`: check 1, then the checks before the index, and those that ask it.
+-- Assumes nothing.
+use native.Mathlib.Omega.{arith}
+use Rattle.flatten.proofs.Accepted.{not_accepted}
+use Rattle.flatten.proofs.JudgementLaws.{sized_most, verdict_sized, verdict_early, verdict_late, readable_before}
+use borrow.Author.Rules.{rules}
+use Rattle.flatten.proofs.judgement.verdict_indexed.Goals as goal
+
+pub returns-then-not-is_sized : goal.returns-then-not-is_sized
+returns-then-not-is_sized c = record { value = rw c.refused_by.ensures (search (verdict_sized)); index = λ z. absurd (not_accepted _ z) }
+
+pub judge_early-requires : goal.judge_early-requires
+judge_early-requires c = search (sized_most)
+
+pub returns-in-Refused : goal.returns-in-Refused
+returns-in-Refused c =
+    let a = c.args in record { value = verdict_early a.file.now _ c.is_sized.ensures _ _ c.if-not-is_sized.false c.judge_early.ensures c.in-Refused.is; index = λ z. absurd (not_accepted _ z) }
+
+pub fill_index-requires : goal.fill_index-requires
+fill_index-requires c = (
+  readable_before c.args.file.now 12 (omega arith) (c.judge_early.ensures.passed c.in_default.is),
+  sized_most c.args.file.now _ c.is_sized.ensures c.if-not-is_sized.false,
+  c.requires,
+)
+
+pub judge_late-requires : goal.judge_late-requires
+judge_late-requires c = (c.fill_index.ensures, c.judge_early.ensures.passed c.enum_told-1.given.1)
+
+pub returns : goal.returns
+returns c = record { value = verdict_late c.args.file.now _ c.is_sized.ensures _ c.if-not-is_sized.false c.judge_late.ensures; index = λ z. c.fill_index.ensures }

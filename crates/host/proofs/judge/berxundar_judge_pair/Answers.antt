@@ -1,0 +1,33 @@
+-- `berxundar_judge_pair`: the judgement, spoken with the earlier record; its number, position and earlier record are small enough for the sum.
+-- Assumes nothing.
+use mathlib.Core.Path.{sym, ap, ◌∙◌}
+use native.Mathlib.Omega.{arith}
+use mathlib.Core.List.{[]}
+use Rattle.kinds.specs.Given.{spoken_pair}
+use Rattle.component.specs.declared.Verdict.{Verdict}
+use Rattle.flatten.specs.Verdict.{verdict_gives}
+use Rattle.meeting.proofs.MeetingLaws.{judges_judgement, judgement_small}
+use borrow.Author.Rules.{rules}
+use Rattle.host.proofs.judge.berxundar_judge_pair.Goals as goal
+
+pub overflow_add-result : goal.overflow_add-result
+overflow_add-result c =
+    let s = judgement_small c.args.file.now c.in-Refused.refusal
+    (sym (judges_judgement _ _ c.judge.ensures) ∙ c.in-Refused.is) in
+    omega (arith, s.number, s.position)
+
+pub overflow_add-result-in-Refused : goal.overflow_add-result-in-Refused
+overflow_add-result-in-Refused c =
+    let s = judgement_small c.args.file.now c.in-Refused.refusal
+    (sym (judges_judgement _ _ c.judge.ensures) ∙ c.in-Refused.is) in
+    omega (arith, s.number, s.position, s.earlier)
+
+pub returns-in-Accepted : goal.returns-in-Accepted
+returns-in-Accepted c =
+    ap (λ (v : Verdict). spoken_pair (verdict_gives v []))
+    (sym c.in-Accepted.is ∙ judges_judgement _ _ c.judge.ensures)
+
+pub returns-in-Refused : goal.returns-in-Refused
+returns-in-Refused c =
+    ap (λ (v : Verdict). spoken_pair (verdict_gives v []))
+    (sym c.in-Refused.is ∙ judges_judgement _ _ c.judge.ensures)

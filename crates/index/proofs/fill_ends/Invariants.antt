@@ -1,0 +1,14 @@
+-- `fill_ends`: the invariant is `Widening`: the stretches hold the input maps passed so far.
+-- Assumes nothing.
+use mathlib.Core.Path.{sym, ◌∙◌}
+use Prim.Native.Nat.{◌-◌}
+use native.Mathlib.Omega.{arith}
+use Rattle.index.proofs.WideningLaws.{Widening, widening_cleared, widening_step, widening_end}
+use borrow.Author.Rules.{rules}
+use Rattle.index.proofs.fill_ends.Given as goal
+
+abbrev pub invariant-loop-q : goal.invariant-loop-q
+invariant-loop-q l = Widening l.file l.n l.q l.ends
+
+abbrev pub decreases-loop-q : goal.decreases-loop-q
+decreases-loop-q l = l.n - l.q

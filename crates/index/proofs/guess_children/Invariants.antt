@@ -1,0 +1,15 @@
+-- `guess_children`: each step keeps the words below.
+-- Assumes nothing.
+use mathlib.Core.Path.{◌∙◌}
+use Prim.Native.Nat.{◌-◌}
+use native.Mathlib.Omega.{arith}
+use Rattle.index.specs.Index.{KeptBelow}
+use Rattle.index.proofs.IndexLaws.{kept_start, kept_next}
+use borrow.Author.Rules.{rules}
+use Rattle.index.proofs.guess_children.Given as goal
+
+abbrev pub invariant-loop-q : goal.invariant-loop-q
+invariant-loop-q l = KeptBelow 2304 l.initial.index l.index
+
+abbrev pub decreases-loop-q : goal.decreases-loop-q
+decreases-loop-q l = 256 - l.q

@@ -1,0 +1,33 @@
+-- `judge_list`: the entries still to come agree exactly if all do; those passed are marked.
+-- Assumes nothing.
+use mathlib.Core.Path.{◌≡◌, refl, sym, ap, ◌∙◌, subst}
+use mathlib.Core.Bool.{Bool, false≢true}
+use mathlib.Core.List.{List, [], ◌++◌, append-nil}
+use Prim.Native.Nat.{ℕ, ◌-◌, ◌≤◌}
+use native.Mathlib.Omega.{arith}
+use borrow.Author.Tests.{not-true, not-false}
+use lib.ListN.{length, take}
+use lib.Seq.{slice}
+use Rattle.lists.specs.Lists.{every}
+use Rattle.net.proofs.LoopsLaws.{every_slice-fails, every_slice-next, every_slice-end}
+use Rattle.tables.specs.Words.{no_counts}
+use Rattle.net.specs.Parts.{lent}
+use Rattle.rounds.specs.Links.{IsListed}
+use Rattle.judging.specs.Judged.{component_agrees}
+use Rattle.judging.specs.Steps.{MarkedAgree}
+use Rattle.judging.proofs.JudgingLaws.{listed_entry}
+use borrow.Author.Rules.{rules}
+use Rattle.judging.proofs.components.judge_list.Given as goal
+
+abbrev pub agrees : List ℕ → List ℕ → List ℕ → ℕ → Bool
+agrees cs is os = component_agrees (lent cs is os [] no_counts)
+
+abbrev pub invariant-loop-k : goal.invariant-loop-k
+invariant-loop-k l =
+    (l.k ≤ l.count) × (length l.should ≡ length l.initial.should)
+    × (every (agrees l.components l.inputs l.outputs) (slice l.k l.count l.list) ≡ every (agrees l.components l.inputs l.outputs) (take l.count l.list))
+    × MarkedAgree (lent l.components l.inputs l.outputs [] no_counts) l.marks
+    × ((xs : List ℕ) → IsListed l.initial.marks xs → IsListed l.marks (xs ++ take l.k l.list))
+
+abbrev pub decreases-loop-k : goal.decreases-loop-k
+decreases-loop-k l = l.count - l.k

@@ -1,0 +1,32 @@
+-- `judge_wires`: the wires still to come agree, where they leave a marked component, exactly if all do.
+-- Assumes nothing.
+use mathlib.Core.Path.{◌≡◌, sym, ◌∙◌}
+use mathlib.Core.Bool.{Bool, not, ◌||◌}
+use mathlib.Core.List.{List, []}
+use Prim.Native.Nat.{ℕ, ◌-◌, ◌≤◌}
+use native.Mathlib.Omega.{arith}
+use borrow.Author.Tests.{not-true, not-false}
+use Rattle.lists.specs.Lists.{from, every, has}
+use Rattle.lists.proofs.ListsLaws.{every_fails, every_next, every_end}
+use Rattle.net.proofs.LoopsLaws.{from_start, every_map}
+use Rattle.tables.specs.declared.Wire.{Wire}
+use Rattle.tables.specs.Words.{no_counts, wire_in}
+use Rattle.net.specs.Parts.{lent}
+use Rattle.rounds.specs.Links.{IsListed}
+use Rattle.judging.specs.Judged.{wire_agrees}
+use borrow.Author.Rules.{rules}
+use Rattle.judging.proofs.wires.judge_wires.Given as goal
+
+-- What is tested of a wire, where the marks are of what xs names.
+abbrev pub agrees : List ℕ → List ℕ → List ℕ → List ℕ → Wire → Bool
+agrees cs is os xs w = not (has w.src.comp.0 xs) || wire_agrees (lent cs is os [] no_counts) w
+
+abbrev pub invariant-loop-k : goal.invariant-loop-k
+invariant-loop-k l =
+    (l.k ≤ l.counts.wires)
+    × ((xs : List ℕ) → IsListed l.marks xs
+    → every (λ j. agrees l.components l.inputs l.outputs xs (wire_in l.wires j)) (from l.k (l.counts.wires - l.k))
+    ≡ every (λ j. agrees l.components l.inputs l.outputs xs (wire_in l.wires j)) (from 0 l.counts.wires))
+
+abbrev pub decreases-loop-k : goal.decreases-loop-k
+decreases-loop-k l = l.counts.wires - l.k

@@ -1,9 +1,0 @@
-use borrow.Author.Rules.{rules}
-use Rattle.kinds.proofs.table.input_width.Statement.{statement}
-use Rattle.kinds.proofs.table.input_width.Tie as tie
-
-returns : tie.Need-returns
-returns c = rw c.row_of.ensures
-
-pub input-width-spec : {M : Type 1} → statement M
-input-width-spec = tie.close (tie.spec (λ c κs. search rules) returns)

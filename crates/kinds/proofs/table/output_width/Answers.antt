@@ -1,0 +1,5 @@
+use borrow.Author.Rules.{rules}
+use Rattle.kinds.proofs.table.output_width.Goals as goal
+
+pub returns : goal.returns
+returns c = rw c.row_of.ensures

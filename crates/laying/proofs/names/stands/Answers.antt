@@ -1,0 +1,7 @@
+-- `stands`: the numbers of the two kinds are those of the definition.
+-- Assumes nothing.
+use borrow.Author.Rules.{rules}
+use Rattle.laying.proofs.names.stands.Goals as goal
+
+pub returns : goal.returns
+returns c = rw (c.number_of-2.ensures, c.number_of.ensures)

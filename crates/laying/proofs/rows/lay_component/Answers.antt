@@ -1,0 +1,16 @@
+-- `lay_component`: the entry of a primitive is written; any other record has none.
+-- Assumes nothing.
+use Rattle.laying.proofs.PassesLaws.{row_room, row_laid}
+use borrow.Author.Rules.{rules}
+use Rattle.laying.proofs.rows.lay_component.Goals as goal
+
+pub lay_row-requires : goal.lay_row-requires
+lay_row-requires c =
+    row_room _ _ c.args.before c.args.drawn c.in-Primitive.is
+    c.args.components.now c.requires.0
+
+pub returns : goal.returns
+returns c =
+    row_laid _ _ c.args.before c.args.drawn c.in-Primitive.is
+    c.args.components.now _ _ _
+    c.lay_row.ensures c.wide.ensures.0 c.wide-2.ensures.0

@@ -1,0 +1,57 @@
+-- `lay_components`: the entries of the primitives passed so far are laid, and what stands before the next is known.
+-- Assumes nothing.
+use Rattle.flatten.proofs.Accepted.{accepted_readable}
+use mathlib.Core.Path.{◌≡◌, refl}
+use Prim.Native.Nat.{◌-◌, ◌≤◌}
+use native.Mathlib.Omega.{arith}
+use Rattle.component.specs.Record.{record_at, record_count}
+use Rattle.laying.specs.Laying.{before_at, row_at}
+use Rattle.lists.proofs.LayingLaws.{Laid, laid_start, laid_length}
+use Rattle.laying.proofs.PassesLaws.{rows_requires, rows_before, rows_step, rows_end}
+use Rattle.tables.specs.Words.{row_place}
+use borrow.Author.Rules.{rules}
+use Rattle.laying.proofs.rows.lay_components.Goals as goal
+
+pub loop-p-init : goal.loop-p-init
+loop-p-init c = (omega arith, refl, laid_start _ _)
+
+pub drawn_at-requires : goal.drawn_at-requires
+drawn_at-requires c = search (accepted_readable)
+
+pub lay_component-before-requires : goal.lay_component-before-requires
+lay_component-before-requires c =
+    let l = c.loop-p in
+    rows_requires c.args.file.now c.requires.0 c.args.components.now c.requires.1 l.p l.components
+    l.before l.invariant.1 l.invariant.2
+    _ c.drawn_at.ensures c.loop-p-test.true
+
+pub overflow_add-p : goal.overflow_add-p
+overflow_add-p c = omega arith
+
+pub loop-p-smaller : goal.loop-p-smaller
+loop-p-smaller c = omega arith
+
+pub loop-p-preserved : goal.loop-p-preserved
+loop-p-preserved c =
+    let l = c.loop-p in
+    let before =
+    rows_before c.args.file.now c.requires.0 c.args.components.now c.requires.1 l.p l.components
+    l.before l.invariant.1 l.invariant.2
+    _ c.drawn_at.ensures c.loop-p-test.true _ _ c.lay_component-before.ensures.0
+    c.lay_component-before.ensures.1 in
+    let laid =
+    rows_step c.args.file.now c.requires.0 c.args.components.now c.requires.1 l.p l.components l.before
+    l.invariant.1 l.invariant.2
+    _ c.drawn_at.ensures c.loop-p-test.true _ _ c.lay_component-before.ensures.0
+    c.lay_component-before.ensures.1 in
+    (omega arith, before, laid)
+
+pub shape_of-components : goal.shape_of-components
+shape_of-components c = laid_length _ _ _ _ _ c.loop-p.invariant.2
+
+pub returns : goal.returns
+returns c =
+    let l = c.loop-p in
+    rows_end c.args.file.now c.requires.0 c.args.components.now c.requires.1 l.p l.components l.before
+    l.invariant.1 l.invariant.2
+    (omega arith)

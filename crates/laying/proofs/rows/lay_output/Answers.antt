@@ -1,0 +1,33 @@
+-- `lay_output`: the starting values of a primitive are written; any other record has none.
+-- Assumes nothing.
+use Rattle.laying.proofs.PortsLaws.{outputs_none, const_room, const_laid, zeros_room, zeros_laid}
+use borrow.Author.Rules.{rules}
+use Rattle.laying.proofs.rows.lay_output.Goals as goal
+
+pub returns-in_default : goal.returns-in_default
+returns-in_default c =
+    let a = c.args in
+    outputs_none a.drawn c.in_default.is a.outputs.now a.at
+
+pub bounds-outputs-at : goal.bounds-outputs-at
+bounds-outputs-at c =
+    const_room _ _ c.args.drawn c.in-Primitive.is _
+    c.number_of.ensures c.args.outputs.now c.args.at c.if-fields-number_of.true c.requires
+
+pub returns-then-fields-number_of : goal.returns-then-fields-number_of
+returns-then-fields-number_of c =
+    const_laid _ _ c.args.drawn c.in-Primitive.is _
+    c.number_of.ensures c.args.outputs.now c.args.at c.if-fields-number_of.true
+
+pub zeros-requires : goal.zeros-requires
+zeros-requires c =
+    zeros_room _ _ c.args.drawn c.in-Primitive.is _
+    c.number_of.ensures c.args.outputs.now c.args.at
+    c.if-fields-number_of.false
+    _ c.wide-count.ensures.0 c.requires
+
+pub returns : goal.returns
+returns c =
+    zeros_laid _ _ c.args.drawn c.in-Primitive.is _
+    c.number_of.ensures c.args.outputs.now c.args.at
+    c.if-fields-number_of.false _ c.wide-count.ensures.0 _ c.zeros.ensures

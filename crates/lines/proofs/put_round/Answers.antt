@@ -1,0 +1,26 @@
+-- `put_round`: the words, the number, and the part of the list that is in use.
+-- Assumes nothing.
+use mathlib.Core.Path.{sym}
+use lib.ListN.{take}
+use lib.Seq.{length-take-le}
+use mathlib.Core.List.{[], ◌∷◌}
+use Rattle.text.specs.Text.{numeral, spaced, ascii}
+use Rattle.text.proofs.TextLaws.{put}
+use Rattle.lines.proofs.LinesLaws.{both}
+use borrow.Author.Rules.{rules}
+use Rattle.lines.proofs.put_round.Goals as goal
+
+pub slice_bounds-put_shorts-end : goal.slice_bounds-put_shorts-end
+slice_bounds-put_shorts-end c = sym (length-take-le _ _ (search rules))
+
+pub returns : goal.returns
+returns c =
+    let a = c.args in
+    let w = c.put_bytes-named in
+    let n = c.put_number-numbered in
+    let x = c.put_bytes-next in
+    let l = c.put_shorts-listed in
+    let e = c.put in
+    both
+    (both (both (both (put (ascii "round ") w.ensures) (put (numeral a.round) n.ensures)) (put (ascii " next") x.ensures))
+    (put (spaced (take a.count a.current.now)) l.ensures)) (put (10 ∷ []) e.ensures)

@@ -1,0 +1,38 @@
+-- `judge_load`: each way out is one of the cases of the definition.
+-- Assumes nothing.
+use mathlib.Core.Path.{sym, ◌∙◌}
+use borrow.Author.Tests.{not-true, not-false}
+use Rattle.flatten.proofs.Accepted.{not_accepted}
+use Rattle.meeting.proofs.MeetingLaws.{judges_judgement}
+use Rattle.load.proofs.LoadLaws.{judge_unsized, judge_short, judge_file}
+use borrow.Author.Rules.{rules}
+use Rattle.load.proofs.judge_load.Goals as goal
+
+pub returns-then-not-is_sized : goal.returns-then-not-is_sized
+returns-then-not-is_sized c =
+    let a = c.args in record {
+      value = judge_unsized a.file.now a.components.now a.inputs.now a.outputs.now a.wires.now a.current.now
+          a.following.now a.standing.now
+          (sym c.is_sized.ensures ∙ c.if-not-is_sized.true) _ c.refused_by.ensures;
+      index = λ y. absurd (not_accepted _ y);
+    }
+
+pub returns-then-not-full_size : goal.returns-then-not-full_size
+returns-then-not-full_size c =
+    let a = c.args in record {
+      value = judge_short a.file.now a.components.now a.inputs.now a.outputs.now a.wires.now a.current.now
+          a.following.now a.standing.now
+          (sym c.is_sized.ensures ∙ c.if-not-is_sized.false)
+          (λ m. sym (c.full_size.ensures m) ∙ c.if-not-full_size.true) _ c.refused_by-then-not-full_size.ensures;
+      index = λ y. absurd (not_accepted _ y);
+    }
+
+pub returns : goal.returns
+returns c =
+    let a = c.args in
+    let z = sym c.is_sized.ensures ∙ c.if-not-is_sized.false in record {
+      value = judge_file a.file.now a.components.now a.inputs.now a.outputs.now a.wires.now a.current.now
+          a.following.now a.standing.now z
+          (λ m. sym (c.full_size.ensures m) ∙ c.if-not-full_size.false) _ (judges_judgement _ _ c.judge_indexed.ensures.judges);
+      index = λ y. c.judge_indexed.ensures.index y;
+    }

@@ -1,9 +1,0 @@
-use borrow.Author.Rules.{rules}
-use Rattle.primitive.proofs.rules.any_high.Statement.{statement}
-use Rattle.primitive.proofs.rules.any_high.Tie as tie
-
-returns : tie.Need-returns
-returns c = rw c.count-high.ensures
-
-pub any-high-spec : {M : Type 1} → statement M
-any-high-spec = tie.close (tie.spec (λ c κs. search rules) returns)

@@ -1,0 +1,21 @@
+-- `list_marked`: the list holds the marked ones of the components passed.
+-- Assumes nothing.
+use mathlib.Core.Path.{◌≡◌, refl}
+use mathlib.Core.Logic.{⊎_elim}
+use Prim.Native.Nat.{◌-◌, ◌≤◌}
+use native.Mathlib.Omega.{arith}
+use lib.ListN.{length, length-set}
+use Rattle.lists.specs.Lists.{overlay}
+use Rattle.tables.proofs.NamedLaws.{overlay_start}
+use Rattle.questions.specs.Asked.{marked_below}
+use Rattle.questions.proofs.EndsLaws.{list_here, list_none}
+use borrow.Author.Rules.{rules}
+use Rattle.questions.proofs.list_marked.Given as goal
+
+abbrev pub invariant-loop-j : goal.invariant-loop-j
+invariant-loop-j l =
+    (l.j ≤ l.count) × (l.listed ≤ l.j) × (length l.list ≡ length l.initial.list) × (l.listed ≡ length (marked_below l.marks l.j))
+    × (l.list ≡ overlay (marked_below l.marks l.j) l.initial.list)
+
+abbrev pub decreases-loop-j : goal.decreases-loop-j
+decreases-loop-j l = l.count - l.j

@@ -1,0 +1,26 @@
+-- `is_driven`: one of the wires still to come enters the component exactly if one of all does.
+-- Assumes nothing.
+use borrow.Author.Tests.{eq-eqb, ne_eqb}
+use mathlib.Core.Path.{◌≡◌, sym, ap, ◌∙◌}
+use mathlib.Core.Bool.{Bool}
+use mathlib.Core.List.{List}
+use Prim.Native.Nat.{ℕ, ◌-◌, ◌≤◌}
+use native.Mathlib.Omega.{arith}
+use lib.Dec.{eqb}
+use Rattle.lists.specs.Lists.{from, any}
+use Rattle.lists.proofs.ListsLaws.{any_here, any_next, any_none}
+use Rattle.net.proofs.LoopsLaws.{from_start}
+use Rattle.tables.specs.declared.Wire.{Wire}
+use Rattle.tables.specs.Words.{wire_in}
+use borrow.Author.Rules.{rules}
+use Rattle.simulator.proofs.edits.is_driven.Given as goal
+
+abbrev pub enters : List ℕ → ℕ → ℕ → Bool
+enters ws i k = eqb (wire_in ws k).dst.comp.0 i
+
+abbrev pub invariant-loop-k : goal.invariant-loop-k
+invariant-loop-k l =
+    (l.k ≤ l.count) × (any (enters l.wires l.i) (from l.k (l.count - l.k)) ≡ any (enters l.wires l.i) (from 0 l.count))
+
+abbrev pub decreases-loop-k : goal.decreases-loop-k
+decreases-loop-k l = l.count - l.k

@@ -1,0 +1,39 @@
+-- `edit_standing`: refused by its checks, or the port set and the component in the standing list.
+-- Assumes nothing.
+use native.Mathlib.Omega.{arith}
+use Rattle.simulator.specs.Edit.{stands}
+use Rattle.slow.proofs.EditingLaws.{edits_refused, edits_index, edits_room_standing, edits_stand}
+use borrow.Author.Rules.{rules}
+use Rattle.slow.proofs.editing.edit_standing.Goals as goal
+
+pub returns-in-Refused : goal.returns-in-Refused
+returns-in-Refused c =
+    let a = c.args in
+    let q = c.set_or_refuse.ensures in
+    edits_refused a.file.now a.inputs.now a.outputs.now a.current.now a.following.now a.standing.now a.counts a.index.0
+    a.number _ q.0 _ _ q.1 q.2 stands _ c.in-Refused.is
+
+pub overflow_cast-index : goal.overflow_cast-index
+overflow_cast-index c =
+    let a = c.args in
+    let q = c.set_or_refuse.ensures in
+    omega (
+      arith,
+      edits_index a.file.now a.inputs.now a.outputs.now a.current.now a.following.now a.standing.now a.counts
+          a.index.0 a.number _ q.0 _ _ q.1 q.2 c.in_default.is,
+    )
+
+pub append_new-requires : goal.append_new-requires
+append_new-requires c =
+    let a = c.args in
+    let q = c.set_or_refuse.ensures in
+    edits_room_standing a.file.now a.inputs.now a.outputs.now a.current.now a.following.now a.standing.now a.counts
+    a.index.0 a.number _ q.0 _ _ q.1 q.2 c.in_default.is
+
+pub returns : goal.returns
+returns c =
+    let a = c.args in
+    let q = c.set_or_refuse.ensures in
+    let e = c.append_new.ensures in
+    edits_stand a.file.now a.inputs.now a.outputs.now a.current.now a.following.now a.standing.now a.counts
+    a.index.0 a.number _ q.0 _ _ q.1 q.2 c.in_default.is _ _ e.0 e.1

@@ -1,0 +1,63 @@
+-- `send_leaving`: what the records still to come make of the state is what all of them make of the state that came in.
+-- Assumes nothing.
+use mathlib.Core.Path.{◌≡◌, refl, ◌∙◌}
+use mathlib.Core.List.{[], foldl}
+use Prim.Native.Nat.{◌≤◌, ◌-◌}
+use native.Mathlib.Omega.{arith}
+use lib.ListN.{length, take}
+use Rattle.lists.specs.Lists.{from, joined}
+use Rattle.component.specs.Record.{record_at, record_count}
+use Rattle.rounds.specs.Round.{send}
+use Rattle.rounds.specs.Steps.{state_at}
+use Rattle.rounds.specs.Links.{ListMarked}
+use Rattle.slow.specs.Slow.{leaving_by, leaving}
+use Rattle.slow.specs.Sending.{bare}
+use Rattle.slow.proofs.DrawingLaws.{drawing_kept}
+use Rattle.slow.proofs.LeadingLaws.{records_start, records_next, records_end}
+use borrow.Author.Rules.{rules}
+use Rattle.slow.proofs.leading.send_leaving.Goals as goal
+
+pub loop-p-init : goal.loop-p-init
+loop-p-init c = (
+  omega arith,
+  refl,
+  refl,
+  refl,
+  c.requires.list_marked,
+  records_start (bare c.args.components.now) (state_at c.args.inputs.now c.args.outputs.now
+      (take c.args.filled c.args.following.now) []) c.args.file.now c.args.i,
+)
+
+pub send_connection-reached-requires : goal.send_connection-reached-requires
+send_connection-reached-requires c =
+    let l = c.loop-p in record {
+      drawing = (
+        drawing_kept c.args.file.now _ _ _ c.args.inputs.now c.args.outputs.now l.inputs c.args.outputs.now c.requires.drawing
+            l.invariant.1 refl,
+        c.loop-p-test.true,
+        l.invariant.3,
+      );
+      list_marked = l.invariant.4;
+    }
+
+pub loop-p-preserved : goal.loop-p-preserved
+loop-p-preserved c =
+    let l = c.loop-p in
+    let b = c.loop-p-test.true in
+    let r = c.send_connection-reached in (
+      omega (arith, b),
+      r.auto.inputs ∙ l.invariant.1,
+      r.auto.following ∙ l.invariant.2,
+      r.ensures.2,
+      r.ensures.1,
+      records_next (bare c.args.components.now) l.p (record_count c.args.file.now) _ _
+          (leaving_by (record_at c.args.file.now) (record_count c.args.file.now) c.args.i) _ b r.ensures.0 l.invariant.5,
+    )
+
+pub returns : goal.returns
+returns c =
+    let l = c.loop-p in (
+      records_end (bare c.args.components.now) l.p (record_count c.args.file.now) _ _
+          (leaving_by (record_at c.args.file.now) (record_count c.args.file.now) c.args.i) (omega arith) l.invariant.5,
+      l.invariant.4,
+    )

@@ -1,0 +1,31 @@
+-- `send_leaving`: what the records still to come make of the state is what all of them make of the state that came in.
+-- Assumes nothing.
+use mathlib.Core.Path.{◌≡◌, refl, ◌∙◌}
+use mathlib.Core.List.{[], foldl}
+use Prim.Native.Nat.{◌≤◌, ◌-◌}
+use native.Mathlib.Omega.{arith}
+use lib.ListN.{length, take}
+use Rattle.lists.specs.Lists.{from, joined}
+use Rattle.component.specs.Record.{record_at, record_count}
+use Rattle.rounds.specs.Round.{send}
+use Rattle.rounds.specs.Steps.{state_at}
+use Rattle.rounds.specs.Links.{ListMarked}
+use Rattle.slow.specs.Slow.{leaving_by, leaving}
+use Rattle.slow.specs.Sending.{bare}
+use Rattle.slow.proofs.DrawingLaws.{drawing_kept}
+use Rattle.slow.proofs.LeadingLaws.{records_start, records_next, records_end}
+use borrow.Author.Rules.{rules}
+use Rattle.slow.proofs.leading.send_leaving.Given as goal
+
+abbrev pub invariant-loop-p : goal.invariant-loop-p
+invariant-loop-p l =
+    let T = bare l.components in
+    let n = record_count l.file in
+    (l.p ≤ n) × (length l.inputs ≡ length l.initial.inputs) × (length l.following ≡ length l.initial.following) × (length l.targets ≡ 2048)
+    × ListMarked T l.reached l.following l.listed
+    × (foldl (send T) (state_at l.inputs l.outputs (take l.reached l.following) []) (joined (leaving_by (record_at l.file) n l.i) (from l.p (n - l.p)))
+    ≡ foldl (send T) (state_at l.initial.inputs l.outputs (take l.filled l.initial.following) []) (leaving (record_at l.file) n l.i))
+
+abbrev pub decreases-loop-p : goal.decreases-loop-p
+decreases-loop-p l =
+    record_count l.file - l.p

@@ -1,0 +1,66 @@
+-- `run_until_calm`: refused by its checks, or the run straight from the drawing.
+-- Assumes nothing.
+use mathlib.Core.Path.{◌≡◌, refl, sym, ap, ◌∙◌}
+use mathlib.Core.Bool.{Bool}
+use mathlib.Core.List.{[]}
+use Rattle.component.specs.Record.{record_at, record_count}
+use Rattle.tables.specs.Tables.{Tables, tables_of}
+use Rattle.simulator.specs.Calls.{run_by}
+use Rattle.slow.specs.Slow.{SlowTables, slow_tables_of, slow_full, slow_number, slow_verdict, slow_round_of, slow_bits}
+use Rattle.slow.specs.Sending.{prepared_verdict}
+use Rattle.slow.proofs.CallsLaws.{run_refused, run_done, prepared_is, prepared_for}
+use borrow.Author.Rules.{rules}
+use Rattle.slow.proofs.rounding.run_until_calm.Goals as goal
+use Rattle.slow.proofs.rounding.run_until_calm.Lts as lts
+use Rattle.slow.proofs.rounding.run_until_calm.Tie as tie
+use Rattle.slow.proofs.rounding.run_until_calm.Reads as reads
+
+abbrev Start : Type 0
+Start = lts.Start tie.the-claims reads.Pre reads.Post
+
+abbrev AfterPrepare : Type 0
+AfterPrepare = lts.After-prepare tie.the-claims reads.Pre reads.Post
+
+-- The tables that came in.
+abbrev S : Start → SlowTables
+S s =
+    let a = s.args in
+    slow_tables_of a.inputs.now a.outputs.now a.current.now a.following.now a.standing.now a.counts
+
+-- What the checks say.
+said : (c : AfterPrepare) →
+    prepared_verdict c.prepare.result
+    ≡ slow_verdict c.args.file.now (slow_full (S c.before.before.before.before.before.before.before.before.before.before.before)) (slow_number (record_at c.args.file.now) (record_count c.args.file.now) (S c.before.before.before.before.before.before.before.before.before.before.before))
+said c =
+    c.prepare.ensures.0
+    ∙ ap (λ (b : Bool). slow_verdict c.args.file.now b (slow_number (record_at c.args.file.now) (record_count c.args.file.now) (S c.before.before.before.before.before.before.before.before.before.before.before)))
+    (c.are_full-long.ensures c.args.counts)
+
+pub prepare-requires : goal.prepare-requires
+prepare-requires c = record { index_len = (refl, refl, refl); counts_value = λ e. sym (c.are_full-long.ensures c.args.counts) ∙ e }
+
+pub drawn_run-made-requires : goal.drawn_run-made-requires
+drawn_run-made-requires c =
+    let a = c.args in
+    prepared_for a.file.now _ _ _ _ _ _ _ _ _ _ (c.prepare.ensures.1 _ c.in-Ready.is) _ c.counts_for.ensures
+
+pub returns-in-Refused : goal.returns-in-Refused
+returns-in-Refused c =
+    run_refused c.args.file.now (S c.before.before.before.before.before.before.before.before.before.before.before.before.before.before.before.before) c.args.time c.args.limit _
+    (ap prepared_verdict (sym c.in-Refused.is) ∙ said c.before.before.before.before.before)
+
+pub returns-in-Ready : goal.returns-in-Ready
+returns-in-Ready c =
+    let a = c.args in
+    let at = record_at a.file.now in
+    let n = record_count a.file.now in
+    let p = c.prepare.ensures.1 _ c.in-Ready.is in
+    let r = c.drawn_run-made in
+    let U = tables_of c.prepare.new.components r.new.inputs r.new.outputs []
+    r.new.current r.new.following r.new.standing r.result.counts in
+    rw c.slow_counts.ensures
+    (run_done a.file.now (S c.before.before.before.before.before.before.before.before.before.before.before.before.before.before.before.before.before.before.before.before.before.before.before.before.before.before.before.before.before.before.before.before.before.before.before.before.before.before) a.time a.limit U r.result.rounds r.result.evaluations r.result.moved
+    (ap prepared_verdict (sym c.in-Ready.is) ∙ said c.before.before.before.before.before.before.before.before.before.before.before.before.before.before.before.before.before.before.before.before.before.before.before.before.before.before.before)
+    (r.ensures
+    ∙ ap (λ (T : Tables). run_by (slow_round_of at n a.time) (slow_bits at n a.time) a.limit T)
+    (prepared_is a.file.now _ _ _ _ _ _ _ _ _ _ p _ c.counts_for.ensures)))

@@ -1,0 +1,37 @@
+-- `visit_all`: what the components still to come make of the state is what all of them make of the state that came in.
+-- Assumes nothing.
+use mathlib.Core.Path.{◌≡◌, refl, ◌∙◌}
+use mathlib.Core.List.{List, foldl}
+use Prim.Native.Nat.{ℕ, ◌≤◌, ◌-◌}
+use native.Mathlib.Omega.{arith}
+use lib.ListN.{length, take, length-set}
+use lib.Seq.{slice}
+use Rattle.component.specs.Record.{record_at, record_count}
+use Rattle.tables.specs.declared.Wire.{Wire}
+use Rattle.tables.specs.Tables.{Tables}
+use Rattle.rounds.specs.Round.{visit}
+use Rattle.rounds.specs.Steps.{state_at}
+use Rattle.rounds.specs.Links.{ListMarked, ListCovered}
+use Rattle.rounds.proofs.StepsLaws.{visits_next, visits_end}
+use Rattle.rounds.proofs.MovedLaws.{BitsSo, bits_start, bits_next, bits_end}
+use Rattle.slow.specs.Slow.{leaving}
+use Rattle.slow.specs.Sending.{bare}
+use Rattle.slow.proofs.DrawingLaws.{drawing_kept}
+use borrow.Author.Rules.{rules}
+use Rattle.slow.proofs.visiting.visit_all.Given as goal
+
+abbrev pub invariant-loop-k : goal.invariant-loop-k
+invariant-loop-k l =
+    let T = bare l.components in
+    let ws = leaving (record_at l.file) (record_count l.file) in
+    let came = state_at l.initial.inputs l.initial.outputs (take l.initial.reached.following l.initial.following) (take l.initial.reached.standing l.initial.standing) in
+    let now = state_at l.inputs l.outputs (take l.reached.following l.following) (take l.reached.standing l.standing) in
+    (l.k ≤ l.count) × (length l.inputs ≡ length l.initial.inputs) × (length l.outputs ≡ length l.initial.outputs)
+    × (length l.following ≡ length l.initial.following) × (length l.standing ≡ length l.initial.standing) × (length l.moved ≡ length l.initial.moved)
+    × ListMarked T l.reached.following l.following l.listed × ListCovered l.reached.standing l.standing l.stood
+    × (foldl (visit T ws l.time) now (slice l.k l.count l.list) ≡ foldl (visit T ws l.time) came (take l.count l.list))
+    × BitsSo T ws l.time l.list l.count came l.initial.moved l.k now l.moved
+
+abbrev pub decreases-loop-k : goal.decreases-loop-k
+decreases-loop-k l =
+    l.count - l.k

@@ -1,0 +1,47 @@
+-- `berxundar_slow_edit_standing`: too few count words, or what the engine answers.
+-- Assumes nothing.
+use mathlib.Core.Path.{sym, ap, ◌∙◌}
+use mathlib.Core.Bool.{Bool, ◌&&◌}
+use lib.ListN.{length}
+use lib.Dec.{ltb}
+use Rattle.simulator.specs.Edit.{stands}
+use Rattle.slow.specs.declared.SlowCounts.{SlowCounts}
+use Rattle.slow.specs.Slow.{SlowTables, slow_tables_of, slow_words, slow_gives, SlowEdits}
+use Rattle.slowly.specs.Slowly.{few_slow}
+use Rattle.slowly.proofs.SlowlyLaws.{call_short, call_made, edit_is, said_small, done_sized, room_counts}
+use borrow.Author.Rules.{rules}
+use Rattle.slowly.proofs.edit_standing.berxundar_slow_edit_standing.Goals as goal
+use Rattle.slowly.proofs.edit_standing.berxundar_slow_edit_standing.Lts as lts
+use Rattle.slowly.proofs.edit_standing.berxundar_slow_edit_standing.Tie as tie
+use Rattle.slowly.proofs.edit_standing.berxundar_slow_edit_standing.Reads as reads
+
+abbrev Start : Type 0
+Start = lts.Start tie.the-claims reads.Pre reads.Post
+
+-- The tables that came in, by their counts.
+abbrev came : Start → SlowCounts → SlowTables
+came s = slow_tables_of s.args.inputs.now s.args.outputs.now s.args.current.now s.args.following.now s.args.standing.now
+
+pub returns-then-is_sized-counts : goal.returns-then-is_sized-counts
+returns-then-is_sized-counts c =
+    call_short (SlowEdits c.args.file.now stands c.args.index c.args.number) (few_slow c.args.file.now c.args.counts.now)
+    c.args.counts.now (came c.before.before.before.before.before.before.before.before.before.before) (ap (λ (b : Bool). b && ltb (length c.args.counts.now) 5) (sym c.is_sized.ensures) ∙ c.if-is_sized-counts.true)
+
+pub keep-requires : goal.keep-requires
+keep-requires c =
+    let r = c.edit_standing-answer in
+    let few = ap (λ (b : Bool). b && ltb (length c.args.counts.now) 5) (sym c.is_sized.ensures) ∙ c.if-is_sized-counts.false in
+    let is = edit_is c.args.file.now (came c.before.before.before.before.before.before.before.before.before.before.before.before.before.before.before.before.before.before.before.before.before.before c.counts_in.result) c.args.index c.args.number in (
+      λ k e. room_counts c.args.file.now c.args.counts.now few
+          (done_sized c.args.file.now _ is (slow_gives r.result) _ r.ensures.0 (slow_words k) (ap slow_gives e)),
+      said_small c.args.file.now _ is (slow_gives r.result) _ r.ensures.0,
+    )
+
+pub returns : goal.returns
+returns c =
+    let r = c.edit_standing-answer in
+    let m = c.counts_in in
+    let k = c.keep in
+    let few = ap (λ (b : Bool). b && ltb (length c.args.counts.now) 5) (sym c.is_sized.ensures) ∙ c.if-is_sized-counts.false in
+    call_made (SlowEdits c.args.file.now stands c.args.index c.args.number) (few_slow c.args.file.now c.args.counts.now)
+    c.args.counts.now (came c.before.before.before.before.before.before.before.before.before.before.before.before.before.before.before.before.before.before.before.before.before.before.before.before.before) r.result m.result k.new.words _ k.result few m.ensures r.ensures k.ensures.0 k.ensures.1

@@ -1,0 +1,45 @@
+-- `berxundar_slow_round`: too few count words, or what the engine answers.
+-- Assumes nothing.
+use mathlib.Core.Path.{sym, ap, ◌∙◌}
+use mathlib.Core.Bool.{Bool, ◌&&◌}
+use lib.ListN.{length}
+use lib.Dec.{ltb}
+use Rattle.slow.specs.declared.SlowCounts.{SlowCounts}
+use Rattle.slow.specs.Slow.{SlowTables, slow_tables_of, slow_words, slow_gives}
+use Rattle.slowly.proofs.SlowlyLaws.{round_short, round_made, round_is, said_small, done_sized, room_counts}
+use borrow.Author.Rules.{rules}
+use Rattle.slowly.proofs.round.berxundar_slow_round.Goals as goal
+use Rattle.slowly.proofs.round.berxundar_slow_round.Lts as lts
+use Rattle.slowly.proofs.round.berxundar_slow_round.Tie as tie
+use Rattle.slowly.proofs.round.berxundar_slow_round.Reads as reads
+
+abbrev Start : Type 0
+Start = lts.Start tie.the-claims reads.Pre reads.Post
+
+-- The tables that came in, by their counts.
+abbrev came : Start → SlowCounts → SlowTables
+came s = slow_tables_of s.args.inputs.now s.args.outputs.now s.args.current.now s.args.following.now s.args.standing.now
+
+pub returns-then-is_sized-counts : goal.returns-then-is_sized-counts
+returns-then-is_sized-counts c =
+    round_short c.args.file.now c.args.time c.args.counts.now c.args.moved.now (came c.before.before.before.before.before.before.before.before.before.before.before)
+    (ap (λ (b : Bool). b && ltb (length c.args.counts.now) 5) (sym c.is_sized.ensures) ∙ c.if-is_sized-counts.true)
+
+pub keep-requires : goal.keep-requires
+keep-requires c =
+    let r = c.round-answer in
+    let few = ap (λ (b : Bool). b && ltb (length c.args.counts.now) 5) (sym c.is_sized.ensures) ∙ c.if-is_sized-counts.false in
+    let is = round_is c.args.file.now (came c.before.before.before.before.before.before.before.before.before.before.before.before.before.before.before.before.before.before.before.before.before.before.before.before.before.before.before.before.before.before.before.before c.counts_in.result) c.args.moved.now in (
+      λ k e. room_counts c.args.file.now c.args.counts.now few
+          (done_sized c.args.file.now _ is (slow_gives r.result) _ r.ensures.0 (slow_words k) (ap slow_gives e)),
+      said_small c.args.file.now _ is (slow_gives r.result) _ r.ensures.0,
+    )
+
+pub returns : goal.returns
+returns c =
+    let r = c.round-answer in
+    let m = c.counts_in in
+    let k = c.keep in
+    let few = ap (λ (b : Bool). b && ltb (length c.args.counts.now) 5) (sym c.is_sized.ensures) ∙ c.if-is_sized-counts.false in
+    round_made c.args.file.now c.args.time c.args.counts.now c.args.moved.now (came c.before.before.before.before.before.before.before.before.before.before.before.before.before.before.before.before.before.before.before.before.before.before.before.before.before.before.before.before.before.before.before.before.before.before.before) r.result m.result k.new.words _ _ k.result
+    few m.ensures r.ensures k.ensures.0 k.ensures.1

@@ -1,0 +1,16 @@
+-- `copy`: the entries passed are laid over the other table.
+-- Assumes nothing.
+use mathlib.Core.Path.{◌≡◌, refl}
+use Prim.Native.Nat.{◌≤◌, ◌-◌}
+use native.Mathlib.Omega.{arith}
+use lib.ListN.{length, take, length-set}
+use Rattle.lists.specs.Lists.{overlay}
+use Rattle.tables.proofs.NamedLaws.{overlay_start, overlay_step}
+use borrow.Author.Rules.{rules}
+use Rattle.tables.proofs.named.copy.Given as goal
+
+abbrev pub invariant-loop-i : goal.invariant-loop-i
+invariant-loop-i l = (l.i ≤ l.count) × (length l.into ≡ length l.initial.into) × (l.into ≡ overlay (take l.i l.list) l.initial.into)
+
+abbrev pub decreases-loop-i : goal.decreases-loop-i
+decreases-loop-i l = l.count - l.i

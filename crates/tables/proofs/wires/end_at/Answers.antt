@@ -1,0 +1,7 @@
+-- `end_at`: the two words are the component and the port.
+-- Assumes nothing.
+use borrow.Author.Rules.{rules}
+use Rattle.tables.proofs.wires.end_at.Goals as goal
+
+pub returns : goal.returns
+returns c = rw (c.word_of-port.ensures, c.word_of.ensures)

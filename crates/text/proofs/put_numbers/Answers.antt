@@ -1,0 +1,31 @@
+-- `put_numbers`: the numbers still to come, put after those that were, are all of them put.
+-- Assumes nothing.
+use mathlib.Core.Path.{refl}
+use Prim.Native.Nat.{◌-◌, ◌≤◌}
+use native.Mathlib.Omega.{arith}
+use lib.ListN.{length, drop}
+use Rattle.text.specs.Text.{spaced}
+use Rattle.text.proofs.TextLaws.{ToCome, begun, put_next, ended_spaced}
+use borrow.Author.Rules.{rules}
+use Rattle.text.proofs.put_numbers.Goals as goal
+
+pub loop-i-init : goal.loop-i-init
+loop-i-init c =
+    let a = c.args in
+    (omega arith, begun a.out.now (spaced a.numbers.now) a.at c.within-next.result c.within-next.ensures)
+
+pub loop-i-preserved : goal.loop-i-preserved
+loop-i-preserved c =
+    let a = c.args in
+    let s = c.loop-i in
+    let r = c.put_spaced-next in (
+      omega arith,
+      put_next a.out.now s.out r.new.out a.numbers.now a.at s.i _ s.next r.result
+          (omega arith) refl s.invariant.1 r.ensures.value r.ensures.out_after,
+    )
+
+pub returns : goal.returns
+returns c =
+    let a = c.args in
+    let s = c.loop-i in
+    ended_spaced a.out.now s.out a.numbers.now a.at s.i s.next s.invariant.0 (omega arith) s.invariant.1

@@ -1,0 +1,28 @@
+-- `lay`: seven stores are the words of the counts at the front.
+-- Assumes nothing.
+use native.Mathlib.Omega.{arith}
+use lib.ListN.{length-set}
+use Rattle.words.proofs.WordsLaws.{counts_laid}
+use borrow.Author.Rules.{rules}
+use Rattle.words.proofs.counts.lay.Goals as goal
+
+pub bounds-words-1 : goal.bounds-words-1
+bounds-words-1 c = simp length-set (omega arith)
+
+pub bounds-words-2 : goal.bounds-words-2
+bounds-words-2 c = simp length-set (omega arith)
+
+pub bounds-words-3 : goal.bounds-words-3
+bounds-words-3 c = simp length-set (omega arith)
+
+pub bounds-words-4 : goal.bounds-words-4
+bounds-words-4 c = simp length-set (omega arith)
+
+pub bounds-words-5 : goal.bounds-words-5
+bounds-words-5 c = simp length-set (omega arith)
+
+pub bounds-words-6 : goal.bounds-words-6
+bounds-words-6 c = simp length-set (omega arith)
+
+pub returns : goal.returns
+returns c = counts_laid c.args.words.now c.args.counts c.requires
