@@ -8,8 +8,7 @@ ghost use Rattle.asking.specs.Asking.{CallAsks};
 use words::{counts_in, lay_whether};
 
 // Whether all three lists name only Clocks: a word is lent for the answer, 1 or 0.
-#[unsafe(no_mangle)]
-pub extern "C" fn berxundar_calm(
+pub fn berxundar_calm(
     components: &[u64],
     inputs: &[u64],
     outputs: &[u64],

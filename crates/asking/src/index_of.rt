@@ -9,8 +9,7 @@ use kinds::Id;
 use words::{counts_in, lay_index};
 
 // The index of the component with an id, into a lent word.
-#[unsafe(no_mangle)]
-pub extern "C" fn berxundar_index(
+pub fn berxundar_index(
     components: &[u64],
     inputs: &[u64],
     outputs: &[u64],

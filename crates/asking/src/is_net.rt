@@ -9,8 +9,7 @@ ghost use Rattle.asking.specs.Asking.{CallAsks};
 use words::{counts_in, speak};
 
 // What every call on tables checks first: 2, 16.
-#[unsafe(no_mangle)]
-pub extern "C" fn berxundar_check(
+pub fn berxundar_check(
     components: &[u64],
     inputs: &[u64],
     outputs: &[u64],

@@ -10,8 +10,7 @@ use tables::FlatIdx;
 use words::{counts_in, lay_value, side_of};
 
 // The value of a port: its number and its width, into two lent words. Side 0 is the component's inputs, any other its outputs.
-#[unsafe(no_mangle)]
-pub extern "C" fn berxundar_value(
+pub fn berxundar_value(
     components: &[u64],
     inputs: &[u64],
     outputs: &[u64],

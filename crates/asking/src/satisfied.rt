@@ -8,8 +8,7 @@ ghost use Rattle.asking.specs.Asking.{CallAsks};
 use words::{counts_in, lay_whether};
 
 // Whether the values are right at the components that the lists name and at the wires that leave them: a word is lent for the answer, 1 or 0.
-#[unsafe(no_mangle)]
-pub extern "C" fn berxundar_satisfied(
+pub fn berxundar_satisfied(
     components: &[u64],
     inputs: &[u64],
     outputs: &[u64],

@@ -9,8 +9,7 @@ use tables::FlatIdx;
 use words::{counts_in, lay_listed};
 
 // The targets of the component at an index, into a list of 256; how many they are, into a lent word.
-#[unsafe(no_mangle)]
-pub extern "C" fn berxundar_targets(
+pub fn berxundar_targets(
     components: &[u64],
     inputs: &[u64],
     outputs: &[u64],

@@ -8,8 +8,7 @@ use tables::FlatIdx;
 use words::{counts_in, keep};
 
 // An edit of the component at an index to a plain number: the very next round evaluates it.
-#[unsafe(no_mangle)]
-pub extern "C" fn berxundar_edit(
+pub fn berxundar_edit(
     components: &[u64],
     inputs: &mut [u64],
     outputs: &mut [u64],

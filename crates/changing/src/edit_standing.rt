@@ -8,8 +8,7 @@ use tables::FlatIdx;
 use words::{counts_in, keep};
 
 // An edit of the component at an index to a plain number: the component stands, and is evaluated no later than the third round after.
-#[unsafe(no_mangle)]
-pub extern "C" fn berxundar_edit_standing(
+pub fn berxundar_edit_standing(
     components: &[u64],
     inputs: &mut [u64],
     outputs: &mut [u64],

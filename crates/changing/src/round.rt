@@ -6,8 +6,7 @@ ghost use Rattle.changing.specs.Changing.{CallRounds};
 use words::{counts_in, keep};
 
 // A round at a time. A table of 256 words is lent for which outputs changed of each component evaluated.
-#[unsafe(no_mangle)]
-pub extern "C" fn berxundar_round(
+pub fn berxundar_round(
     components: &[u64],
     inputs: &mut [u64],
     outputs: &mut [u64],

@@ -7,8 +7,7 @@ use words::{counts_in, keep};
 
 // A round at a time in which each component's wires follow an order: its first words, as many as there are wires, name each wire once. A
 // table of 1,024 words is lent for the order, and one of 256 words for which outputs changed of each component evaluated.
-#[unsafe(no_mangle)]
-pub extern "C" fn berxundar_round_ordered(
+pub fn berxundar_round_ordered(
     components: &[u64],
     inputs: &mut [u64],
     outputs: &mut [u64],

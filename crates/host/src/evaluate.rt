@@ -6,8 +6,7 @@ use words::lay_evaluated;
 
 // Evaluates a component of these fields: its inputs' numbers and their widths, its outputs' numbers, which are written, and their
 // widths, and the time. A word is lent for which of its outputs changed.
-#[unsafe(no_mangle)]
-pub extern "C" fn berxundar_evaluate(
+pub fn berxundar_evaluate(
     kind: u8,
     ins: u16,
     outs: u16,

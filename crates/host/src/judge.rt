@@ -5,8 +5,7 @@ ghost use Rattle.meeting.specs.Meeting.{SpeaksPair};
 use component::Verdict;
 
 // Judges a file's bytes: number times 65,536 plus position, check 2 not made; 13 for any two records that meet.
-#[unsafe(no_mangle)]
-pub extern "C" fn berxundar_judge(file: &[u8]) -> u32
+pub fn berxundar_judge(file: &[u8]) -> u32
     ensures { Speaks file.now result }
 {
     match flatten::verdict(file) {
@@ -16,8 +15,7 @@ pub extern "C" fn berxundar_judge(file: &[u8]) -> u32
 }
 
 // Judges a file's bytes: number times 2^32 plus position times 65,536 plus the earlier record of two that meet.
-#[unsafe(no_mangle)]
-pub extern "C" fn berxundar_judge_pair(file: &[u8]) -> u64
+pub fn berxundar_judge_pair(file: &[u8]) -> u64
     ensures { SpeaksPair file.now result }
 {
     match meeting::judge(file) {

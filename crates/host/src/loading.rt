@@ -8,8 +8,7 @@ ghost use Rattle.words.specs.Said.{short, CallChanges};
 use words::keep_loaded;
 
 // Loads a drawing file into the tables.
-#[unsafe(no_mangle)]
-pub extern "C" fn berxundar_load(
+pub fn berxundar_load(
     file: &[u8],
     components: &mut [u64],
     inputs: &mut [u64],

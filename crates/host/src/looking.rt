@@ -29,8 +29,7 @@ fn lay_looked(found: &mut [u64], answer: Looked) -> u32
 
 // Looks at the component that a path of ids names, from the root's children down: numbers and widths of its ports, into two lists of 256,
 // inputs first; how many inputs and outputs they are, into two lent words.
-#[unsafe(no_mangle)]
-pub extern "C" fn berxundar_look(
+pub fn berxundar_look(
     file: &[u8],
     components: &[u64],
     inputs: &[u64],

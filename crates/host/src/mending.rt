@@ -25,8 +25,7 @@ fn lay_mended(found: &mut [u64], answer: Mended) -> u32
 
 // Mends a damaged drawing into a buffer as long as the file; the positions of what was dropped, into a list of 1,025; how many bytes and how many
 // positions they are, into two lent words.
-#[unsafe(no_mangle)]
-pub extern "C" fn berxundar_mend(
+pub fn berxundar_mend(
     file: &[u8],
     mended: &mut [u8],
     dropped: &mut [u16],

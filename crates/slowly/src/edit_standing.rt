@@ -7,8 +7,7 @@ use crate::counts::{counts_in, keep};
 use tables::FlatIdx;
 
 // An edit of the component at an index to a plain number: the component stands, and is evaluated no later than the third round after.
-#[unsafe(no_mangle)]
-pub extern "C" fn berxundar_slow_edit_standing(
+pub fn berxundar_slow_edit_standing(
     file: &[u8],
     inputs: &mut [u64],
     outputs: &mut [u64],

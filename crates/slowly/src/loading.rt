@@ -5,8 +5,7 @@ ghost use Rattle.slowly.specs.Slowly.{few_slow, CallSlow};
 use crate::counts::keep;
 
 // Loads a drawing file into the five tables.
-#[unsafe(no_mangle)]
-pub extern "C" fn berxundar_slow_load(
+pub fn berxundar_slow_load(
     file: &[u8],
     inputs: &mut [u64],
     outputs: &mut [u64],

@@ -5,8 +5,7 @@ ghost use Rattle.slowly.specs.Slowly.{CallSlowRounds};
 use crate::counts::{counts_in, keep};
 
 // A round at a time. A table of 256 words is lent for which outputs changed of each component evaluated.
-#[unsafe(no_mangle)]
-pub extern "C" fn berxundar_slow_round(
+pub fn berxundar_slow_round(
     file: &[u8],
     inputs: &mut [u64],
     outputs: &mut [u64],

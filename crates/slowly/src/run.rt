@@ -9,8 +9,7 @@ use crate::counts::{counts_in, keep_run};
 
 // Rounds at a time until calm, at most so many. Three words are lent for the rounds run, the evaluations made and how many times an output
 // changed.
-#[unsafe(no_mangle)]
-pub extern "C" fn berxundar_slow_run_until_calm(
+pub fn berxundar_slow_run_until_calm(
     file: &[u8],
     inputs: &mut [u64],
     outputs: &mut [u64],
