@@ -113,6 +113,9 @@ returns-then-seen-place-ne0 c =
     c.loop-k-test.true (λ z. c.if-seen-place-ne0.true (rw e z))
     ∙ inputs_once-places a.components.now a.wires.now a.counts)
 
+pub bounds-seen-place : goal.bounds-seen-place
+bounds-seen-place c = place-small c.before
+
 pub bounds-seen-place-in-loop-k : goal.bounds-seen-place-in-loop-k
 bounds-seen-place-in-loop-k c = place-small c.before.before
 

@@ -16,7 +16,7 @@ pub loop-i-init : goal.loop-i-init
 unfolding strike
 loop-i-init c =
     let bounded = cut_end c.args.list.now c.args.count _
-    (elim c.if-count-list.branch [ then-count-list w ↦ inl (w.1, w.0.taken) | else-count-list w ↦ inr (w.0.left, w.1) ]) in
+    (elim c.if-count-list.branch [ then-count-list w ↦ inl (w.end-is, w.if-count-list.true) | else-count-list w ↦ inr (w.if-count-list.false, w.end-is) ]) in
     (omega arith, omega arith, refl, refl, (λ k h. refl), bounded.0, bounded.1)
 
 pub loop-i-preserved : goal.loop-i-preserved
@@ -25,22 +25,22 @@ loop-i-preserved c =
     let l = c.loop-i in
     let b : l.i < length a.list.now = omega arith in
     elim c.if-x-y.branch [
-      | then-x-y w ↦ rw (w.1, w.2) (
+      | then-x-y w ↦ rw (w.left-is, w.list-is) (
         omega arith,
         omega arith,
         simp length-set l.invariant.2,
         strike_left a.list.now l.list l.i l.left a.x b l.invariant.1 l.invariant.2 l.invariant.3 l.invariant.4
-            w.0.taken,
+            w.if-x-y.true,
         strike_rest a.list.now l.list l.i l.left a.x b l.invariant.1 l.invariant.2 l.invariant.3 l.invariant.4,
         l.invariant.5,
         l.invariant.6,
       )
-      | else-x-y w ↦ rw (w.1, w.2) (
+      | else-x-y w ↦ rw (w.left-is, w.list-is) (
         omega arith,
         omega arith,
         l.invariant.2,
         strike_gone a.list.now l.list l.i l.left a.x b l.invariant.1 l.invariant.2 l.invariant.3 l.invariant.4
-            w.0.left,
+            w.if-x-y.false,
         (λ k h. l.invariant.4 k (omega arith)),
         l.invariant.5,
         l.invariant.6,
