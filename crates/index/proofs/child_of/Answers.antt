@@ -2,7 +2,6 @@
 -- Assumes nothing.
 use native.Mathlib.Omega.{arith}
 use Rattle.index.proofs.NumberingLaws.{child_none}
-use borrow.Author.Rules.{rules}
 use Rattle.index.proofs.child_of.Goals as goal
 
 pub returns-then-is_child : goal.returns-then-is_child

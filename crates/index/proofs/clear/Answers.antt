@@ -1,11 +1,9 @@
 -- `clear`: the invariant: every word before i is x.
 -- Assumes nothing.
-use mathlib.Core.Path.{◌≡◌, refl}
-use Prim.Native.Nat.{ℕ, ◌-◌, ◌<◌}
+use mathlib.Core.Path.{refl}
 use native.Mathlib.Omega.{arith}
-use lib.ListN.{length, get_or, length-set}
+use lib.ListN.{length-set}
 use Rattle.index.proofs.NumberingLaws.{clear_step}
-use borrow.Author.Rules.{rules}
 use Rattle.index.proofs.clear.Goals as goal
 
 pub loop-i-init : goal.loop-i-init

@@ -1,11 +1,8 @@
 -- `clear`: the invariant: every word before i is x.
 -- Assumes nothing.
-use mathlib.Core.Path.{◌≡◌, refl}
+use mathlib.Core.Path.{◌≡◌}
 use Prim.Native.Nat.{ℕ, ◌-◌, ◌<◌}
-use native.Mathlib.Omega.{arith}
-use lib.ListN.{length, get_or, length-set}
-use Rattle.index.proofs.NumberingLaws.{clear_step}
-use borrow.Author.Rules.{rules}
+use lib.ListN.{length, get_or}
 use Rattle.index.proofs.clear.Given as goal
 
 abbrev pub invariant-loop-i : goal.invariant-loop-i

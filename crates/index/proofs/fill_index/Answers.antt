@@ -2,7 +2,6 @@
 -- Assumes nothing.
 use mathlib.Core.Path.{◌∙◌}
 use Rattle.index.proofs.IndexLaws.{parts_size, kept_next, index_filled}
-use borrow.Author.Rules.{rules}
 use Rattle.index.proofs.fill_index.Goals as goal
 
 pub guess_children-requires : goal.guess_children-requires

@@ -2,7 +2,6 @@
 -- Assumes nothing.
 use native.Mathlib.Omega.{arith}
 use Rattle.index.proofs.IndexLaws.{kept_start, kept_set}
-use borrow.Author.Rules.{rules}
 use Rattle.index.proofs.guess_child.Goals as goal
 
 pub returns-then-at-lt256 : goal.returns-then-at-lt256

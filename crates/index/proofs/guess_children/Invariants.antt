@@ -1,11 +1,7 @@
 -- `guess_children`: each step keeps the words below.
 -- Assumes nothing.
-use mathlib.Core.Path.{◌∙◌}
 use Prim.Native.Nat.{◌-◌}
-use native.Mathlib.Omega.{arith}
 use Rattle.index.specs.Index.{KeptBelow}
-use Rattle.index.proofs.IndexLaws.{kept_start, kept_next}
-use borrow.Author.Rules.{rules}
 use Rattle.index.proofs.guess_children.Given as goal
 
 abbrev pub invariant-loop-q : goal.invariant-loop-q

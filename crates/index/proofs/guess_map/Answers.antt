@@ -2,7 +2,6 @@
 -- Assumes nothing.
 use native.Mathlib.Omega.{arith}
 use Rattle.index.proofs.IndexLaws.{kept_start, kept_set}
-use borrow.Author.Rules.{rules}
 use Rattle.index.proofs.guess_map.Goals as goal
 
 pub returns-then-index-q-eq0 : goal.returns-then-index-q-eq0

@@ -1,10 +1,7 @@
 -- `guess_maps`: each step keeps the words below.
 -- Assumes nothing.
-use native.Mathlib.Omega.{arith}
 use Prim.Native.Nat.{◌≤◌}
 use Rattle.index.specs.Index.{KeptBelow}
-use Rattle.index.proofs.IndexLaws.{kept_next}
-use borrow.Author.Rules.{rules}
 use Rattle.index.proofs.guess_maps.Given as goal
 
 abbrev pub invariant-loop-q : goal.invariant-loop-q

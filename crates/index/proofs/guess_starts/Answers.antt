@@ -1,11 +1,8 @@
 -- `guess_starts`: every write stands behind the words that are kept.
 -- Assumes nothing.
 use lib.ListN.{length-set}
-use Prim.Native.Nat.{◌-◌}
 use native.Mathlib.Omega.{arith}
-use Rattle.index.specs.Index.{KeptBelow}
 use Rattle.index.proofs.IndexLaws.{kept_set}
-use borrow.Author.Rules.{rules}
 use Rattle.index.proofs.guess_starts.Goals as goal
 
 pub word-sum-requires : goal.word-sum-requires

@@ -1,11 +1,7 @@
 -- `guess_starts`: every write stands behind the words that are kept.
 -- Assumes nothing.
-use lib.ListN.{length-set}
 use Prim.Native.Nat.{◌-◌}
-use native.Mathlib.Omega.{arith}
 use Rattle.index.specs.Index.{KeptBelow}
-use Rattle.index.proofs.IndexLaws.{kept_set}
-use borrow.Author.Rules.{rules}
 use Rattle.index.proofs.guess_starts.Given as goal
 
 abbrev pub invariant-loop-o : goal.invariant-loop-o

@@ -2,8 +2,6 @@
 -- Assumes nothing.
 use Rattle.index.proofs.NumberingLaws.{child_is}
 use mathlib.Core.Bool.{false≢true}
-use native.Mathlib.Omega.{arith}
-use borrow.Author.Rules.{rules}
 use Rattle.index.proofs.is_child.Goals as goal
 
 pub returns-then-c-eq0 : goal.returns-then-c-eq0

@@ -1,6 +1,5 @@
 -- `is_of`: in each arm the record is of the variant that the arm names.
 -- Assumes nothing.
-use borrow.Author.Rules.{rules}
 use Rattle.index.proofs.is_of.Goals as goal
 
 pub returns-in-Component : goal.returns-in-Component

@@ -2,8 +2,6 @@
 -- Assumes nothing.
 use Rattle.index.proofs.NumberingLaws.{out_map_is}
 use mathlib.Core.Bool.{false≢true}
-use native.Mathlib.Omega.{arith}
-use borrow.Author.Rules.{rules}
 use Rattle.index.proofs.is_out_map.Goals as goal
 
 pub returns-then-q-ge1024 : goal.returns-then-q-ge1024

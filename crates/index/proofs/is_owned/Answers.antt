@@ -1,7 +1,6 @@
 -- `is_owned`: the tests of the definition, at what the record says.
 -- Assumes nothing.
 use Rattle.index.proofs.NumberingLaws.{owned_refused, owned_taken}
-use borrow.Author.Rules.{rules}
 use Rattle.index.proofs.is_owned.Goals as goal
 
 pub returns-in_default : goal.returns-in_default

@@ -1,16 +1,10 @@
 -- `nth_owned`: the invariant: the one sought, with those still to pass, among the records to come is the answer.
 -- Assumes nothing.
-use mathlib.Core.Path.{◌≡◌, refl}
-use mathlib.Core.Logic.{⊎_elim}
-use Prim.Native.Nat.{◌-◌}
-use lib.ListN.{get_or}
-use Rattle.lists.specs.Lists.{from, keep}
-use Rattle.index.specs.Index.{nth_owned}
+use mathlib.Core.Path.{refl}
 use Rattle.component.specs.Record.{owned_as}
-use Rattle.component.proofs.ScanLaws.{tested, scan_kth_here, scan_kth_counts, scan_kth_next, scan_kth_none}
-use borrow.Author.Rules.{rules}
+use Rattle.component.proofs.ScanLaws.{scan_kth_here, scan_kth_counts, scan_kth_next, scan_kth_none}
 use Rattle.index.proofs.nth_owned.Goals as goal
-use Rattle.index.proofs.nth_owned.Goals.{else-is_owned, then-is_owned}
+use Rattle.index.proofs.nth_owned.Goals.{else-is_owned, then-is_owned+else-left-eq0}
 
 pub loop-q-init : goal.loop-q-init
 loop-q-init c = refl
@@ -24,7 +18,7 @@ returns-then-left-eq0 c =
 pub loop-q-preserved : goal.loop-q-preserved
 loop-q-preserved c =
     let a = c.args in
-    elim c.if-is_owned.branch [ then-is_owned w ↦ rw w.2 (search (scan_kth_counts a.file.now (owned_as a.form a.o))) | else-is_owned w ↦ rw w.1 (search (scan_kth_next a.file.now (owned_as a.form a.o))) ]
+    elim c.if-is_owned.branch [ then-is_owned+else-left-eq0 w ↦ rw w.left-is (search (scan_kth_counts a.file.now (owned_as a.form a.o))) | else-is_owned w ↦ rw w.left-is (search (scan_kth_next a.file.now (owned_as a.form a.o))) ]
 
 -- none
 pub returns : goal.returns

@@ -1,14 +1,12 @@
 -- `nth_owned`: the invariant: the one sought, with those still to pass, among the records to come is the answer.
 -- Assumes nothing.
-use mathlib.Core.Path.{◌≡◌, refl}
-use mathlib.Core.Logic.{⊎_elim}
+use mathlib.Core.Path.{◌≡◌}
 use Prim.Native.Nat.{◌-◌}
 use lib.ListN.{get_or}
 use Rattle.lists.specs.Lists.{from, keep}
 use Rattle.index.specs.Index.{nth_owned}
 use Rattle.component.specs.Record.{owned_as}
-use Rattle.component.proofs.ScanLaws.{tested, scan_kth_here, scan_kth_counts, scan_kth_next, scan_kth_none}
-use borrow.Author.Rules.{rules}
+use Rattle.component.proofs.ScanLaws.{tested}
 use Rattle.index.proofs.nth_owned.Given as goal
 
 abbrev pub invariant-loop-q : goal.invariant-loop-q

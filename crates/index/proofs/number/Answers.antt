@@ -3,7 +3,6 @@
 use lib.ListN.{length-set}
 use native.Mathlib.Omega.{arith}
 use Rattle.index.proofs.NumberingLaws.{number_refused, number_other, number_far, number_placed, number_counted}
-use borrow.Author.Rules.{rules}
 use Rattle.index.proofs.number.Goals as goal
 
 pub returns-in_default : goal.returns-in_default

@@ -3,9 +3,7 @@
 use lib.ListN.{length}
 use Prim.Native.Nat.{◌/◌}
 use mathlib.Core.Path.{◌∙◌}
-use native.Mathlib.Omega.{arith}
 use Rattle.index.proofs.NumberingLaws.{out_map-nth}
-use borrow.Author.Rules.{rules}
 use Rattle.index.proofs.out_map_of.Goals as goal
 
 pub returns-then-is_out_map : goal.returns-then-is_out_map

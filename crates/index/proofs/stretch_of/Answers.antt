@@ -1,8 +1,6 @@
 -- `stretch_of`: the words of the index, or every position.
 -- Assumes nothing.
 use borrow.Author.Tests.{lt-ltb, le-ltb}
-use native.Mathlib.Omega.{arith}
-use borrow.Author.Rules.{rules}
 use Rattle.index.proofs.stretch_of.Goals as goal
 
 pub returns-then-c-lt256 : goal.returns-then-c-lt256

@@ -2,7 +2,6 @@
 -- Assumes nothing.
 use mathlib.Core.Path.{sym}
 use Rattle.component.proofs.RecordLaws.{unseen_fields, seen_fields}
-use borrow.Author.Rules.{rules}
 use Rattle.component.proofs.reader.fields_at.Goals as goal
 
 pub returns-in_default : goal.returns-in_default

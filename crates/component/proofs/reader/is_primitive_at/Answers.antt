@@ -1,7 +1,6 @@
 -- `is_primitive_at`: the test of the definition, at the fields read.
 -- Assumes nothing.
 use mathlib.Core.Path.{ap, ◌∙◌}
-use borrow.Author.Rules.{rules}
 use Rattle.kinds.specs.Kinds.{primitive}
 use Rattle.component.proofs.reader.is_primitive_at.Goals as goal
 

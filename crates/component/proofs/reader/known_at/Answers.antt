@@ -1,7 +1,6 @@
 -- `known_at`: the part handed on is a record that check 3 passes.
 -- Assumes nothing.
 use Rattle.component.proofs.RecordLaws.{known_taken, record_at-past}
-use borrow.Author.Rules.{rules}
 use Rattle.component.proofs.reader.known_at.Goals as goal
 
 pub returns-then-p-file : goal.returns-then-p-file

@@ -1,7 +1,6 @@
 -- `loose_at`: the part handed on is taken apart by its record kind.
 -- Assumes nothing.
 use Rattle.component.proofs.RecordLaws.{loose_refused, loose_taken, loose_past}
-use borrow.Author.Rules.{rules}
 use Rattle.component.proofs.reader.loose_at.Goals as goal
 
 pub returns-then-r : goal.returns-then-r

@@ -1,7 +1,6 @@
 -- `numbers`: each number is read at its offset.
 -- Assumes nothing.
 use Rattle.component.proofs.RecordLaws.{numbers_read}
-use borrow.Author.Rules.{rules}
 use Rattle.component.proofs.reader.numbers.Goals as goal
 
 pub returns : goal.returns

@@ -1,7 +1,6 @@
 -- `record_at`: the part handed on is the one of 24 bytes that starts at 24 times the position.
 -- Assumes nothing.
 use Rattle.component.proofs.RecordLaws.{record_at-read, record_at-past}
-use borrow.Author.Rules.{rules}
 use Rattle.component.proofs.reader.record_at.Goals as goal
 
 pub returns-then-p-file : goal.returns-then-p-file
