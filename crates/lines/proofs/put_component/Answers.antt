@@ -19,5 +19,5 @@ returns c =
     let blank = c.put-blank in
     let last = c.put_ended in
     rw (sym kind.ensures, sym id.ensures)
-    (both_ended (numeral id.result) (10 ∷ []) (both (both index.ensures name.ensures) (put (32 ∷ []) blank.ensures))
+    (both_ended (numeral id.result) (10 ∷ []) (both (both index.ensures name.ensures) (put (32 ∷ []) (blank.ensures.value, blank.ensures.out_after)))
     last.ensures)

@@ -12,4 +12,4 @@ returns c =
     let a = c.args in
     let w = c.put_bytes-named in
     let n = c.put_ended in
-    both_ended (numeral a.count) (10 ∷ []) (put a.word.now w.ensures) n.ensures
+    both_ended (numeral a.count) (10 ∷ []) (put a.word.now (w.ensures.value, w.ensures.out_after)) n.ensures

@@ -12,4 +12,4 @@ returns c =
     let a = c.args in
     let n = c.put_number-next in
     let b = c.put in
-    both (put (numeral a.number) n.ensures) (put (a.byte ∷ []) b.ensures)
+    both (put (numeral a.number) (n.ensures.value, n.ensures.out_after)) (put (a.byte ∷ []) (b.ensures.value, b.ensures.out_after))

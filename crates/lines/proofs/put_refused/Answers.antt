@@ -15,6 +15,6 @@ returns c =
     let p = c.put_number-placed in
     let q = c.put_against-told in
     both
-    (both (both (both (both (put (ascii "refused ") w.ensures) (put (numeral _) n.ensures)) (put (ascii " at ") x.ensures))
-    (put (numeral _) p.ensures)) q.ensures)
-    (put (10 ∷ []) c.put.ensures)
+    (both (both (both (both (put (ascii "refused ") (w.ensures.value, w.ensures.out_after)) (put (numeral _) (n.ensures.value, n.ensures.out_after))) (put (ascii " at ") (x.ensures.value, x.ensures.out_after)))
+    (put (numeral _) (p.ensures.value, p.ensures.out_after))) q.ensures)
+    (put (10 ∷ []) (c.put.ensures.value, c.put.ensures.out_after))

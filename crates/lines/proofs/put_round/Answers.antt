@@ -22,5 +22,5 @@ returns c =
     let l = c.put_shorts-listed in
     let e = c.put in
     both
-    (both (both (both (put (ascii "round ") w.ensures) (put (numeral a.round) n.ensures)) (put (ascii " next") x.ensures))
-    (put (spaced (take a.count a.current.now)) l.ensures)) (put (10 ∷ []) e.ensures)
+    (both (both (both (put (ascii "round ") (w.ensures.value, w.ensures.out_after)) (put (numeral a.round) (n.ensures.value, n.ensures.out_after))) (put (ascii " next") (x.ensures.value, x.ensures.out_after)))
+    (put (spaced (take a.count a.current.now)) l.ensures)) (put (10 ∷ []) (e.ensures.value, e.ensures.out_after))

@@ -1,7 +1,6 @@
 -- `put_kind`: the name of the kind that is read, or none.
 -- Assumes nothing.
 use Rattle.names.proofs.NamesLaws.{named_known, named_kept, named_unknown}
-use borrow.Author.Rules.{rules}
 use Rattle.names.proofs.put_kind.Goals as goal
 
 pub returns-in-Known : goal.returns-in-Known

@@ -2,11 +2,10 @@
 -- Assumes nothing.
 use mathlib.Core.Path.{subst}
 use mathlib.Core.List.{[], ◌∷◌}
-use Prim.Native.Nat.{◌+◌, ◌-◌, ◌≤◌}
+use Prim.Native.Nat.{◌+◌}
 use native.Mathlib.Omega.{arith}
-use lib.ListN.{length, get_or, drop}
+use lib.ListN.{get_or, drop}
 use Rattle.text.proofs.TextLaws.{ToCome, begun, put_piece, ended, byte_first, none_left}
-use borrow.Author.Rules.{rules}
 use Rattle.text.proofs.put_bytes.Goals as goal
 
 pub loop-i-init : goal.loop-i-init
@@ -31,5 +30,6 @@ pub returns : goal.returns
 returns c =
     let a = c.args in
     let s = c.loop-i in
-    ended a.out.now a.bytes.now s.out (drop s.i a.bytes.now) a.at s.next s.invariant.1
-    (none_left a.bytes.now s.i s.invariant.0 (omega arith))
+    let e = ended a.out.now a.bytes.now s.out (drop s.i a.bytes.now) a.at s.next s.invariant.1
+    (none_left a.bytes.now s.i s.invariant.0 (omega arith)) in
+    record { value = e.0; out_after = e.1 }

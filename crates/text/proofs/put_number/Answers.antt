@@ -6,7 +6,6 @@ use mathlib.Core.List.{List}
 use lib.ListN.{length, take}
 use Rattle.text.specs.Text.{written, place_after, numeral}
 use Rattle.text.proofs.NumeralLaws.{fewest_numeral}
-use borrow.Author.Rules.{rules}
 use Rattle.text.proofs.put_number.Goals as goal
 
 pub returns : goal.returns
@@ -15,4 +14,8 @@ returns c =
     let d = c.decimal-count in
     let r = c.put_bytes in
     let e : take d.result d.new.out ≡ numeral a.number =
-    d.ensures.1.1 ∙ fewest_numeral d.result a.number d.ensures.1.0 c..1.1.0.1 in record { value = r.ensures.value ∙ ap (λ (l : List ℕ). place_after a.out.now a.at (length l)) e; out_after = r.ensures.out_after ∙ ap (written a.out.now a.at) e; }
+    d.ensures.digits ∙ fewest_numeral d.result a.number d.ensures.len c.ranges.number.fits in
+    record {
+      value = r.ensures.value ∙ ap (λ (l : List ℕ). place_after a.out.now a.at (length l)) e;
+      out_after = r.ensures.out_after ∙ ap (written a.out.now a.at) e;
+    }

@@ -1,12 +1,9 @@
 -- `put_numbers`: the numbers still to come, put after those that were, are all of them put.
 -- Assumes nothing.
-use mathlib.Core.Path.{refl}
 use Prim.Native.Nat.{◌-◌, ◌≤◌}
-use native.Mathlib.Omega.{arith}
 use lib.ListN.{length, drop}
 use Rattle.text.specs.Text.{spaced}
-use Rattle.text.proofs.TextLaws.{ToCome, begun, put_next, ended_spaced}
-use borrow.Author.Rules.{rules}
+use Rattle.text.proofs.TextLaws.{ToCome}
 use Rattle.text.proofs.put_numbers.Given as goal
 
 abbrev pub invariant-loop-i : goal.invariant-loop-i

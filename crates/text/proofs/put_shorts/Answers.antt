@@ -1,11 +1,8 @@
 -- `put_shorts`: as `put_numbers`, of numbers of 16 bits.
 -- Assumes nothing.
-use Prim.Native.Nat.{◌-◌, ◌≤◌}
 use native.Mathlib.Omega.{arith}
-use lib.ListN.{length, drop}
 use Rattle.text.specs.Text.{spaced}
-use Rattle.text.proofs.TextLaws.{ToCome, begun, put_next, ended_spaced}
-use borrow.Author.Rules.{rules}
+use Rattle.text.proofs.TextLaws.{begun, put_next, ended_spaced}
 use Rattle.text.proofs.put_shorts.Goals as goal
 
 pub loop-i-init : goal.loop-i-init
@@ -27,4 +24,5 @@ pub returns : goal.returns
 returns c =
     let a = c.args in
     let s = c.loop-i in
-    ended_spaced a.out.now s.out a.numbers.now a.at s.i s.next s.invariant.0 (omega arith) s.invariant.1
+    let e = ended_spaced a.out.now s.out a.numbers.now a.at s.i s.next s.invariant.0 (omega arith) s.invariant.1 in
+    record { value = e.0; out_after = e.1 }

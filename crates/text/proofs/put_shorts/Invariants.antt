@@ -1,11 +1,9 @@
 -- `put_shorts`: as `put_numbers`, of numbers of 16 bits.
 -- Assumes nothing.
 use Prim.Native.Nat.{◌-◌, ◌≤◌}
-use native.Mathlib.Omega.{arith}
 use lib.ListN.{length, drop}
 use Rattle.text.specs.Text.{spaced}
-use Rattle.text.proofs.TextLaws.{ToCome, begun, put_next, ended_spaced}
-use borrow.Author.Rules.{rules}
+use Rattle.text.proofs.TextLaws.{ToCome}
 use Rattle.text.proofs.put_shorts.Given as goal
 
 abbrev pub invariant-loop-i : goal.invariant-loop-i

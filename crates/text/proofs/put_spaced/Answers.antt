@@ -3,7 +3,6 @@
 use mathlib.Core.List.{[], ◌∷◌}
 use Rattle.text.specs.Text.{numeral}
 use Rattle.text.proofs.TextLaws.{put_both}
-use borrow.Author.Rules.{rules}
 use Rattle.text.proofs.put_spaced.Goals as goal
 
 pub returns : goal.returns
@@ -11,5 +10,6 @@ returns c =
     let a = c.args in
     let b = c.put-next in
     let r = c.put_number in
-    put_both a.out.now b.new.out r.new.out (32 ∷ []) (numeral a.number) a.at b.result r.result
-    b.ensures.value b.ensures.out_after r.ensures.value r.ensures.out_after
+    let e = put_both a.out.now b.new.out r.new.out (32 ∷ []) (numeral a.number) a.at b.result r.result
+    b.ensures.value b.ensures.out_after r.ensures.value r.ensures.out_after in
+    record { value = e.0; out_after = e.1 }
