@@ -49,7 +49,7 @@ visit_all-reached-requires c =
       net_runs (came c.before.before.before.before.before.before.before.before.before.before.before.before.before.before.before.before.before.before.before.before.before.before.before.before.before.before) c.requires.0,
       net_current (came c.before.before.before.before.before.before.before.before.before.before.before.before.before.before.before.before.before.before.before.before.before.before.before.before.before.before) c.requires.0,
       record {
-        fits = net_copied (came c.before.before.before.before.before.before.before.before.before.before.before.before.before.before.before.before.before.before.before.before.before.before.before.before.before.before) c.requires.0 _ _ (omega (arith, f.auto.1.1.0)) f.ensures;
+        fits = net_copied (came c.before.before.before.before.before.before.before.before.before.before.before.before.before.before.before.before.before.before.before.before.before.before.before.before.before.before) c.requires.0 _ _ (omega (arith, f.auto.into)) f.ensures;
         marked = rw (copy_list c.args.counts.following c.args.following.now _ _ (following_in (came c.before.before.before.before.before.before.before.before.before.before.before.before.before.before.before.before.before.before.before.before.before.before.before.before.before.before) c.requires.0) f.ensures)
             c.mark.ensures;
       },

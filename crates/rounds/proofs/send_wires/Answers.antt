@@ -92,11 +92,11 @@ loop-k-preserved c =
     let w = c.wire_at-wire.ensures in
     let b = c.loop-k-test.true in
     let r = c.send_along-filled in (
-      r.auto.1.0 ∙ l.invariant.0,
-      r.auto.1.1.1.0 ∙ l.invariant.1,
+      r.auto.inputs ∙ l.invariant.0,
+      r.auto.following ∙ l.invariant.1,
       record {
         fits = sent_listed c.args.components.now c.args.wires.now c.args.counts l.inputs c.args.outputs.now _
-            (reach c.before.before.before.before.before.before.before.before.before.before.before.before.before.before.before b) l.filled l.following l.invariant.2.fits _ _ _ (rw w at r.ensures.0) r.auto.1.1.1.0;
+            (reach c.before.before.before.before.before.before.before.before.before.before.before.before.before.before.before b) l.filled l.following l.invariant.2.fits _ _ _ (rw w at r.ensures.0) r.auto.following;
         marked = r.ensures.1;
       },
       sending_next (T c.before.before.before.before.before.before.before.before.before.before.before.before.before.before.before.before.before.before.before.before.before.before.before.before) c.args.wires.now c.args.after.now c.args.counts.wires _ (came c.before.before.before.before.before.before.before.before.before.before.before.before.before.before.before.before.before.before.before.before.before.before.before.before) l.k _ _ _ b

@@ -38,10 +38,10 @@ module _ (s : Start) where
 
 -- Where the first two meet.
 two : (c : JoinedOnlyClocks) →
-    c.if-only_clocks.if2 ≡ (current_only c.before.before.before.before.before.before && following_only c.before.before.before.before.before.before)
+    c.if-only_clocks.value ≡ (current_only c.before.before.before.before.before.before && following_only c.before.before.before.before.before.before)
 two c =
     let asked = c.only_clocks in
-    elim c.if-only_clocks.branch [ then-only_clocks w ↦ and_second (current_only c.before.before.before.before.before.before) (following_only c.before.before.before.before.before.before) _ (sym asked.ensures ∙ w.0.taken) (w.2 ∙ w.1.ensures) | else-only_clocks w ↦ and_first (current_only c.before.before.before.before.before.before) (following_only c.before.before.before.before.before.before) _ (sym asked.ensures ∙ w.0.left) (w.1 ∙ w.0.left) ]
+    elim c.if-only_clocks.branch [ then-only_clocks w ↦ and_second (current_only c.before.before.before.before.before.before) (following_only c.before.before.before.before.before.before) _ (sym asked.ensures ∙ w.if-only_clocks.true) (w.value-is ∙ w.only_clocks-then-only_clocks.ensures) | else-only_clocks w ↦ and_first (current_only c.before.before.before.before.before.before) (following_only c.before.before.before.before.before.before) _ (sym asked.ensures ∙ w.if-only_clocks.false) (w.value-is ∙ w.if-only_clocks.false) ]
 
 pub returns-then-only_clocks-2 : goal.returns-then-only_clocks-2
 unfolding calm

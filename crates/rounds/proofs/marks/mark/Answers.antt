@@ -19,7 +19,7 @@ pub bounds-list-j : goal.bounds-list-j
 bounds-list-j c = omega (arith, c.requires.0)
 
 pub overflow_cast-named : goal.overflow_cast-named
-overflow_cast-named c = omega (arith, bounds-marks-named c.before)
+overflow_cast-named c = omega (arith, c.requires.1 c.loop-j.j (omega arith))
 
 pub bounds-marks-named : goal.bounds-marks-named
 bounds-marks-named c = c.requires.1 c.loop-j.j (omega arith)
@@ -28,7 +28,7 @@ pub loop-j-preserved : goal.loop-j-preserved
 loop-j-preserved c =
     let l = c.loop-j in (
       omega arith,
-      listed_next l.marks c.args.list.now l.j (omega (arith, c.requires.0)) (bounds-marks-named c.before) l.invariant.1,
+      listed_next l.marks c.args.list.now l.j (omega (arith, c.requires.0)) (c.requires.1 l.j (omega arith)) l.invariant.1,
     )
 
 pub returns : goal.returns

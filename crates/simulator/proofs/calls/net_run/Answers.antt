@@ -149,19 +149,19 @@ loop-calm-preserved c =
     let b = test_below l.calm l.rounds c.args.limit c.loop-calm-test.true in (
       omega (arith, b),
       omega (arith, l.invariant.1),
-      r.auto.1.0 ∙ l.invariant.2,
-      r.auto.1.1.0 ∙ l.invariant.3,
-      r.auto.1.1.1.1.1.1.0 ∙ l.invariant.4,
-      r.auto.1.1.1.1.1.1.1.0 ∙ l.invariant.5,
-      r.auto.1.1.1.1.1.1.1.1.0 ∙ l.invariant.6,
+      r.auto.inputs ∙ l.invariant.2,
+      r.auto.outputs ∙ l.invariant.3,
+      r.auto.current ∙ l.invariant.4,
+      r.auto.following ∙ l.invariant.5,
+      r.auto.standing ∙ l.invariant.6,
       round_net c.args.time T U l.invariant.7 (made c.before.before.before.before.before.before.before.before.before.before.before.before.before.before.before).0,
       run_turn c.args.time T U l.invariant.7 (made c.before.before.before.before.before.before.before.before.before.before.before.before.before.before.before).0 c.args.limit l.rounds l.evaluations l.moved _ _ _ _ _ b
           (c.net_calm-calm.ensures ∙ calm_lists U) (made c.before.before.before.before.before.before.before.before.before.before.before.before.before.before.before).1 c.count_moved-moved.ensures
           (rw (test_going l.calm l.rounds c.args.limit c.loop-calm-test.true) at l.invariant.8),
-      subst (λ (n : ℕ). Ready k.result c.args.wires.now n k.new.1.1.1.1.0 k.new.1.1.1.1.1.0)
+      subst (λ (n : ℕ). Ready k.result c.args.wires.now n k.new.head k.new.after)
           (sym (round_wires T U c.args.time (made c.before.before.before.before.before.before.before.before.before.before.before.before.before.before.before).0)) k.ensures.1,
       omega (arith, l.invariant.10, moved-few c.before.before),
-      r.auto.1.1.1.1.1.1.1.1.1.0 ∙ l.invariant.11,
+      r.auto.moved ∙ l.invariant.11,
     )
 
 pub returns : goal.returns

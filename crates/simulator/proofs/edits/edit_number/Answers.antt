@@ -1,7 +1,7 @@
 -- `edit_number`: the numbers in their order.
 -- Assumes nothing.
 use mathlib.Core.Path.{◌≡◌, ap, ◌∙◌}
-use mathlib.Core.Bool.{cond}
+use mathlib.Core.Bool.{cond, not}
 use mathlib.Core.Logic.{⊎_elim}
 use Rattle.value.specs.declared.Fit.{Fit}
 use Rattle.kinds.specs.Kinds.{input_width, output_width}
@@ -20,7 +20,7 @@ JoinedSwitch = lts.Joined3 tie.the-claims reads.Pre reads.Post
 wide : (c : JoinedSwitch)
     → c.if-switch.width ≡ cond c.is_kind-switch.result (output_width c.fields_at-f.result) (input_width c.fields_at-f.result)
 wide c =
-    elim c.if-switch.branch [ then-switch w ↦ rw w.0.taken (w.2 ∙ w.1.ensures) | else-switch w ↦ rw w.0.left (w.2 ∙ w.1.ensures) ]
+    elim c.if-switch.branch [ then-switch w ↦ rw w.if-switch.true (w.width-is ∙ w.output_width-width.ensures) | else-switch w ↦ rw w.if-switch.false (w.width-is ∙ w.input_width-width.ensures) ]
 
 pub returns-then-count-i : goal.returns-then-count-i
 returns-then-count-i c =
@@ -37,7 +37,7 @@ pub returns-then-not-switch-input : goal.returns-then-not-switch-input
 returns-then-not-switch-input c =
     let a = c.args in
     edit_18 a.components.now a.count a.entered a.i a.number c.if-count-i.false _ _
-    c.is_kind-switch.ensures c.is_kind-input.ensures c.if-not-switch-input.true
+    c.is_kind-switch.ensures c.is_kind-input.ensures (ap not c.if-not-switch-input.true)
 
 pub fields_at-f-requires : goal.fields_at-f-requires
 fields_at-f-requires c = c.requires c.if-count-i.false
@@ -46,12 +46,12 @@ pub returns-then-not-fits : goal.returns-then-not-fits
 returns-then-not-fits c =
     let a = c.args in
     edit_19 a.components.now a.count a.entered a.i a.number c.if-count-i.false _ _
-    c.is_kind-switch.ensures c.is_kind-input.ensures c.if-not-switch-input.false _ _ _
+    c.is_kind-switch.ensures c.is_kind-input.ensures (ap not c.if-not-switch-input.false) _ _ _
     c.fields_at-f.ensures (wide c.before.before.before.before) (ap (λ (f : Fit). f.fits) c.fits.ensures) c.if-not-fits.true
 
 pub returns : goal.returns
 returns c =
     let a = c.args in
     edit_0 a.components.now a.count a.entered a.i a.number c.if-count-i.false _ _
-    c.is_kind-switch.ensures c.is_kind-input.ensures c.if-not-switch-input.false _ _ _
+    c.is_kind-switch.ensures c.is_kind-input.ensures (ap not c.if-not-switch-input.false) _ _ _
     c.fields_at-f.ensures (wide c.before.before.before.before) (ap (λ (f : Fit). f.fits) c.fits.ensures) c.if-not-fits.false

@@ -16,7 +16,8 @@ pub first_output-at-requires : goal.first_output-at-requires
 first_output-at-requires c = c.requires.0
 
 pub offset_bounds-outputs-at : goal.offset_bounds-outputs-at
-offset_bounds-outputs-at c = omega (arith, bounds-outputs-at c.before)
+offset_bounds-outputs-at c =
+    omega (arith, c.first_output-at.ensures, c.requires.1 (sym c.is_kind.ensures ∙ c.if-is_kind.true))
 
 pub bounds-outputs-at : goal.bounds-outputs-at
 bounds-outputs-at c =
@@ -26,7 +27,13 @@ pub first_input-at-requires : goal.first_input-at-requires
 first_input-at-requires c = c.requires.0
 
 pub offset_bounds-inputs-at : goal.offset_bounds-inputs-at
-offset_bounds-inputs-at c = omega (arith, bounds-inputs-at c.before)
+offset_bounds-inputs-at c =
+    omega (
+      arith,
+      c.first_input-at.ensures,
+      c.requires.2
+          (λ e. true≢false (sym e ∙ sym c.is_kind.ensures ∙ c.if-is_kind.false)),
+    )
 
 pub bounds-inputs-at : goal.bounds-inputs-at
 bounds-inputs-at c =

@@ -1,5 +1,7 @@
 -- `order_checks`: the checks one after the other.
 -- Assumes nothing.
+use mathlib.Core.Bool.{not}
+use mathlib.Core.Path.{ap}
 use native.Mathlib.Omega.{arith}
 use Rattle.tables.specs.Tables.{Tables, tables_of}
 use Rattle.net.proofs.NetLaws.{passed_net}
@@ -46,10 +48,10 @@ pub returns-then-not-is_order : goal.returns-then-not-is_order
 returns-then-not-is_order c =
     let s = start c.before.before.before.before.before in
     ordered_repeats (came s) s.args.order.now s.args.moved.now c.if-order-moved.false _ c.net_number-refused.ensures c.if-refused-ne0.false _
-    c.is_order.ensures c.if-not-is_order.true
+    c.is_order.ensures (ap not c.if-not-is_order.true)
 
 pub returns : goal.returns
 returns c =
     let s = start c.before.before.before.before.before in
     ordered_passed (came s) s.args.order.now s.args.moved.now c.if-order-moved.false _ c.net_number-refused.ensures c.if-refused-ne0.false _
-    c.is_order.ensures c.if-not-is_order.false
+    c.is_order.ensures (ap not c.if-not-is_order.false)
