@@ -1,7 +1,6 @@
 -- `check12`: what the record says names the ports that must exist.
 -- Assumes nothing.
 use Rattle.checks.proofs.ChecksLaws.{given_by, given_passes, fails12_refused, fails12_component, fails12_connection, fails12_input_map, fails12_output_map}
-use borrow.Author.Rules.{rules}
 use Rattle.checks.proofs.check12.Goals as goal
 
 pub returns-in_default : goal.returns-in_default

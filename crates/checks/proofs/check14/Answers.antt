@@ -1,7 +1,6 @@
 -- `check14`: a record is tested only where it is a composite, which the index has a word of.
 -- Assumes nothing.
 use Rattle.checks.proofs.ChecksLaws.{given_by, given_passes, fails14_other, fails14_primitive, fails14_composite, fails14_counted, component_few}
-use borrow.Author.Rules.{rules}
 use Rattle.checks.proofs.check14.Goals as goal
 
 pub returns-in_default : goal.returns-in_default

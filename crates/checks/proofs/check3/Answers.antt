@@ -1,7 +1,6 @@
 -- `check3`: what reading answers.
 -- Assumes nothing.
 use Rattle.checks.proofs.ChecksLaws.{number_taken, number_refused}
-use borrow.Author.Rules.{rules}
 use Rattle.checks.proofs.check3.Goals as goal
 
 pub returns-in_default : goal.returns-in_default

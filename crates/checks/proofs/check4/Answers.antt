@@ -1,7 +1,6 @@
 -- `check4`: the tests are those of the definition, at the record and the one before it.
 -- Assumes nothing.
 use Rattle.checks.proofs.ChecksLaws.{given_by, given_fails, given_passes, fails4_first_none, fails4_first, not_refused, fails4_after, fails4_later}
-use borrow.Author.Rules.{rules}
 use Rattle.checks.proofs.check4.Goals as goal
 
 pub returns-in_default : goal.returns-in_default

@@ -2,7 +2,7 @@
 -- Assumes nothing.
 use Rattle.checks.proofs.ChecksLaws.{given_by, given_fails, given_passes, not_refused}
 use Rattle.checks.proofs.ChecksLaws.{fails5_root, fails5_owner, fails5_line, fails5_before, fails5_held}
-use borrow.Author.Rules.{rules}
+use Rattle.component.proofs.RecordLaws.{but_component}
 use Rattle.checks.proofs.check5.Goals as goal
 
 pub returns-in_default : goal.returns-in_default
@@ -15,7 +15,9 @@ pub returns-then-not-is_composite_at : goal.returns-then-not-is_composite_at
 returns-then-not-is_composite_at c = search (given_fails, fails5_owner)
 
 pub returns-in_default-says : goal.returns-in_default-says
-returns-in_default-says c = search (given_passes, fails5_line)
+returns-in_default-says c =
+    let k = but_component c.in-Taken.says c.in_default-says.not-Component in
+    search (given_passes, fails5_line)
 
 pub returns-then-o-p : goal.returns-then-o-p
 returns-then-o-p c = search (given_passes, fails5_before)

@@ -1,7 +1,6 @@
 -- `check6`: the tests stand in the order of the definition, and each decides it at its way out.
 -- Assumes nothing.
 use Rattle.checks.proofs.ChecksLaws.{given_by, given_fails, given_passes, fails_other, fails6_number, fails6_depth}
-use borrow.Author.Rules.{rules}
 use Rattle.checks.proofs.check6.Goals as goal
 
 pub returns-in_default : goal.returns-in_default

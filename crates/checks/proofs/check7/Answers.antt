@@ -1,7 +1,6 @@
 -- `check7`: a record is tested only where it is a component.
 -- Assumes nothing.
 use Rattle.checks.proofs.ChecksLaws.{given_by, given_passes, fails_other, fails7_component}
-use borrow.Author.Rules.{rules}
 use Rattle.checks.proofs.check7.Goals as goal
 
 pub returns-in_default : goal.returns-in_default

@@ -1,7 +1,6 @@
 -- `check8`: a record is tested only where it is a component.
 -- Assumes nothing.
 use Rattle.checks.proofs.ChecksLaws.{given_by, given_passes, fails_other, fails8_component}
-use borrow.Author.Rules.{rules}
 use Rattle.checks.proofs.check8.Goals as goal
 
 pub returns-in_default : goal.returns-in_default

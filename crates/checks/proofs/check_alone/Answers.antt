@@ -3,7 +3,6 @@
 use borrow.Author.Tests.{ne_eqb}
 use Rattle.checks.specs.Checks.{fails_by}
 use native.Mathlib.Omega.{arith}
-use borrow.Author.Rules.{rules}
 use Rattle.checks.proofs.check_alone.Goals as goal
 
 pub check4-requires : goal.check4-requires

@@ -1,9 +1,8 @@
 -- `check_indexed`: each number names its check.
 -- Assumes nothing.
 use mathlib.Core.Path.{◌≡◌}
-use mathlib.Core.Logic.{◌⊎◌, ⊎_elim}
+use mathlib.Core.Logic.{⊎_elim}
 use Rattle.checks.specs.Checks.{fails_by}
-use borrow.Author.Rules.{rules}
 use Rattle.checks.proofs.check_indexed.Goals as goal
 
 pub returns-then-k-eq12 : goal.returns-then-k-eq12

@@ -1,9 +1,6 @@
 -- `deeper`: the invariant: what is asked of the present component, with the depth left, is the answer.
 -- Assumes nothing.
-use mathlib.Core.Path.{◌≡◌, refl}
-use borrow.Author.Rules.{rules}
-use Rattle.component.specs.Record.{record_at}
-use Rattle.component.specs.Drawing.{deeper}
+use mathlib.Core.Path.{refl}
 use Rattle.checks.proofs.ChecksLaws.{deeper_root, deeper_unseen, deeper_outer, deeper_none}
 use Rattle.checks.proofs.deeper.Goals as goal
 

@@ -1,10 +1,8 @@
 -- `deeper`: the invariant: what is asked of the present component, with the depth left, is the answer.
 -- Assumes nothing.
-use mathlib.Core.Path.{◌≡◌, refl}
-use borrow.Author.Rules.{rules}
+use mathlib.Core.Path.{◌≡◌}
 use Rattle.component.specs.Record.{record_at}
 use Rattle.component.specs.Drawing.{deeper}
-use Rattle.checks.proofs.ChecksLaws.{deeper_root, deeper_unseen, deeper_outer, deeper_none}
 use Rattle.checks.proofs.deeper.Given as goal
 
 abbrev pub invariant-loop-left : goal.invariant-loop-left

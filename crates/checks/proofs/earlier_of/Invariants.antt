@@ -7,9 +7,7 @@ use Rattle.lists.specs.Lists.{from, keep}
 use Rattle.component.specs.Record.{record_at}
 use Rattle.component.specs.Reading.{enters}
 use Rattle.component.specs.Drawing.{earlier_of}
-use Rattle.checks.proofs.ChecksLaws.{earlier_none, earlier_start}
-use Rattle.component.proofs.ScanLaws.{tested, scan_kth_here, scan_kth_next, scan_kth_none}
-use borrow.Author.Rules.{rules}
+use Rattle.component.proofs.ScanLaws.{tested}
 use Rattle.checks.proofs.earlier_of.Given as goal
 
 abbrev pub invariant-loop-q : goal.invariant-loop-q

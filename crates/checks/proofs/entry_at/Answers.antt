@@ -2,7 +2,6 @@
 -- Assumes nothing.
 use Rattle.checks.specs.Checks.{EntryAs}
 use mathlib.Core.Path.{subst}
-use borrow.Author.Rules.{rules}
 use Rattle.checks.proofs.entry_at.Goals as goal
 
 pub returns : goal.returns

@@ -1,7 +1,6 @@
 -- `entry_of`: by what the record says.
 -- Assumes nothing.
 use Rattle.checks.proofs.ChecksLaws.{entry_refused, entry_component, entry_connection, entry_input_map, entry_output_map}
-use borrow.Author.Rules.{rules}
 use Rattle.checks.proofs.entry_of.Goals as goal
 
 pub returns-in_default : goal.returns-in_default

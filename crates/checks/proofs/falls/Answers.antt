@@ -2,14 +2,16 @@
 -- Assumes nothing.
 use Rattle.checks.proofs.ChecksLaws.{falls_components, falls_component, falls_connection_first, falls_connections, falls_connection}
 use Rattle.checks.proofs.ChecksLaws.{falls_input_maps, falls_input_map, falls_input_map_later, falls_output_maps, falls_output_map}
-use borrow.Author.Rules.{rules}
+use Rattle.component.proofs.RecordLaws.{but_component, but_output_map}
 use Rattle.checks.proofs.falls.Goals as goal
 
 pub returns-in-Component-before : goal.returns-in-Component-before
 returns-in-Component-before c = search (falls_components)
 
 pub returns-in_default : goal.returns-in_default
-returns-in_default c = search (falls_component)
+returns-in_default c =
+    let k = but_component c.args.before c.in_default.not-Component in
+    search (falls_component)
 
 pub returns-in-Component-before-2 : goal.returns-in-Component-before-2
 returns-in-Component-before-2 c = search (falls_connection_first)
@@ -33,4 +35,6 @@ pub returns-in-OutputMap-before-2 : goal.returns-in-OutputMap-before-2
 returns-in-OutputMap-before-2 c = search (falls_output_maps)
 
 pub returns-in_default-before-3 : goal.returns-in_default-before-3
-returns-in_default-before-3 c = search (falls_output_map)
+returns-in_default-before-3 c =
+    let k = but_output_map c.args.before c.in_default-before-3.not-OutputMap in
+    search (falls_output_map)

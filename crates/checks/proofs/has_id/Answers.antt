@@ -1,7 +1,6 @@
 -- `has_id`: a record is tested only where it is a component.
 -- Assumes nothing.
 use Rattle.checks.proofs.ChecksLaws.{has_id-other, has_id-component}
-use borrow.Author.Rules.{rules}
 use Rattle.checks.proofs.has_id.Goals as goal
 
 pub returns-in_default : goal.returns-in_default

@@ -1,7 +1,6 @@
 -- `has_input`: the test of the definition, at the fields read.
 -- Assumes nothing.
 use Rattle.checks.proofs.ChecksLaws.{inputs_other, inputs_component}
-use borrow.Author.Rules.{rules}
 use Rattle.checks.proofs.has_input.Goals as goal
 
 pub returns-in_default : goal.returns-in_default

@@ -1,7 +1,6 @@
 -- `has_output`: the test of the definition, at the fields read.
 -- Assumes nothing.
 use Rattle.checks.proofs.ChecksLaws.{outputs_other, outputs_component}
-use borrow.Author.Rules.{rules}
 use Rattle.checks.proofs.has_output.Goals as goal
 
 pub returns-in_default : goal.returns-in_default

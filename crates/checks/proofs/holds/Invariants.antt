@@ -1,10 +1,8 @@
 -- `holds`: the invariant: what is asked of the present component, with the owners left, is the answer.
 -- Assumes nothing.
-use mathlib.Core.Path.{◌≡◌, refl}
-use borrow.Author.Rules.{rules}
+use mathlib.Core.Path.{◌≡◌}
 use Rattle.component.specs.Record.{record_at}
 use Rattle.component.specs.Drawing.{holds}
-use Rattle.checks.proofs.ChecksLaws.{holds_root, holds_unseen, holds_owner, holds_outer, holds_none}
 use Rattle.checks.proofs.holds.Given as goal
 
 abbrev pub invariant-loop-left : goal.invariant-loop-left

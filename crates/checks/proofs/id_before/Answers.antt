@@ -1,12 +1,8 @@
 -- `id_before`: the invariant: whether one of the records to come has the id is the answer.
 -- Assumes nothing.
-use mathlib.Core.Path.{◌≡◌}
-use Prim.Native.Nat.{◌-◌}
 use native.Mathlib.Nat.{sub-zero}
-use Rattle.lists.specs.Lists.{from, any}
 use Rattle.component.specs.Reading.{has_id}
-use Rattle.component.proofs.ScanLaws.{tested, scan_any_here, scan_any_next, scan_any_none}
-use borrow.Author.Rules.{rules}
+use Rattle.component.proofs.ScanLaws.{scan_any_here, scan_any_next, scan_any_none}
 use Rattle.checks.proofs.id_before.Goals as goal
 
 pub loop-q-init : goal.loop-q-init

@@ -2,11 +2,9 @@
 -- Assumes nothing.
 use mathlib.Core.Path.{◌≡◌}
 use Prim.Native.Nat.{◌-◌}
-use native.Mathlib.Nat.{sub-zero}
 use Rattle.lists.specs.Lists.{from, any}
 use Rattle.component.specs.Reading.{has_id}
-use Rattle.component.proofs.ScanLaws.{tested, scan_any_here, scan_any_next, scan_any_none}
-use borrow.Author.Rules.{rules}
+use Rattle.component.proofs.ScanLaws.{tested}
 use Rattle.checks.proofs.id_before.Given as goal
 
 abbrev pub invariant-loop-q : goal.invariant-loop-q

@@ -1,6 +1,5 @@
 -- `is_composite_at`: the test of the definition, at the fields read.
 -- Assumes nothing.
-use borrow.Author.Rules.{rules}
 use Rattle.checks.proofs.is_composite_at.Goals as goal
 
 pub returns : goal.returns

@@ -1,7 +1,6 @@
 -- `same_entry`: the tests of the definition, at the entry read.
 -- Assumes nothing.
 use Rattle.checks.proofs.ChecksLaws.{enters_none, enters_is}
-use borrow.Author.Rules.{rules}
 use Rattle.checks.proofs.same_entry.Goals as goal
 
 pub returns-in_default : goal.returns-in_default

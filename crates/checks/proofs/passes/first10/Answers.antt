@@ -1,15 +1,11 @@
 -- `first10`: the invariant: no record before p fails, and the ids before p are marked.
 -- Assumes nothing.
-use Prim.Native.Nat.{◌-◌, ◌/◌, ◌≤◌}
 use native.Mathlib.Omega.{arith}
-use lib.ListN.{length}
-use Rattle.lists.specs.Marks.{IsMarked}
 use Rattle.lists.proofs.KeysLaws.{marks_start}
 use Rattle.component.specs.Record.{record_at}
 use Rattle.component.specs.Drawing.{is_component, fails10}
 use Rattle.checks.specs.Checks.{id_mark}
-use Rattle.checks.proofs.PassesLaws.{NoneBefore, none_start, none_next, first_this, first_none}
-use borrow.Author.Rules.{rules}
+use Rattle.checks.proofs.PassesLaws.{none_start, none_next, first_this, first_none}
 use Rattle.checks.proofs.passes.first10.Goals as goal
 
 pub loop-p-init : goal.loop-p-init

@@ -5,14 +5,11 @@ use Rattle.lists.proofs.TestsLaws.{or_left, or_right}
 use lib.Dec.{ltb}
 use borrow.Author.Tests.{ltb-false}
 use mathlib.Core.Path.{refl}
-use mathlib.Core.Path.{◌≡◌}
-use Prim.Native.Nat.{◌+◌, ◌-◌, ◌/◌, ◌≤◌}
+use Prim.Native.Nat.{◌+◌}
 use native.Mathlib.Omega.{arith}
-use lib.ListN.{length}
 use Rattle.component.specs.Record.{record_at}
-use Rattle.component.specs.Drawing.{inputs_before, outputs_before, fails11}
-use Rattle.checks.proofs.PassesLaws.{NoneBefore, none_start, none_next, first_this, first_none, sum_next, overfull}
-use borrow.Author.Rules.{rules}
+use Rattle.component.specs.Drawing.{fails11}
+use Rattle.checks.proofs.PassesLaws.{none_start, none_next, first_this, first_none, sum_next, overfull}
 use Rattle.checks.proofs.passes.first11.Goals as goal
 
 pub loop-p-init : goal.loop-p-init

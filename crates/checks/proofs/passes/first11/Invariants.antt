@@ -1,18 +1,11 @@
 -- `first11`: the invariant: no record before p fails, and the sums are the ports of the primitives before p.
 -- Assumes nothing.
-use Rattle.component.specs.Record.{inputs_of, outputs_of}
-use Rattle.lists.proofs.TestsLaws.{or_left, or_right}
-use lib.Dec.{ltb}
-use borrow.Author.Tests.{ltb-false}
-use mathlib.Core.Path.{refl}
 use mathlib.Core.Path.{◌≡◌}
-use Prim.Native.Nat.{◌+◌, ◌-◌, ◌/◌, ◌≤◌}
-use native.Mathlib.Omega.{arith}
+use Prim.Native.Nat.{◌-◌, ◌/◌, ◌≤◌}
 use lib.ListN.{length}
 use Rattle.component.specs.Record.{record_at}
 use Rattle.component.specs.Drawing.{inputs_before, outputs_before, fails11}
-use Rattle.checks.proofs.PassesLaws.{NoneBefore, none_start, none_next, first_this, first_none, sum_next, overfull}
-use borrow.Author.Rules.{rules}
+use Rattle.checks.proofs.PassesLaws.{NoneBefore}
 use Rattle.checks.proofs.passes.first11.Given as goal
 
 abbrev pub invariant-loop-p : goal.invariant-loop-p

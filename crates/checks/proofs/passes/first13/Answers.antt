@@ -1,15 +1,13 @@
 -- `first13`: the invariant: no record before p fails, and what the records before p enter is marked.
 -- Assumes nothing.
-use Prim.Native.Nat.{◌-◌, ◌/◌, ◌≤◌}
+use Prim.Native.Nat.{◌/◌}
 use native.Mathlib.Omega.{arith}
 use lib.ListN.{length}
-use Rattle.lists.specs.Marks.{IsMarked}
 use Rattle.lists.proofs.KeysLaws.{marks_start}
 use Rattle.component.specs.Record.{record_at}
 use Rattle.component.specs.Drawing.{fails13}
 use Rattle.checks.specs.Checks.{is_entry, entry_mark}
-use Rattle.checks.proofs.PassesLaws.{NoneBefore, none_start, none_next, first_this, first_none}
-use borrow.Author.Rules.{rules}
+use Rattle.checks.proofs.PassesLaws.{none_start, none_next, first_this, first_none}
 use Rattle.checks.proofs.passes.first13.Goals as goal
 
 pub loop-p-init : goal.loop-p-init
