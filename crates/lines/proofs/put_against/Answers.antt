@@ -4,7 +4,6 @@ use mathlib.Core.List.{[]}
 use Rattle.text.specs.Text.{numeral, ascii}
 use Rattle.text.proofs.TextLaws.{put}
 use Rattle.lines.proofs.LinesLaws.{both, named_as, against_named, against_none}
-use borrow.Author.Rules.{rules}
 use Rattle.lines.proofs.put_against.Goals as goal
 
 pub returns-then-number : goal.returns-then-number

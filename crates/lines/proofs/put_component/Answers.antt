@@ -6,7 +6,6 @@ use Rattle.text.specs.Text.{numeral}
 use Rattle.lines.specs.Lines.{component_line}
 use Rattle.text.proofs.TextLaws.{put}
 use Rattle.lines.proofs.LinesLaws.{both, both_ended}
-use borrow.Author.Rules.{rules}
 use Rattle.lines.proofs.put_component.Goals as goal
 
 pub returns : goal.returns

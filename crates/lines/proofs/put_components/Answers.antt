@@ -1,14 +1,7 @@
 -- `put_components`: the first line, then a line for each.
 -- Assumes nothing.
-use mathlib.Core.List.{List}
-use Prim.Native.Nat.{ℕ, ◌-◌, ◌≤◌}
 use native.Mathlib.Omega.{arith}
-use Rattle.lists.specs.Lists.{from, joined}
-use Rattle.tables.specs.Words.{fields_in, id_in}
-use Rattle.text.proofs.TextLaws.{ToCome}
-use Rattle.lines.specs.Lines.{component_line}
 use Rattle.lines.proofs.LinesLaws.{both, begun_lines, next_line, no_line}
-use borrow.Author.Rules.{rules}
 use Rattle.lines.proofs.put_components.Goals as goal
 use Rattle.lines.proofs.put_components.Invariants.{line}
 

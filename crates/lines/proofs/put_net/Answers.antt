@@ -1,7 +1,6 @@
 -- `put_net`: the components, then the wires.
 -- Assumes nothing.
 use Rattle.lines.proofs.LinesLaws.{both}
-use borrow.Author.Rules.{rules}
 use Rattle.lines.proofs.put_net.Goals as goal
 
 pub returns : goal.returns

@@ -4,7 +4,6 @@ use mathlib.Core.List.{[], ◌∷◌}
 use Rattle.text.specs.Text.{numeral, ascii}
 use Rattle.text.proofs.TextLaws.{put}
 use Rattle.lines.proofs.LinesLaws.{both}
-use borrow.Author.Rules.{rules}
 use Rattle.lines.proofs.put_refused.Goals as goal
 
 pub returns : goal.returns

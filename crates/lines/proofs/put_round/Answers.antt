@@ -23,4 +23,4 @@ returns c =
     let e = c.put in
     both
     (both (both (both (put (ascii "round ") (w.ensures.value, w.ensures.out_after)) (put (numeral a.round) (n.ensures.value, n.ensures.out_after))) (put (ascii " next") (x.ensures.value, x.ensures.out_after)))
-    (put (spaced (take a.count a.current.now)) l.ensures)) (put (10 ∷ []) (e.ensures.value, e.ensures.out_after))
+    (put (spaced (take a.count a.current.now)) (l.ensures.value, l.ensures.out_after))) (put (10 ∷ []) (e.ensures.value, e.ensures.out_after))

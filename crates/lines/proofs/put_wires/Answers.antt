@@ -1,14 +1,7 @@
 -- `put_wires`: the first line, then a line for each.
 -- Assumes nothing.
-use mathlib.Core.List.{List}
-use Prim.Native.Nat.{ℕ, ◌-◌, ◌≤◌}
 use native.Mathlib.Omega.{arith}
-use Rattle.lists.specs.Lists.{from, joined}
-use Rattle.tables.specs.Words.{wire_in}
-use Rattle.text.proofs.TextLaws.{ToCome}
-use Rattle.lines.specs.Lines.{wire_line}
 use Rattle.lines.proofs.LinesLaws.{both, begun_lines, next_line, no_line}
-use borrow.Author.Rules.{rules}
 use Rattle.lines.proofs.put_wires.Goals as goal
 use Rattle.lines.proofs.put_wires.Invariants.{line}
 
