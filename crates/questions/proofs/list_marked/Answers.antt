@@ -26,11 +26,11 @@ loop-j-preserved c =
     elim c.if-marks-j-eq1.branch [
       | then-marks-j-eq1 w ↦ let r =
           list_here a.marks.now a.list.now l.list l.listed l.j l.invariant.3 l.invariant.4 (omega arith)
-          w.0.taken in
-          rw (w.1, w.2) (omega arith, omega arith, simp length-set l.invariant.2, r.0, r.1)
+          w.if-marks-j-eq1.true in
+          rw (w.listed-is, w.list-is) (omega arith, omega arith, simp length-set l.invariant.2, r.0, r.1)
       | else-marks-j-eq1 w ↦ let r =
-          list_none a.marks.now a.list.now l.list l.listed l.j l.invariant.3 l.invariant.4 w.0.left in
-          rw (w.1, w.2) (omega arith, omega arith, l.invariant.2, r.0, r.1)
+          list_none a.marks.now a.list.now l.list l.listed l.j l.invariant.3 l.invariant.4 w.if-marks-j-eq1.false in
+          rw (w.listed-is, w.list-is) (omega arith, omega arith, l.invariant.2, r.0, r.1)
     ]
 
 pub shape_of-list : goal.shape_of-list

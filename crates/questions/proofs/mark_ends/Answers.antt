@@ -50,18 +50,18 @@ loop-k-preserved c =
     let far : (x : ℕ) → x ≡ comp_at c.wire_at-wire.result a.far → x ≡ end_of a.wires.now l.k a.far =
     λ x e. e ∙ ap (λ (w : Wire). comp_at w a.far) c.wire_at-wire.ensures in
     elim c.if-comp_at-i.branch [
-      | then-comp_at-i w ↦ rw w.2 (
+      | then-comp_at-i w ↦ rw w.marks-is (
         omega arith,
         simp length-set l.invariant.1,
-        mark_here a.wires.now a.marks.now l.marks a.near a.far a.i l.k l.invariant.2 w.1.result
-            (sym n ∙ w.0.taken) (far _ w.1.ensures)
-            (omega (arith, far _ w.1.ensures, l.invariant.1, c.requires.0 l.k c.loop-k-test.true)),
+        mark_here a.wires.now a.marks.now l.marks a.near a.far a.i l.k l.invariant.2 w.comp_at-at.result
+            (sym n ∙ w.if-comp_at-i.true) (far _ w.comp_at-at.ensures)
+            (omega (arith, far _ w.comp_at-at.ensures, l.invariant.1, c.requires.0 l.k c.loop-k-test.true)),
       )
-      | else-comp_at-i w ↦ rw w.1 (
+      | else-comp_at-i w ↦ rw w.marks-is (
         omega arith,
         l.invariant.1,
         mark_none a.wires.now a.marks.now l.marks a.near a.far a.i l.k l.invariant.2
-            (λ e. w.0.left (n ∙ e)),
+            (λ e. w.if-comp_at-i.false (n ∙ e)),
       )
     ]
 
