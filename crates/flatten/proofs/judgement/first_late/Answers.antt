@@ -26,8 +26,7 @@ first15-requires c =
 
 pub first_indexed-requires : goal.first_indexed-requires
 first_indexed-requires c =
-    let r = c.in_default.in_default-own.rest in
-    (c.requires.0, twelve c.args.k c.requires.1 c.requires.2 r.0.1 r.1, c.requires.3)
+    (c.requires.0, twelve c.args.k c.requires.1 c.requires.2 (omega arith) (omega arith), c.requires.3)
 
 pub returns-in-13 : goal.returns-in-13
 unfolding fails_at fails_by

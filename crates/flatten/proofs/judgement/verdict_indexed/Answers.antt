@@ -1,5 +1,7 @@
 -- `verdict_indexed`: check 1, then the checks before the index, and those that ask it.
 -- Assumes nothing.
+use mathlib.Core.Bool.{not}
+use mathlib.Core.Path.{ap}
 use native.Mathlib.Omega.{arith}
 use Rattle.flatten.proofs.Accepted.{not_accepted}
 use Rattle.flatten.proofs.JudgementLaws.{sized_most, verdict_sized, verdict_early, verdict_late, readable_before}
@@ -14,17 +16,24 @@ judge_early-requires c = search (sized_most)
 
 pub returns-in-Refused : goal.returns-in-Refused
 returns-in-Refused c =
-    let a = c.args in record { value = verdict_early a.file.now _ c.is_sized.ensures _ _ c.if-not-is_sized.false c.judge_early.ensures c.in-Refused.is; index = λ z. absurd (not_accepted _ z) }
+    record {
+      value = verdict_early c.args.file.now _ c.is_sized.ensures _ _ (ap not c.if-not-is_sized.false) c.judge_early.ensures c.in-Refused.is;
+      index = λ z. absurd (not_accepted _ z);
+    }
 
 pub fill_index-requires : goal.fill_index-requires
 fill_index-requires c = (
   readable_before c.args.file.now 12 (omega arith) (c.judge_early.ensures.passed c.in_default.is),
-  sized_most c.args.file.now _ c.is_sized.ensures c.if-not-is_sized.false,
+  sized_most c.args.file.now _ c.is_sized.ensures (ap not c.if-not-is_sized.false),
   c.requires,
 )
 
 pub judge_late-requires : goal.judge_late-requires
-judge_late-requires c = (c.fill_index.ensures, c.judge_early.ensures.passed c.enum_told-1.given.1)
+judge_late-requires c = (c.fill_index.ensures, c.judge_early.ensures.passed c.in_default.is)
 
 pub returns : goal.returns
-returns c = record { value = verdict_late c.args.file.now _ c.is_sized.ensures _ c.if-not-is_sized.false c.judge_late.ensures; index = λ z. c.fill_index.ensures }
+returns c =
+    record {
+      value = verdict_late c.args.file.now _ c.is_sized.ensures _ (ap not c.if-not-is_sized.false) c.judge_late.ensures;
+      index = λ z. c.fill_index.ensures;
+    }

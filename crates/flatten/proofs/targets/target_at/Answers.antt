@@ -6,4 +6,4 @@ use borrow.Author.Rules.{rules}
 use Rattle.flatten.proofs.targets.target_at.Goals as goal
 
 pub overflow_cast-result : goal.overflow_cast-result
-overflow_cast-result c = omega (arith, c.shared_slice_known-1.given (2 * c.args.k))
+overflow_cast-result c = omega (arith, c.type_inv.targets (2 * c.args.k))

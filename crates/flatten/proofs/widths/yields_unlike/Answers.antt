@@ -1,8 +1,16 @@
 -- `yields_unlike`: a connection's source has the width that no target may differ from, and there are at most 1,024 targets.
 -- Assumes nothing.
+use mathlib.Core.Logic.{inl, inr}
+use mathlib.Core.List.{[], ◌∷◌}
+use types.Run.{OneOf}
+use denote.Enum.Declared.{tag_of}
+use Rattle.component.specs.declared.ChildNo.{ChildNo}
+use Rattle.component.specs.declared.Says.{Says}
+use Rattle.component.specs.declared.Says.TheVariants.{Component, Connection, InputMap, OutputMap}
+use Rattle.component.specs.contracts.Says.{the_type}
 use Rattle.flatten.proofs.WidthsLaws.{fails15_refused, fails15_other, fails15_connection}
-use mathlib.Core.Path.{refl, ◌∙◌}
-use Prim.Native.Nat.{◌/◌}
+use mathlib.Core.Path.{◌≡◌, refl, ◌∙◌}
+use Prim.Native.Nat.{ℕ, ◌/◌}
 use native.Mathlib.Omega.{arith}
 use lib.ListN.{length}
 use borrow.Author.Rules.{rules}
@@ -12,13 +20,20 @@ use Rattle.flatten.proofs.TargetsLaws.{listed_length}
 use Rattle.flatten.proofs.ConnectionLaws.{connection_room, connection_within, connection_read}
 use Rattle.flatten.proofs.widths.yields_unlike.Goals as goal
 
+-- What is no Connection is one of the other three.
+other : (x : Says) → ((f : ChildNo) (o : ℕ) (t : ChildNo) (i : ℕ) → x ≡ Connection f o t i → ⊥) → OneOf (0 ∷ 2 ∷ 3 ∷ []) (tag_of the_type x)
+other (Component i f) h = inl refl
+other (Connection f o t i) h = absurd (h f o t i refl)
+other (InputMap p t i) h = inr (inl refl)
+other (OutputMap f o) h = inr (inr refl)
+
 -- refused
 pub returns-in_default : goal.returns-in_default
 returns-in_default c = (search (fails15_refused), search rules)
 
 -- no connection
 pub returns-in_default-says : goal.returns-in_default-says
-returns-in_default-says c = (search (fails15_other), search rules)
+returns-in_default-says c = let o = other c.in-Taken.says c.in_default-says.not-Connection in (search (fails15_other), search rules)
 
 pub child_of-goal-requires : goal.child_of-goal-requires
 child_of-goal-requires c = c.requires.index.0
@@ -35,8 +50,8 @@ targets_from-count-requires c =
 pub any_differs-requires : goal.any_differs-requires
 any_differs-requires c =
     let a = c.args in
-    let at_p = connection_at a.file.now (length a.file.now / 24) a.p _ c.known_at.ensures _ _ _ _ _ _ c.owner-1.given.1
-    c.says-1.given.1 in (
+    let at_p = connection_at a.file.now (length a.file.now / 24) a.p _ c.known_at.ensures _ _ _ _ _ _ c.in-Taken.is
+    c.in-Connection.is in (
       c.requires.index.0.readable,
       connection_within a.file.now _ (passed_before a.file.now c.requires.passed_before) a.p c.requires.index.1 _ _ _ _ _ at_p
           _ _ refl c.child_of-goal.ensures _ _ _ c.targets_from-count.ensures c.requires.index.2,
@@ -49,8 +64,8 @@ shape_of-targets c = listed_length _ _ _ _ c.targets_from-count.ensures
 pub returns : goal.returns
 returns c =
     let a = c.args in
-    let at_p = connection_at a.file.now (length a.file.now / 24) a.p _ c.known_at.ensures _ _ _ _ _ _ c.owner-1.given.1
-    c.says-1.given.1 in
+    let at_p = connection_at a.file.now (length a.file.now / 24) a.p _ c.known_at.ensures _ _ _ _ _ _ c.in-Taken.is
+    c.in-Connection.is in
     let read = connection_read a.file.now _ (passed_before a.file.now c.requires.passed_before) a.p c.requires.index.1 _ _ _ _ _ at_p
     _ _ refl c.child_of-goal.ensures _ _ _ c.targets_from-count.ensures c.requires.index.2 in (
       fails15_connection a.file.now a.p _ _ _ _ _ at_p _ _ _ _ _ _ _ read refl c.child_of-start.ensures

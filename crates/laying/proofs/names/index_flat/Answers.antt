@@ -1,7 +1,6 @@
 -- `index_flat`: the words of the components passed so far are their flat indexes, and the count is the next one's, also past the records.
 -- Assumes nothing.
 use mathlib.Core.Path.{◌≡◌, sym, ◌∙◌}
-use mathlib.Core.Logic.{⊎_elim}
 use Prim.Native.Nat.{ℕ, ◌-◌, ◌≤◌, ◌<◌}
 use native.Mathlib.Omega.{arith}
 use lib.ListN.{length, get_or, length-set}
@@ -30,15 +29,15 @@ loop-c-preserved c =
       | then-is_primitive_at w ↦ (
         omega arith,
         simp length-set l.invariant.1,
-        w.1 ∙ flat_next (record_at file) (record_count file) l.c
-            l.count (e ∙ w.0.taken) l.invariant.2,
+        w.count-is ∙ flat_next (record_at file) (record_count file) l.c
+            l.count (e ∙ w.if-is_primitive_at.true) l.invariant.2,
         words,
       )
       | else-is_primitive_at w ↦ (
         omega arith,
         simp length-set l.invariant.1,
-        w.1 ∙ flat_same (record_at file) (record_count file) l.c
-            l.count (e ∙ w.0.left) l.invariant.2,
+        w.count-is ∙ flat_same (record_at file) (record_count file) l.c
+            l.count (e ∙ w.if-is_primitive_at.false) l.invariant.2,
         words,
       )
     ]

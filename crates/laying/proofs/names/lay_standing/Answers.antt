@@ -49,5 +49,6 @@ shape_of-standing c = laid_length _ _ _ _ _ c.loop-p.invariant.2
 pub returns : goal.returns
 returns c =
     let l = c.loop-p in
-    standing_end c.args.file.now c.requires.0 c.args.standing.now c.requires.1 l.p l.standing l.stood
-    l.invariant.1 l.invariant.2 (omega arith)
+    let e = standing_end c.args.file.now c.requires.0 c.args.standing.now c.requires.1 l.p l.standing l.stood
+    l.invariant.1 l.invariant.2 (omega arith) in
+    record { standing_after = e.0; value = e.1 }

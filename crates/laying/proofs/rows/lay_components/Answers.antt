@@ -52,6 +52,7 @@ shape_of-components c = laid_length _ _ _ _ _ c.loop-p.invariant.2
 pub returns : goal.returns
 returns c =
     let l = c.loop-p in
-    rows_end c.args.file.now c.requires.0 c.args.components.now c.requires.1 l.p l.components l.before
+    let e = rows_end c.args.file.now c.requires.0 c.args.components.now c.requires.1 l.p l.components l.before
     l.invariant.1 l.invariant.2
-    (omega arith)
+    (omega arith) in
+    record { components_after = e.0; value = e.1 }

@@ -1,7 +1,15 @@
 -- `connect`: a connection's wires lead from its source to its targets; any other record has none.
 -- Assumes nothing.
-use mathlib.Core.Path.{refl, ◌∙◌}
-use Prim.Native.Nat.{◌/◌}
+use mathlib.Core.Path.{◌≡◌, refl, ◌∙◌}
+use mathlib.Core.Logic.{inl, inr}
+use mathlib.Core.List.{[], ◌∷◌}
+use Prim.Native.Nat.{ℕ, ◌/◌}
+use types.Run.{OneOf}
+use denote.Enum.Declared.{tag_of}
+use Rattle.component.specs.declared.ChildNo.{ChildNo}
+use Rattle.component.specs.declared.Says.{Says}
+use Rattle.component.specs.declared.Says.TheVariants.{Component, Connection, InputMap, OutputMap}
+use Rattle.component.specs.contracts.Says.{the_type}
 use native.Mathlib.Omega.{arith}
 use lib.ListN.{length}
 use borrow.Author.Rules.{rules}
@@ -12,11 +20,19 @@ use Rattle.flatten.proofs.ConnectionLaws.{connection_room, connection_within}
 use Rattle.laying.proofs.WiresLaws.{connect_refused, connect_other, source_number, targets_small, connect_room, connect_written}
 use Rattle.laying.proofs.wires.connect.Goals as goal
 
+-- What is no Connection is one of the other three.
+other : (x : Says) → ((f : ChildNo) (o : ℕ) (t : ChildNo) (i : ℕ) → x ≡ Connection f o t i → ⊥) → OneOf (0 ∷ 2 ∷ 3 ∷ []) (tag_of the_type x)
+other (Component i f) h = inl refl
+other (Connection f o t i) h = absurd (h f o t i refl)
+other (InputMap p t i) h = inr (inl refl)
+other (OutputMap f o) h = inr (inr refl)
+
 pub returns-in_default : goal.returns-in_default
 returns-in_default c = record { written = search (connect_refused); targets_len = search rules }
 
 pub returns-in_default-says : goal.returns-in_default-says
-returns-in_default-says c = record { written = search (connect_other); targets_len = search rules }
+returns-in_default-says c =
+    let o = other c.in-Taken.says c.in_default-says.not-Connection in record { written = search (connect_other); targets_len = search rules }
 
 pub flat_pin-flat-requires : goal.flat_pin-flat-requires
 flat_pin-flat-requires c =
@@ -43,8 +59,8 @@ targets_from-count-requires c =
 pub lay_leads-requires : goal.lay_leads-requires
 lay_leads-requires c =
     let a = c.args in
-    let at_p = connection_at a.file.now (length a.file.now / 24) a.p _ c.known_at.ensures _ _ _ _ _ _ c.owner-1.given.1
-    c.says-1.given.1 in record {
+    let at_p = connection_at a.file.now (length a.file.now / 24) a.p _ c.known_at.ensures _ _ _ _ _ _ c.in-Taken.is
+    c.in-Connection.is in record {
       indexes_len = (
         c.requires.ready.0.indexes.size,
         c.flat_pin-flat.ensures.1,
@@ -66,8 +82,8 @@ shape_of-targets c = listed_length _ _ _ _ c.targets_from-count.ensures
 pub returns : goal.returns
 returns c =
     let a = c.args in
-    let at_p = connection_at a.file.now (length a.file.now / 24) a.p _ c.known_at.ensures _ _ _ _ _ _ c.owner-1.given.1
-    c.says-1.given.1 in record {
+    let at_p = connection_at a.file.now (length a.file.now / 24) a.p _ c.known_at.ensures _ _ _ _ _ _ c.in-Taken.is
+    c.in-Connection.is in record {
       written = connect_written a.file.now _ _ c.requires.ready.0 a.p c.requires.p_bound.0 _ _ _ _ _ at_p _ _ _ refl c.child_of-start.ensures
           c.source_from-source.ensures _ _ refl c.child_of-goal.ensures _ _ _ c.targets_from-count.ensures c.requires.ready.1
           _ c.flat_pin-flat.ensures.0 _ _ _ _ c.lay_leads.ensures;
