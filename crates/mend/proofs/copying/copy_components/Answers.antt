@@ -33,17 +33,17 @@ loop-p-preserved c =
     let T = is_component (loose_at f) in
     let byte = component_byte f l.p (omega arith) in
     elim c.if-file-p-eq1.branch [
-      | then-file-p-eq1 w ↦ rw (w.5, w.6) (
+      | then-file-p-eq1 w ↦ rw (w.buffer-is, w.at-is) (
         omega arith,
         omega arith,
         pick_here T (component_part f) 24 (record_count f) (plain_length f) c.args.buffer.now l.p l.buffer l.at l.invariant.2 (omega arith) _
-            (byte ∙ eq-eqb _ 1 w.0.taken) w.2.ensures,
+            (byte ∙ eq-eqb _ 1 w.if-file-p-eq1.true) w.copy_component.ensures,
       )
-      | else-file-p-eq1 w ↦ rw (w.1, w.2) (
+      | else-file-p-eq1 w ↦ rw (w.buffer-is, w.at-is) (
         omega arith,
         omega arith,
         pick_not T (component_part f) 24 (record_count f) (plain_length f) c.args.buffer.now l.p l.buffer l.at l.invariant.2 (omega arith)
-            (byte ∙ ne_eqb _ 1 w.0.left),
+            (byte ∙ ne_eqb _ 1 w.if-file-p-eq1.false),
       )
     ]
 

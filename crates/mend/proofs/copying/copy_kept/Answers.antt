@@ -29,17 +29,17 @@ loop-p-preserved c =
     let f = c.args.file.now in
     let below : l.p < record_count f = omega arith in
     elim c.if-kept-p-ne0.branch [
-      | then-kept-p-ne0 w ↦ rw (w.5, w.6) (
+      | then-kept-p-ne0 w ↦ rw (w.buffer-is, w.at-is) (
         omega arith,
         omega arith,
         pick_here (stays f) (part_at f) 24 (record_count f) (part_length f) c.args.buffer.now l.p l.buffer l.at l.invariant.2 below _
-            (marked_stays f c.args.kept.now l.p c.requires.0 below w.0.taken) w.2.ensures,
+            (marked_stays f c.args.kept.now l.p c.requires.0 below w.if-kept-p-ne0.true) w.copy_record.ensures,
       )
-      | else-kept-p-ne0 w ↦ rw (w.1, w.2) (
+      | else-kept-p-ne0 w ↦ rw (w.buffer-is, w.at-is) (
         omega arith,
         omega arith,
         pick_not (stays f) (part_at f) 24 (record_count f) (part_length f) c.args.buffer.now l.p l.buffer l.at l.invariant.2 below
-            (unmarked_goes f c.args.kept.now l.p c.requires.0 below w.0.left),
+            (unmarked_goes f c.args.kept.now l.p c.requires.0 below w.if-kept-p-ne0.false),
       )
     ]
 

@@ -22,18 +22,18 @@ loop-p-preserved c =
     let f = c.args.file.now in
     let below : l.p < record_count f = omega arith in
     elim c.if-kept-p-eq0.branch [
-      | then-kept-p-eq0 w ↦ rw (w.1, w.2) (
+      | then-kept-p-eq0 w ↦ rw (w.list-is, w.count-is) (
         omega arith,
         omega arith,
         pick_here (goes f) (alone f) 1 (record_count f) (λ p h. refl) c.args.list.now l.p l.list l.count l.invariant.2 below _
-            (unmarked_so f c.args.kept.now l.p c.requires.0 below w.0.taken) refl,
+            (unmarked_so f c.args.kept.now l.p c.requires.0 below w.if-kept-p-eq0.true) refl,
         length-set l.list l.count _ ∙ l.invariant.3,
       )
-      | else-kept-p-eq0 w ↦ rw (w.1, w.2) (
+      | else-kept-p-eq0 w ↦ rw (w.list-is, w.count-is) (
         omega arith,
         omega arith,
         pick_not (goes f) (alone f) 1 (record_count f) (λ p h. refl) c.args.list.now l.p l.list l.count l.invariant.2 below
-            (marked_not f c.args.kept.now l.p c.requires.0 below w.0.left),
+            (marked_not f c.args.kept.now l.p c.requires.0 below w.if-kept-p-eq0.false),
         l.invariant.3,
       )
     ]

@@ -43,7 +43,7 @@ loop-p-preserved c =
     let l = c.loop-p in
     let r = c.is_kept-stays in (
       omega arith,
-      sifted_step c.args.file.now l.auto l.p (bool_byte r.result) l.invariant.1 (omega arith) (byte_says r.result ∙ r.ensures.value),
+      sifted_step c.args.file.now l.kept l.p (bool_byte r.result) l.invariant.1 (omega arith) (byte_says r.result ∙ r.ensures.value),
       r.ensures.marked,
     )
 
@@ -53,4 +53,4 @@ shape_of-kept c = c.loop-p.invariant.1.size ∙ sym c.requires.2
 pub returns : goal.returns
 returns c =
     let l = c.loop-p in
-    subst (λ (k : ℕ). IsSifted c.args.file.now k l.auto) (omega arith) l.invariant.1
+    subst (λ (k : ℕ). IsSifted c.args.file.now k l.kept) (omega arith) l.invariant.1
