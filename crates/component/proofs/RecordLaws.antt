@@ -23,6 +23,7 @@ use Rattle.component.specs.Reading.{given, Readable}
 use Rattle.component.specs.Record.{is_primitive}
 use Rattle.component.specs.declared.Record.{Record}
 use Rattle.kinds.specs.declared.Id.{Id}
+use Rattle.component.specs.declared.ChildNo.{ChildNo}
 use Rattle.component.specs.declared.Says.{Says}
 use Rattle.component.specs.declared.Says.TheVariants.{Component, Connection, InputMap, OutputMap}
 use Rattle.component.specs.declared.Reading.{Reading}
@@ -71,6 +72,19 @@ module _ (x : Says) where
 
   pub no_output_map : OneOf (0 ∷ 1 ∷ 2 ∷ []) (tag_of the_type x) → form_by x ≡ 4 → ⊥
   no_output_map h = not_among x 0 1 2 4 h (λ z. omega arith) (λ z. omega arith) (λ z. omega arith)
+
+-- What is no component, and what is no output map, is one of the other three.
+pub but_component : (x : Says) → ((i : Id) (f : Fields) → x ≡ Component i f → ⊥) → OneOf (1 ∷ 2 ∷ 3 ∷ []) (tag_of the_type x)
+but_component (Component i f) h = absurd (h i f refl)
+but_component (Connection a b c d) h = inl refl
+but_component (InputMap a c d) h = inr (inl refl)
+but_component (OutputMap a b) h = inr (inr refl)
+
+pub but_output_map : (x : Says) → ((a : ChildNo) (b : ℕ) → x ≡ OutputMap a b → ⊥) → OneOf (0 ∷ 1 ∷ 2 ∷ []) (tag_of the_type x)
+but_output_map (Component i f) h = inl refl
+but_output_map (Connection a b c d) h = inr (inl refl)
+but_output_map (InputMap a c d) h = inr (inr refl)
+but_output_map (OutputMap a b) h = absurd (h a b refl)
 
 -- What reading answers: a refusal; a record taken apart.
 module _ (t : Record) (r : Reading) (e : said r ≡ t) where

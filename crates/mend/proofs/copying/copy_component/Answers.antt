@@ -7,7 +7,6 @@ use lib.Seq.{length-sets}
 use Rattle.component.specs.Record.{part_at}
 use Rattle.component.proofs.LooseLaws.{part_length}
 use Rattle.mend.proofs.CopyLaws.{copy_plain}
-use borrow.Author.Rules.{rules}
 use Rattle.mend.proofs.copying.copy_component.Goals as goal
 
 pub bounds-buffer-at-2 : goal.bounds-buffer-at-2

@@ -1,14 +1,9 @@
 -- `copy_kept`: the kept records passed so far are copied.
 -- Assumes nothing.
-use mathlib.Core.Logic.{⊎_elim}
-use Prim.Native.Nat.{◌-◌, ◌*◌, ◌≤◌, ◌<◌}
-use native.Mathlib.Omega.{arith}
-use Rattle.lists.proofs.LayingLaws.{Laid, laid_start, laid_length}
-use Rattle.component.specs.Record.{record_count, part_at}
-use Rattle.component.proofs.LooseLaws.{part_length}
-use Rattle.mend.proofs.CopyLaws.{pick_room, pick_here, pick_not}
-use Rattle.mend.proofs.CopiesLaws.{stays, lays_kept, kept_laid, marked_stays, unmarked_goes}
-use borrow.Author.Rules.{rules}
+use Prim.Native.Nat.{◌-◌, ◌*◌, ◌≤◌}
+use Rattle.lists.proofs.LayingLaws.{Laid}
+use Rattle.component.specs.Record.{record_count}
+use Rattle.mend.proofs.CopiesLaws.{lays_kept}
 use Rattle.mend.proofs.copying.copy_kept.Given as goal
 
 abbrev pub invariant-loop-p : goal.invariant-loop-p

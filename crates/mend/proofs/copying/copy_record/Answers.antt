@@ -1,15 +1,13 @@
 -- `copy_record`: the bytes passed so far are copied.
 -- Assumes nothing.
-use mathlib.Core.Path.{◌≡◌, refl, sym, ◌∙◌}
-use Prim.Native.Nat.{◌+◌, ◌-◌, ◌*◌, ◌≤◌}
+use mathlib.Core.Path.{refl, sym, ◌∙◌}
+use Prim.Native.Nat.{◌+◌}
 use native.Mathlib.Omega.{arith}
-use lib.ListN.{length, take, length-set}
-use lib.Seq.{sets}
+use lib.ListN.{length-set}
 use Rattle.component.specs.Record.{part_at}
 use Rattle.component.proofs.RecordLaws.{part_at_lem}
 use Rattle.component.proofs.LooseLaws.{part_length}
 use Rattle.mend.proofs.CopyLaws.{copy_step, copy_whole}
-use borrow.Author.Rules.{rules}
 use Rattle.mend.proofs.copying.copy_record.Goals as goal
 
 pub loop-i-init : goal.loop-i-init

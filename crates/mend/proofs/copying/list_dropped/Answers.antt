@@ -1,15 +1,13 @@
 -- `list_dropped`: the dropped positions passed so far are listed; a part record's is behind them.
 -- Assumes nothing.
-use Prim.Native.Nat.{◌-◌, ◌≤◌, ◌<◌}
-use mathlib.Core.Path.{◌≡◌, refl, ◌∙◌}
-use mathlib.Core.Logic.{⊎_elim}
+use Prim.Native.Nat.{◌<◌}
+use mathlib.Core.Path.{refl, ◌∙◌}
 use native.Mathlib.Omega.{arith}
-use lib.ListN.{length, length-set}
-use Rattle.lists.proofs.LayingLaws.{Laid, laid_start}
+use lib.ListN.{length-set}
+use Rattle.lists.proofs.LayingLaws.{laid_start}
 use Rattle.component.specs.Record.{record_count}
 use Rattle.mend.proofs.CopyLaws.{pick_here, pick_not}
-use Rattle.mend.proofs.CopiesLaws.{goes, alone, lists, dropped_laid, dropped_part, marked_not, unmarked_so}
-use borrow.Author.Rules.{rules}
+use Rattle.mend.proofs.CopiesLaws.{goes, alone, dropped_laid, dropped_part, marked_not, unmarked_so}
 use Rattle.mend.proofs.copying.list_dropped.Goals as goal
 use Rattle.mend.proofs.copying.list_dropped.Goals.{else-kept-p-eq0, then-kept-p-eq0}
 

@@ -1,17 +1,16 @@
 -- `entered_before`: the guess, or the invariant: whether one of the records to come does is the answer.
 -- Assumes nothing.
-use mathlib.Core.Path.{◌≡◌, refl, sym, ◌∙◌}
+use mathlib.Core.Path.{refl, sym, ◌∙◌}
 use mathlib.Core.Bool.{Bool, ◌&&◌}
-use Prim.Native.Nat.{ℕ, ◌-◌}
+use Prim.Native.Nat.{ℕ}
 use native.Mathlib.Nat.{sub-zero}
 use native.Mathlib.Omega.{arith}
-use Rattle.lists.specs.Lists.{from, any}
+use Rattle.lists.specs.Lists.{from}
 use Rattle.lists.proofs.ListsLaws.{any_here, any_next, any_none}
 use Rattle.lists.proofs.MembersLaws.{any_some, from0_complete}
 use Rattle.component.specs.Record.{loose_at}
 use Rattle.component.specs.Reading.{enters}
 use Rattle.mend.specs.Sifting.{marked_kept}
-use borrow.Author.Rules.{rules}
 use Rattle.mend.proofs.sifting.entered_before.Goals as goal
 
 pub returns-then-kept_enters : goal.returns-then-kept_enters

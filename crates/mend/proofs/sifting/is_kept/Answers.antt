@@ -1,11 +1,10 @@
 -- `is_kept`: by what the record enters, whether check 12 refuses it, and whether its mark is set.
 -- Assumes nothing.
 use mathlib.Core.Path.{sym, subst, ◌∙◌}
-use mathlib.Core.Logic.{inl, inr, ⊎_elim}
+use mathlib.Core.Logic.{inl, inr}
 use native.Mathlib.Omega.{arith}
 use Rattle.checks.specs.Checks.{EntryAs}
 use Rattle.mend.proofs.SiftLaws.{refused_is, enters_here, is_other, is_refused, is_entered, is_new}
-use borrow.Author.Rules.{rules}
 use Rattle.mend.proofs.sifting.is_kept.Goals as goal
 use Rattle.mend.proofs.sifting.is_kept.Goals.{else-mark-ne0, then-mark-ne0+else-entered_before}
 

@@ -1,7 +1,6 @@
 -- `is_missing`: what the record says names the ports that must exist.
 -- Assumes nothing.
 use Rattle.checks.proofs.ChecksLaws.{missing_component, missing_connection, missing_input_map, missing_output_map}
-use borrow.Author.Rules.{rules}
 use Rattle.mend.proofs.sifting.is_missing.Goals as goal
 
 pub returns-in-Component : goal.returns-in-Component

@@ -3,7 +3,6 @@
 use mathlib.Core.Path.{subst}
 use Rattle.checks.specs.Checks.{EntryAs}
 use Rattle.mend.proofs.SiftLaws.{kept_none, kept_is}
-use borrow.Author.Rules.{rules}
 use Rattle.mend.proofs.sifting.kept_enters.Goals as goal
 
 pub returns-in_default : goal.returns-in_default

@@ -1,7 +1,6 @@
 -- `mark_at`: the word of the table.
 -- Assumes nothing.
 use native.Mathlib.Omega.{arith}
-use borrow.Author.Rules.{rules}
 use Rattle.mend.proofs.sifting.mark_at.Goals as goal
 
 pub overflow_cast-result : goal.overflow_cast-result

@@ -1,7 +1,6 @@
 -- `refuses12`: of a record taken apart, whether its owner is no composite or what it names is missing.
 -- Assumes nothing.
 use Rattle.mend.proofs.SiftLaws.{refuses_none, refuses_is}
-use borrow.Author.Rules.{rules}
 use Rattle.mend.proofs.sifting.refuses12.Goals as goal
 
 pub returns-in_default : goal.returns-in_default

@@ -3,18 +3,16 @@
 use mathlib.Core.Path.{◌≡◌, refl, sym, subst, ◌∙◌}
 use mathlib.Core.Bool.{Bool, true, false, not}
 use mathlib.Core.List.{List}
-use Prim.Native.Nat.{ℕ, ◌-◌, ◌≤◌}
+use Prim.Native.Nat.{ℕ, ◌≤◌}
 use native.Mathlib.Omega.{arith}
 use mir.Val.{bool_byte}
 use lib.Dec.{eqb}
-use Rattle.lists.specs.Marks.{IsMarked}
 use Rattle.lists.proofs.KeysLaws.{marks_start}
 use Rattle.component.specs.Record.{record_count}
 use Rattle.component.specs.Reading.{Readable}
-use Rattle.mend.specs.Sifting.{IsSifted, kept_entry, kept_mark}
+use Rattle.mend.specs.Sifting.{IsSifted}
 use Rattle.mend.proofs.PartsLaws.{parts_readable, parts_few}
 use Rattle.mend.proofs.SiftLaws.{sifted_start, sifted_step}
-use borrow.Author.Rules.{rules}
 use Rattle.mend.proofs.sifting.sift.Goals as goal
 
 byte_says : (b : Bool) → not (eqb (bool_byte b) 0) ≡ b

@@ -1,20 +1,9 @@
 -- `sift`: the records passed so far are sifted, and what the kept ones enter is marked.
 -- Assumes nothing.
-use mathlib.Core.Path.{◌≡◌, refl, sym, subst, ◌∙◌}
-use mathlib.Core.Bool.{Bool, true, false, not}
-use mathlib.Core.List.{List}
-use Prim.Native.Nat.{ℕ, ◌-◌, ◌≤◌}
-use native.Mathlib.Omega.{arith}
-use mir.Val.{bool_byte}
-use lib.Dec.{eqb}
+use Prim.Native.Nat.{◌-◌, ◌≤◌}
 use Rattle.lists.specs.Marks.{IsMarked}
-use Rattle.lists.proofs.KeysLaws.{marks_start}
 use Rattle.component.specs.Record.{record_count}
-use Rattle.component.specs.Reading.{Readable}
 use Rattle.mend.specs.Sifting.{IsSifted, kept_entry, kept_mark}
-use Rattle.mend.proofs.PartsLaws.{parts_readable, parts_few}
-use Rattle.mend.proofs.SiftLaws.{sifted_start, sifted_step}
-use borrow.Author.Rules.{rules}
 use Rattle.mend.proofs.sifting.sift.Given as goal
 
 abbrev pub invariant-loop-p : goal.invariant-loop-p
