@@ -1,7 +1,6 @@
 -- `against`: by the verdict, and by its number.
 -- Assumes nothing.
 use Rattle.meeting.proofs.MeetingLaws.{against_other, against_met}
-use borrow.Author.Rules.{rules}
 use Rattle.meeting.proofs.against.Goals as goal
 
 pub returns-then-refusal-ne13 : goal.returns-then-refusal-ne13

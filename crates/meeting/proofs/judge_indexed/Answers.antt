@@ -3,7 +3,6 @@
 use Rattle.component.specs.Record.{record_at}
 use mathlib.Core.Path.{sym, ◌∙◌}
 use Rattle.meeting.proofs.MeetingLaws.{judgement_judges, against_accepted}
-use borrow.Author.Rules.{rules}
 use Rattle.meeting.proofs.judge_indexed.Goals as goal
 
 pub returns : goal.returns

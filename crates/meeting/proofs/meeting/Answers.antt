@@ -4,7 +4,6 @@ use native.Mathlib.Omega.{arith}
 use Rattle.component.specs.Record.{record_at}
 use Rattle.checks.proofs.ChecksLaws.{earlier_most}
 use Rattle.meeting.proofs.MeetingLaws.{meeting_is}
-use borrow.Author.Rules.{rules}
 use Rattle.meeting.proofs.meeting.Goals as goal
 
 pub overflow_cast-result : goal.overflow_cast-result

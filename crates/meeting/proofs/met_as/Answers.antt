@@ -1,7 +1,6 @@
 -- `met_as`: by the kinds of both records.
 -- Assumes nothing.
 use Rattle.meeting.proofs.MeetingLaws.{met_connections, met_maps, met_both}
-use borrow.Author.Rules.{rules}
 use Rattle.meeting.proofs.met_as.Goals as goal
 
 pub returns-then-earlier-later : goal.returns-then-earlier-later

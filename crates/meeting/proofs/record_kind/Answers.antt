@@ -1,7 +1,6 @@
 -- `record_kind`: by what the record says.
 -- Assumes nothing.
 use Rattle.meeting.proofs.MeetingLaws.{kind_refused, kind_component, kind_connection, kind_input_map, kind_output_map}
-use borrow.Author.Rules.{rules}
 use Rattle.meeting.proofs.record_kind.Goals as goal
 
 pub returns-in_default : goal.returns-in_default

@@ -9,7 +9,6 @@ use Rattle.mend.specs.Mend.{mended}
 use Rattle.mend.specs.Sifting.{parts_of}
 use Rattle.mend.proofs.CopiesLaws.{parts_most, mended_most}
 use Rattle.mend.proofs.MendLaws.{front}
-use borrow.Author.Rules.{rules}
 use Rattle.mend.proofs.mending.judge_mended.Goals as goal
 
 pub slice_bounds-sift-end : goal.slice_bounds-sift-end

@@ -3,7 +3,6 @@
 use mathlib.Core.Path.{refl}
 use native.Mathlib.Omega.{arith}
 use Rattle.mend.proofs.MendLaws.{mends_size, few, mends_short, fits_out, fits_list, mends_refused, mends_done}
-use borrow.Author.Rules.{rules}
 use Rattle.mend.proofs.mending.mend.Goals as goal
 
 pub returns-then-n : goal.returns-then-n
