@@ -9,7 +9,7 @@ use Rattle.flatten.proofs.Accepted.{accepted_passed}
 use Rattle.flatten.proofs.DescentLaws.{connection_at}
 use Rattle.flatten.proofs.TargetsLaws.{listed_length}
 use Rattle.flatten.proofs.ConnectionLaws.{connection_room, connection_within}
-use Rattle.slow.proofs.LeadingLaws.{enters_refused, enters_other, entered_small, enters_here}
+use Rattle.slow.proofs.LeadingLaws.{but_connection, enters_refused, enters_other, entered_small, enters_here}
 use borrow.Author.Rules.{rules}
 use Rattle.slow.proofs.entering.enters.Goals as goal
 
@@ -23,7 +23,7 @@ returns-in_default c = (
 pub returns-in_default-says : goal.returns-in_default-says
 returns-in_default-says c = (
   enters_other c.args.file.now (record_count c.args.file.now) c.args.i c.args.p _ _ _ c.known_at.ensures
-      c.in-Taken.is c.in_default-says.in_default-says-own.keys2,
+      c.in-Taken.is (but_connection _ c.in_default-says.not-Connection),
   c.requires.2,
 )
 
@@ -38,7 +38,7 @@ targets_from-count-requires c =
 pub any_into-requires : goal.any_into-requires
 any_into-requires c =
     let e = connection_at c.args.file.now (length c.args.file.now / 24) c.args.p _ c.known_at.ensures _ _ _ _ _ _
-    c.owner-1.given.1 c.says-1.given.1 in
+    c.in-Taken.is c.in-Connection.is in
     let t = c.targets_from-count in (
       c.requires.0.indexes.size,
       connection_within c.args.file.now _ (accepted_passed c.args.file.now c.requires.0.accepted) c.args.p c.requires.1 _ _ _ _ _ e
@@ -53,7 +53,7 @@ shape_of-targets c = listed_length _ _ _ _ c.targets_from-count.ensures
 pub returns : goal.returns
 returns c =
     let e = connection_at c.args.file.now (length c.args.file.now / 24) c.args.p _ c.known_at.ensures _ _ _ _ _ _
-    c.owner-1.given.1 c.says-1.given.1 in
+    c.in-Taken.is c.in-Connection.is in
     let t = c.targets_from-count in (
       c.any_into.ensures
           ∙ enters_here c.args.file.now _ _ c.requires.0 c.args.p c.requires.1 _ _ _ _ _ e _ _ refl c.child_of-goal.ensures _ _ _

@@ -16,26 +16,13 @@ use Rattle.rounds.specs.Round.{State, send}
 use Rattle.rounds.specs.Steps.{state_at}
 use Rattle.slow.specs.Sending.{bare}
 use Rattle.slow.proofs.DrawingLaws.{leaving_reach}
-use Rattle.slow.proofs.LeadingLaws.{leaves_refused, leaves_other, leaves_elsewhere, leaves_here, here_member}
+use Rattle.slow.proofs.LeadingLaws.{but_connection, leaves_refused, leaves_other, leaves_elsewhere, leaves_here, here_member}
 use borrow.Author.Rules.{rules}
 use Rattle.slow.proofs.leading.send_connection.Goals as goal
-use Rattle.slow.proofs.leading.send_connection.Lts as lts
-use Rattle.slow.proofs.leading.send_connection.Tie as tie
-use Rattle.slow.proofs.leading.send_connection.Reads as reads
-
-abbrev Start : Type 0
-Start = lts.Start tie.the-claims reads.Pre reads.Post
-
--- The components, and the state that came in.
-abbrev T : Start → Tables
-T s = bare s.args.components.now
-
-abbrev came : Start → State
-came s = state_at s.args.inputs.now s.args.outputs.now (take s.args.filled s.args.following.now) []
 
 pub returns-in_default : goal.returns-in_default
 returns-in_default c = (
-  ap (foldl (send (T c.before.before.before.before.before.before.before.before.before.before.before)) (came c.before.before.before.before.before.before.before.before.before.before.before))
+  ap (foldl (send (bare c.args.components.now)) (state_at c.args.inputs.now c.args.outputs.now (take c.args.filled c.args.following.now) []))
       (leaves_refused c.args.file.now (record_count c.args.file.now) c.args.i c.args.p _ c.known_at.ensures
       c.in_default.is),
   c.requires.list_marked,
@@ -44,9 +31,9 @@ returns-in_default c = (
 
 pub returns-in_default-says : goal.returns-in_default-says
 returns-in_default-says c = (
-  ap (foldl (send (T c.before.before.before.before.before.before.before.before.before.before.before.before)) (came c.before.before.before.before.before.before.before.before.before.before.before.before))
+  ap (foldl (send (bare c.args.components.now)) (state_at c.args.inputs.now c.args.outputs.now (take c.args.filled c.args.following.now) []))
       (leaves_other c.args.file.now (record_count c.args.file.now) c.args.i c.args.p _ _ _ c.known_at.ensures
-      c.in-Taken.is c.in_default-says.in_default-says-own.keys2),
+      c.in-Taken.is (but_connection _ c.in_default-says.not-Connection)),
   c.requires.list_marked,
   c.requires.drawing.2,
 )
@@ -61,7 +48,7 @@ flat_pin-end-requires c =
 
 pub returns-then-end-i : goal.returns-then-end-i
 returns-then-end-i c = (
-  ap (foldl (send (T c.before.before.before.before.before.before.before.before.before.before.before.before.before.before.before.before.before)) (came c.before.before.before.before.before.before.before.before.before.before.before.before.before.before.before.before.before))
+  ap (foldl (send (bare c.args.components.now)) (state_at c.args.inputs.now c.args.outputs.now (take c.args.filled c.args.following.now) []))
       (leaves_elsewhere c.args.file.now _ _ c.requires.drawing.0.ready c.args.p c.requires.drawing.1 _ _ _ _ _ (connection_at c.args.file.now (length c.args.file.now / 24) c.args.p _ c.known_at.ensures _ _ _ _ _ _ c.in-Taken.is c.in-Connection.is) _ _ _ refl
       c.child_of-start.ensures c.source_from-source.ensures _ c.flat_pin-end.ensures.0 c.args.i c.if-end-i.true),
   c.requires.list_marked,
@@ -81,7 +68,7 @@ targets_from-count-requires c =
 pub send_to-requires : goal.send_to-requires
 send_to-requires c =
     let r = c.requires.drawing.0.ready in
-    let e = (connection_at c.args.file.now (length c.args.file.now / 24) c.args.p _ c.known_at.ensures _ _ _ _ _ _ c.owner-1.given.1 c.says-1.given.1) in
+    let e = (connection_at c.args.file.now (length c.args.file.now / 24) c.args.p _ c.known_at.ensures _ _ _ _ _ _ c.in-Taken.is c.in-Connection.is) in
     let t = c.targets_from-count in record {
       indexes_len = (
         r.indexes.size,
@@ -107,8 +94,8 @@ returns c =
     let r = c.requires.drawing.0.ready in
     let t = c.targets_from-count in (
       c.send_to.ensures.0
-          ∙ ap (foldl (send (T c.before.before.before.before.before.before.before.before.before.before.before.before.before.before.before.before.before.before.before.before.before.before.before.before.before.before.before.before.before.before)) (came c.before.before.before.before.before.before.before.before.before.before.before.before.before.before.before.before.before.before.before.before.before.before.before.before.before.before.before.before.before.before))
-          (leaves_here c.args.file.now _ _ r c.args.p c.requires.drawing.1 _ _ _ _ _ (connection_at c.args.file.now (length c.args.file.now / 24) c.args.p _ c.known_at.ensures _ _ _ _ _ _ c.owner-1.given.1 c.says-1.given.1) _ _ _ refl c.child_of-start.ensures
+          ∙ ap (foldl (send (bare c.args.components.now)) (state_at c.args.inputs.now c.args.outputs.now (take c.args.filled c.args.following.now) []))
+          (leaves_here c.args.file.now _ _ r c.args.p c.requires.drawing.1 _ _ _ _ _ (connection_at c.args.file.now (length c.args.file.now / 24) c.args.p _ c.known_at.ensures _ _ _ _ _ _ c.in-Taken.is c.in-Connection.is) _ _ _ refl c.child_of-start.ensures
           c.source_from-source.ensures _ c.flat_pin-end.ensures.0 c.args.i _ _ refl c.child_of-goal.ensures _ _ _
           t.ensures c.requires.drawing.2 c.if-end-i.false),
       c.send_to.ensures.1,

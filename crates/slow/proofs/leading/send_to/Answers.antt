@@ -16,27 +16,6 @@ use Rattle.slow.specs.Sending.{lead_to, bare}
 use Rattle.slow.proofs.LeadingLaws.{sends_start, sends_next, sends_end, reach_kept}
 use borrow.Author.Rules.{rules}
 use Rattle.slow.proofs.leading.send_to.Goals as goal
-use Rattle.slow.proofs.leading.send_to.Lts as lts
-use Rattle.slow.proofs.leading.send_to.Tie as tie
-use Rattle.slow.proofs.leading.send_to.Reads as reads
-
-abbrev Start : Type 0
-Start = lts.Start tie.the-claims reads.Pre reads.Post goal.the-invariant-loop-k goal.the-decreases-loop-k
-
-abbrev AfterFlatPinTo : Type 0
-AfterFlatPinTo = lts.After-flat_pin tie.the-claims reads.Pre reads.Post goal.the-invariant-loop-k goal.the-decreases-loop-k
-
--- The components, and no wire.
-abbrev T : Start → Tables
-T s = bare s.args.components.now
-
--- The wire at hand can be sent along.
-reach : (c : AfterFlatPinTo) →
-    CanReach (T c.before.before.before.before.before.before.before.before.before.before) c.loop-k.inputs c.args.outputs.now (record { src = c.args.from; dst = c.flat_pin-to.result })
-reach c =
-    let l = c.loop-k in
-    reach_kept (T c.before.before.before.before.before.before.before.before.before.before) c.args.inputs.now c.args.outputs.now l.inputs _
-    (rw (c.flat_pin-to.ensures.0, c.target_at.ensures) (c.requires.list_marked.1 l.k c.loop-k-test.true)) l.invariant.1
 
 pub loop-k-init : goal.loop-k-init
 loop-k-init c = (
@@ -44,7 +23,7 @@ loop-k-init c = (
   refl,
   refl,
   c.requires.list_marked.0,
-  sends_start (T c.before.before.before.before.before.before.before) (state_at c.args.inputs.now c.args.outputs.now (take c.args.filled c.args.following.now) [])
+  sends_start (bare c.args.components.now) (state_at c.args.inputs.now c.args.outputs.now (take c.args.filled c.args.following.now) [])
       c.args.indexes.now c.args.targets.now c.args.from c.args.count,
 )
 
@@ -57,8 +36,12 @@ flat_pin-to-requires c =
 
 pub send_along-reached-requires : goal.send_along-reached-requires
 send_along-reached-requires c =
-    let l = c.loop-k in (
-      reach_sends c.args.components.now [] (counts_of 256 1024 1024 0 256 256 256) l.inputs c.args.outputs.now _ (reach c.before.before.before.before)
+    let l = c.loop-k in
+    let reach : CanReach (bare c.args.components.now) l.inputs c.args.outputs.now (record { src = c.args.from; dst = c.flat_pin-to.result }) =
+    reach_kept (bare c.args.components.now) c.args.inputs.now c.args.outputs.now l.inputs _
+    (rw (c.flat_pin-to.ensures.0, c.target_at.ensures) (c.requires.list_marked.1 l.k c.loop-k-test.true)) l.invariant.1 in
+    (
+      reach_sends c.args.components.now [] (counts_of 256 1024 1024 0 256 256 256) l.inputs c.args.outputs.now _ reach
           l.reached l.following l.invariant.3.fits,
       l.invariant.3.marked,
     )
@@ -67,16 +50,20 @@ pub loop-k-preserved : goal.loop-k-preserved
 loop-k-preserved c =
     let l = c.loop-k in
     let b = c.loop-k-test.true in
-    let r = c.send_along-reached in (
+    let r = c.send_along-reached in
+    let reach : CanReach (bare c.args.components.now) l.inputs c.args.outputs.now (record { src = c.args.from; dst = c.flat_pin-to.result }) =
+    reach_kept (bare c.args.components.now) c.args.inputs.now c.args.outputs.now l.inputs _
+    (rw (c.flat_pin-to.ensures.0, c.target_at.ensures) (c.requires.list_marked.1 l.k c.loop-k-test.true)) l.invariant.1 in
+    (
       omega (arith, b),
       r.auto.inputs ∙ l.invariant.1,
       r.auto.following ∙ l.invariant.2,
       record {
-        fits = sent_listed c.args.components.now [] (counts_of 256 1024 1024 0 256 256 256) l.inputs c.args.outputs.now _ (reach c.before.before.before.before.before.before.before.before.before)
+        fits = sent_listed c.args.components.now [] (counts_of 256 1024 1024 0 256 256 256) l.inputs c.args.outputs.now _ reach
             l.reached l.following l.invariant.3.fits _ _ _ r.ensures.0 r.auto.following;
         marked = r.ensures.1;
       },
-      sends_next (T c.before.before.before.before.before.before.before.before.before.before.before.before.before.before.before.before.before.before.before) l.k c.args.count (state_at l.inputs c.args.outputs.now (take l.reached l.following) []) _
+      sends_next (bare c.args.components.now) l.k c.args.count (state_at l.inputs c.args.outputs.now (take l.reached l.following) []) _
           (λ j. lead_to c.args.indexes.now c.args.from (target_in c.args.targets.now j)) _ b
           (r.ensures.0.state ∙ send_bare c.args.components.now [] (counts_of 256 1024 1024 0 256 256 256) _ _
           ∙ rw (c.flat_pin-to.ensures.0, c.target_at.ensures) refl)
@@ -86,7 +73,7 @@ loop-k-preserved c =
 pub returns : goal.returns
 returns c =
     let l = c.loop-k in (
-      sends_end (T c.before.before.before.before.before.before.before.before.before) l.k c.args.count _ _
+      sends_end (bare c.args.components.now) l.k c.args.count _ _
           (λ j. lead_to c.args.indexes.now c.args.from (target_in c.args.targets.now j)) (omega arith) l.invariant.4,
       l.invariant.3,
     )

@@ -7,47 +7,55 @@ use Rattle.slow.proofs.PreparingLaws.{SlowSizes, slow_full-sound}
 use Rattle.slow.proofs.CallsLaws.{load_filled}
 use borrow.Author.Rules.{rules}
 use Rattle.slow.proofs.loading.fill.Goals as goal
-use Rattle.slow.proofs.loading.fill.Lts as lts
-use Rattle.slow.proofs.loading.fill.Tie as tie
-use Rattle.slow.proofs.loading.fill.Reads as reads
-
-abbrev Start : Type 0
-Start = lts.Start tie.the-claims reads.Pre reads.Post
-
--- The tables that came in, by their counts.
-abbrev S : Start → SlowCounts → SlowTables
-S s m =
-    let a = s.args in
-    slow_tables_of a.inputs.now a.outputs.now a.current.now a.following.now a.standing.now m
-
-abbrev none : SlowCounts
-none = record { inputs = 0; outputs = 0; current = 0; following = 0; standing = 0 }
-
-sizes : (s : Start) → SlowSizes (S s none)
-sizes s = slow_full-sound (S s none) (s.requires.1 none)
 
 pub zeros-requires : goal.zeros-requires
 zeros-requires c =
-    inputs_room c.args.file.now c.requires.0 c.args.inputs.now _ c.lay_components-all.ensures.value (sizes c.before.before.before.before.before.before.before.before.before.before.before).inputs
+    let a = c.args in
+    let none : SlowCounts = record { inputs = 0; outputs = 0; current = 0; following = 0; standing = 0 } in
+    let sizes = slow_full-sound (slow_tables_of a.inputs.now a.outputs.now a.current.now a.following.now a.standing.now none)
+    (c.requires.1 none) in
+    inputs_room c.args.file.now c.requires.0 c.args.inputs.now _ c.lay_components-all.ensures.value sizes.inputs
 
 pub lay_outputs-requires : goal.lay_outputs-requires
-lay_outputs-requires c = (c.requires.0, (sizes c.before.before.before.before.before.before.before.before.before.before.before.before.before.before.before).outputs)
+lay_outputs-requires c =
+    let a = c.args in
+    let none : SlowCounts = record { inputs = 0; outputs = 0; current = 0; following = 0; standing = 0 } in
+    let sizes = slow_full-sound (slow_tables_of a.inputs.now a.outputs.now a.current.now a.following.now a.standing.now none)
+    (c.requires.1 none) in
+    (c.requires.0, sizes.outputs)
 
 pub count_up-requires : goal.count_up-requires
 count_up-requires c =
-    current_room c.args.file.now c.requires.0 c.args.current.now _ c.lay_components-all.ensures.value (sizes c.before.before.before.before.before.before.before.before.before.before.before.before.before.before.before.before.before.before.before).current
+    let a = c.args in
+    let none : SlowCounts = record { inputs = 0; outputs = 0; current = 0; following = 0; standing = 0 } in
+    let sizes = slow_full-sound (slow_tables_of a.inputs.now a.outputs.now a.current.now a.following.now a.standing.now none)
+    (c.requires.1 none) in
+    current_room c.args.file.now c.requires.0 c.args.current.now _ c.lay_components-all.ensures.value sizes.current
 
 pub lay_standing-count-requires : goal.lay_standing-count-requires
-lay_standing-count-requires c = (c.requires.0, (sizes c.before.before.before.before.before.before.before.before.before.before.before.before.before.before.before.before.before.before.before.before.before.before.before).standing)
+lay_standing-count-requires c =
+    let a = c.args in
+    let none : SlowCounts = record { inputs = 0; outputs = 0; current = 0; following = 0; standing = 0 } in
+    let sizes = slow_full-sound (slow_tables_of a.inputs.now a.outputs.now a.current.now a.following.now a.standing.now none)
+    (c.requires.1 none) in
+    (c.requires.0, sizes.standing)
 
 pub copy-requires : goal.copy-requires
 copy-requires c =
+    let a = c.args in
+    let none : SlowCounts = record { inputs = 0; outputs = 0; current = 0; following = 0; standing = 0 } in
+    let sizes = slow_full-sound (slow_tables_of a.inputs.now a.outputs.now a.current.now a.following.now a.standing.now none)
+    (c.requires.1 none) in
     let l = c.lay_standing-count in
-    copy_room c.args.file.now c.requires.0 c.args.following.now _ _ _ l.ensures.0 l.ensures.1 (sizes c.before.before.before.before.before.before.before.before.before.before.before.before.before.before.before.before.before.before.before.before.before.before.before.before.before.before.before).following
+    copy_room c.args.file.now c.requires.0 c.args.following.now _ _ _ l.ensures.standing_after l.ensures.value sizes.following
 
 pub returns : goal.returns
 returns c m =
+    let a = c.args in
+    let none : SlowCounts = record { inputs = 0; outputs = 0; current = 0; following = 0; standing = 0 } in
+    let sizes = slow_full-sound (slow_tables_of a.inputs.now a.outputs.now a.current.now a.following.now a.standing.now none)
+    (c.requires.1 none) in
     let l = c.lay_standing-count in
-    load_filled c.args.file.now (S c.before.before.before.before.before.before.before.before.before.before.before.before.before.before.before.before.before.before.before.before.before.before.before.before.before.before.before.before.before.before m) c.requires.0 (sizes c.before.before.before.before.before.before.before.before.before.before.before.before.before.before.before.before.before.before.before.before.before.before.before.before.before.before.before.before.before.before).inputs (sizes c.before.before.before.before.before.before.before.before.before.before.before.before.before.before.before.before.before.before.before.before.before.before.before.before.before.before.before.before.before.before).current _ c.lay_components-all.ensures.value _ _ _ _ _
-    l.result c.zeros.ensures c.lay_outputs.ensures c.count_up.ensures l.ensures.0 l.ensures.1
+    load_filled c.args.file.now (slow_tables_of c.args.inputs.now c.args.outputs.now c.args.current.now c.args.following.now c.args.standing.now m) c.requires.0 sizes.inputs sizes.current _ c.lay_components-all.ensures.value _ _ _ _ _
+    l.result c.zeros.ensures c.lay_outputs.ensures c.count_up.ensures l.ensures.standing_after l.ensures.value
     c.copy.ensures

@@ -8,32 +8,23 @@ use Rattle.slow.proofs.PreparingLaws.{lent_long, lent_accepted}
 use Rattle.slow.proofs.CallsLaws.{load_refused, load_done}
 use borrow.Author.Rules.{rules}
 use Rattle.slow.proofs.loading.load.Goals as goal
-use Rattle.slow.proofs.loading.load.Lts as lts
-use Rattle.slow.proofs.loading.load.Tie as tie
-use Rattle.slow.proofs.loading.load.Reads as reads
-
-abbrev Start : Type 0
-Start = lts.Start tie.the-claims reads.Pre reads.Post
-
--- The tables that came in, by their counts.
-abbrev S : Start → SlowCounts → SlowTables
-S s m =
-    let a = s.args in
-    slow_tables_of a.inputs.now a.outputs.now a.current.now a.following.now a.standing.now m
 
 pub returns-in-Refused : goal.returns-in-Refused
 returns-in-Refused c m =
-    load_refused c.args.file.now (S c.before.before.before.before.before.before.before.before.before.before.before.before m) _
+    load_refused c.args.file.now (slow_tables_of c.args.inputs.now c.args.outputs.now c.args.current.now c.args.following.now c.args.standing.now m) _
     (sym c.in-Refused.is ∙ c.judge_lent.ensures.value
     ∙ ap (λ (b : Bool). slow_verdict c.args.file.now b 0) (c.are_full-long.ensures m))
 
 pub fill-requires : goal.fill-requires
 fill-requires c =
-    let h = sym c.in_default.is ∙ c.judge_lent.ensures.value in record { index = lent_accepted c.args.file.now c.are_full-long.result h; file_value = λ m. sym (c.are_full-long.ensures m) ∙ lent_long c.args.file.now c.are_full-long.result h }
+    let h = sym c.in_default.is ∙ c.judge_lent.ensures.value in (
+      lent_accepted c.args.file.now c.are_full-long.result h,
+      λ m. sym (c.are_full-long.ensures m) ∙ lent_long c.args.file.now c.are_full-long.result h,
+    )
 
 pub returns : goal.returns
 returns c m =
-    load_done c.args.file.now (S c.before.before.before.before.before.before.before.before.before.before.before.before.before.before.before.before.before.before.before.before.before.before.before.before.before.before.before.before m) _
+    load_done c.args.file.now (slow_tables_of c.args.inputs.now c.args.outputs.now c.args.current.now c.args.following.now c.args.standing.now m) _
     (sym c.in_default.is ∙ c.judge_lent.ensures.value
     ∙ ap (λ (b : Bool). slow_verdict c.args.file.now b 0) (c.are_full-long.ensures m))
     (c.fill.ensures m)

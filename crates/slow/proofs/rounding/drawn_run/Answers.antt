@@ -15,56 +15,13 @@ use Rattle.slow.specs.Slow.{slow_round_of, slow_bits}
 use Rattle.slow.proofs.RunsLaws.{InRun, run_starts, run_drawing, run_count, run_lists, run_few, run_inside, run_made, run_listed, run_bits, run_on}
 use borrow.Author.Rules.{rules}
 use Rattle.slow.proofs.rounding.drawn_run.Goals as goal
-use Rattle.slow.proofs.rounding.drawn_run.Lts as lts
-use Rattle.slow.proofs.rounding.drawn_run.Tie as tie
-use Rattle.slow.proofs.rounding.drawn_run.Reads as reads
-
-abbrev AtLoopCalm : Type 0
-AtLoopCalm = lts.At-loop tie.the-claims reads.Pre reads.Post goal.the-invariant-loop-calm goal.the-decreases-loop-calm
-
-abbrev AfterDrawnRoundReached : Type 0
-AfterDrawnRoundReached = lts.After-drawn_round tie.the-claims reads.Pre reads.Post goal.the-invariant-loop-calm goal.the-decreases-loop-calm
-
-abbrev AfterCountMovedMoved : Type 0
-AfterCountMovedMoved = lts.After-count_moved tie.the-claims reads.Pre reads.Post goal.the-invariant-loop-calm goal.the-decreases-loop-calm
-
--- The tables at the loop's head, and after its round.
-abbrev here : AtLoopCalm → Tables
-here c =
-    let a = c.args in
-    let l = c.loop-calm in
-    tables_of a.components.now l.inputs l.outputs [] l.current l.following l.standing l.reached
-
--- The tables after the round.
-abbrev then : AfterDrawnRoundReached → Tables
-then c =
-    let a = c.args in
-    let r = c.drawn_round-reached in
-    tables_of a.components.now r.new.inputs r.new.outputs [] r.new.current r.new.following
-    r.new.standing r.result
-
--- At most 64 bits for each of 256 components.
-moved-few : (c : AfterCountMovedMoved) → c.count_moved-moved.result ≤ 16384
-moved-few c =
-    let a = c.args in
-    let l = c.loop-calm in
-    let w = run_few a.file.now _ _ (here c.before.before.before.before.before.before.before.before.before.before.before.before.before.before.before.before.before.before.before.before.before) l.invariant.9 in
-    counted_few _ _ _ (omega (arith, w, c.drawn_round-reached.auto.moved, l.invariant.3)) w c.count_moved-moved.ensures
-
--- After the round the tables are such as before it.
-on : (c : AfterDrawnRoundReached) →
-    let a = c.args in
-    InRun a.file.now a.index.now a.indexes.now (then c)
-on c =
-    let a = c.args in
-    run_on a.file.now a.index.now a.indexes.now (here c.before.before.before.before.before.before.before.before) c.loop-calm.invariant.9 a.time (then c) c.drawn_round-reached.ensures.0
 
 pub loop-calm-init : goal.loop-calm-init
 loop-calm-init c =
     let a = c.args in
     let at = record_at a.file.now in
     let n = record_count a.file.now in
-    let bytes : IsBytes a.file.now = λ i. omega (arith, c.shared_slice_known-1.given i) in (
+    let bytes : IsBytes a.file.now = λ i. omega (arith, c.type_inv.file i) in (
       omega arith,
       omega arith,
       omega arith,
@@ -81,42 +38,55 @@ loop-calm-init c =
 
 pub overflow_cast-evaluations : goal.overflow_cast-evaluations
 overflow_cast-evaluations c =
+    let here = tables_of c.args.components.now c.loop-calm.inputs c.loop-calm.outputs [] c.loop-calm.current c.loop-calm.following
+    c.loop-calm.standing c.loop-calm.reached in
     let a = c.args in
-    omega (arith, run_few a.file.now _ _ (here c.before.before) c.loop-calm.invariant.9)
+    omega (arith, run_few a.file.now _ _ here c.loop-calm.invariant.9)
 
 pub overflow_add-evaluations : goal.overflow_add-evaluations
 overflow_add-evaluations c =
+    let here = tables_of c.args.components.now c.loop-calm.inputs c.loop-calm.outputs [] c.loop-calm.current c.loop-calm.following
+    c.loop-calm.standing c.loop-calm.reached in
     let a = c.args in
     let l = c.loop-calm in
     omega (
       arith,
-      run_few a.file.now _ _ (here c.before.before) l.invariant.9,
+      run_few a.file.now _ _ here l.invariant.9,
       test_below l.calm l.rounds a.limit c.loop-calm-test.true,
       l.invariant.1,
     )
 
 pub drawn_round-reached-requires : goal.drawn_round-reached-requires
 drawn_round-reached-requires c =
+    let here = tables_of c.args.components.now c.loop-calm.inputs c.loop-calm.outputs [] c.loop-calm.current c.loop-calm.following
+    c.loop-calm.standing c.loop-calm.reached in
     let a = c.args in
     let l = c.loop-calm in
     let g = l.invariant.9 in
-    let lists = run_lists a.file.now _ _ (here c.before.before.before.before.before.before.before.before) g in record { drawing = (run_drawing a.file.now _ _ (here c.before.before.before.before.before.before.before.before) g, run_count a.file.now _ _ (here c.before.before.before.before.before.before.before.before) g); list_fits = (lists.0, lists.1, lists.2, omega (arith, l.invariant.3)) }
+    let lists = run_lists a.file.now _ _ here g in record { drawing = (run_drawing a.file.now _ _ here g, run_count a.file.now _ _ here g); list_fits = (lists.0, lists.1, lists.2, omega (arith, l.invariant.3)) }
 
 pub count_moved-moved-requires : goal.count_moved-moved-requires
 count_moved-moved-requires c =
+    let here = tables_of c.args.components.now c.loop-calm.inputs c.loop-calm.outputs [] c.loop-calm.current c.loop-calm.following
+    c.loop-calm.standing c.loop-calm.reached in
     let a = c.args in
     let l = c.loop-calm in
-    let w = run_few a.file.now _ _ (here c.before.before.before.before.before.before.before.before.before.before.before.before.before.before.before.before.before.before.before.before.before) l.invariant.9 in
+    let w = run_few a.file.now _ _ here l.invariant.9 in
     (omega (arith, w, c.drawn_round-reached.auto.moved, l.invariant.3), w)
 
 pub overflow_add-moved : goal.overflow_add-moved
 overflow_add-moved c =
+    let here = tables_of c.args.components.now c.loop-calm.inputs c.loop-calm.outputs [] c.loop-calm.current c.loop-calm.following
+    c.loop-calm.standing c.loop-calm.reached in
+    let few = run_few c.args.file.now _ _ here c.loop-calm.invariant.9 in
+    let moved-few = counted_few _ _ _ (omega (arith, few, c.drawn_round-reached.auto.moved, c.loop-calm.invariant.3)) few
+    c.count_moved-moved.ensures in
     let l = c.loop-calm in
     omega (
       arith,
       test_below l.calm l.rounds c.args.limit c.loop-calm-test.true,
       l.invariant.2,
-      moved-few (c.before),
+      moved-few,
       c.ranges,
     )
 
@@ -127,8 +97,14 @@ overflow_add-rounds c =
 
 pub net_calm-calm-requires : goal.net_calm-calm-requires
 net_calm-calm-requires c =
+    let here = tables_of c.args.components.now c.loop-calm.inputs c.loop-calm.outputs [] c.loop-calm.current c.loop-calm.following
+    c.loop-calm.standing c.loop-calm.reached in
+    let then = tables_of c.args.components.now c.drawn_round-reached.new.inputs c.drawn_round-reached.new.outputs []
+    c.drawn_round-reached.new.current c.drawn_round-reached.new.following c.drawn_round-reached.new.standing c.drawn_round-reached.result in
+    let on = run_on c.args.file.now c.args.index.now c.args.indexes.now here c.loop-calm.invariant.9 c.args.time then
+    c.drawn_round-reached.ensures.0 in
     let a = c.args in
-    run_inside a.file.now a.index.now a.indexes.now (then c.before.before.before.before.before.before.before.before.before.before.before.before.before.before) (on c.before.before.before.before.before.before.before.before.before.before.before.before.before.before)
+    run_inside a.file.now a.index.now a.indexes.now then on
 
 pub loop-calm-smaller : goal.loop-calm-smaller
 loop-calm-smaller c =
@@ -137,25 +113,34 @@ loop-calm-smaller c =
 
 pub loop-calm-preserved : goal.loop-calm-preserved
 loop-calm-preserved c =
+    let here = tables_of c.args.components.now c.loop-calm.inputs c.loop-calm.outputs [] c.loop-calm.current c.loop-calm.following
+    c.loop-calm.standing c.loop-calm.reached in
+    let then = tables_of c.args.components.now c.drawn_round-reached.new.inputs c.drawn_round-reached.new.outputs []
+    c.drawn_round-reached.new.current c.drawn_round-reached.new.following c.drawn_round-reached.new.standing c.drawn_round-reached.result in
+    let on = run_on c.args.file.now c.args.index.now c.args.indexes.now here c.loop-calm.invariant.9 c.args.time then
+    c.drawn_round-reached.ensures.0 in
+    let few = run_few c.args.file.now _ _ here c.loop-calm.invariant.9 in
+    let moved-few = counted_few _ _ _ (omega (arith, few, c.drawn_round-reached.auto.moved, c.loop-calm.invariant.3)) few
+    c.count_moved-moved.ensures in
     let a = c.args in
     let at = record_at a.file.now in
     let n = record_count a.file.now in
     let l = c.loop-calm in
     let r = c.drawn_round-reached in
-    let T = here c.before.before.before.before.before.before.before.before.before.before.before.before.before.before.before.before.before.before.before.before.before.before.before in
-    let U = then c.before.before.before.before.before.before.before.before.before.before.before.before.before.before.before in
+    let T = here in
+    let U = then in
     let g = l.invariant.9 in
     let b = test_below l.calm l.rounds a.limit c.loop-calm-test.true in (
       omega (arith, b),
       omega (arith, l.invariant.1, run_few a.file.now _ _ T g),
-      omega (arith, l.invariant.2, moved-few c.before.before),
-      r.auto.1.1.1.1.1.1.1.1.1.0 ∙ l.invariant.3,
-      r.auto.1.1.1.1.0 ∙ l.invariant.4,
-      r.auto.1.1.1.1.1.0 ∙ l.invariant.5,
-      r.auto.1.1.1.1.1.1.0 ∙ l.invariant.6,
-      r.auto.1.1.1.1.1.1.1.0 ∙ l.invariant.7,
-      r.auto.1.1.1.1.1.1.1.1.0 ∙ l.invariant.8,
-      on c.before.before.before.before.before.before.before.before.before.before.before.before.before.before.before,
+      omega (arith, l.invariant.2, moved-few),
+      r.auto.moved ∙ l.invariant.3,
+      r.auto.inputs ∙ l.invariant.4,
+      r.auto.outputs ∙ l.invariant.5,
+      r.auto.current ∙ l.invariant.6,
+      r.auto.following ∙ l.invariant.7,
+      r.auto.standing ∙ l.invariant.8,
+      on,
       run_by-turn (slow_round_of at n a.time) (slow_bits at n a.time) T U (run_made a.file.now _ _ T g a.time U r.ensures.0)
           (run_listed a.file.now _ _ T g a.time) a.limit l.rounds l.evaluations l.moved _ _ _ b (c.net_calm-calm.ensures ∙ calm_lists U)
           (run_bits a.file.now _ _ T g a.time l.bits _ _ r.ensures.1 c.count_moved-moved.ensures)
@@ -164,7 +149,9 @@ loop-calm-preserved c =
 
 pub returns : goal.returns
 returns c =
+    let here = tables_of c.args.components.now c.loop-calm.inputs c.loop-calm.outputs [] c.loop-calm.current c.loop-calm.following
+    c.loop-calm.standing c.loop-calm.reached in
     let a = c.args in
     let l = c.loop-calm in
     run_by-end (slow_round_of (record_at a.file.now) (record_count a.file.now) a.time) (slow_bits (record_at a.file.now) (record_count a.file.now) a.time)
-    l.calm a.limit l.rounds l.evaluations l.moved (here c.before.before) _ c.loop-calm-test.false l.invariant.10
+    l.calm a.limit l.rounds l.evaluations l.moved here _ c.loop-calm-test.false l.invariant.10

@@ -11,30 +11,6 @@ use Rattle.slow.specs.Sending.{prepared_verdict}
 use Rattle.slow.proofs.CallsLaws.{run_refused, run_done, prepared_is, prepared_for}
 use borrow.Author.Rules.{rules}
 use Rattle.slow.proofs.rounding.run_until_calm.Goals as goal
-use Rattle.slow.proofs.rounding.run_until_calm.Lts as lts
-use Rattle.slow.proofs.rounding.run_until_calm.Tie as tie
-use Rattle.slow.proofs.rounding.run_until_calm.Reads as reads
-
-abbrev Start : Type 0
-Start = lts.Start tie.the-claims reads.Pre reads.Post
-
-abbrev AfterPrepare : Type 0
-AfterPrepare = lts.After-prepare tie.the-claims reads.Pre reads.Post
-
--- The tables that came in.
-abbrev S : Start → SlowTables
-S s =
-    let a = s.args in
-    slow_tables_of a.inputs.now a.outputs.now a.current.now a.following.now a.standing.now a.counts
-
--- What the checks say.
-said : (c : AfterPrepare) →
-    prepared_verdict c.prepare.result
-    ≡ slow_verdict c.args.file.now (slow_full (S c.before.before.before.before.before.before.before.before.before.before.before)) (slow_number (record_at c.args.file.now) (record_count c.args.file.now) (S c.before.before.before.before.before.before.before.before.before.before.before))
-said c =
-    c.prepare.ensures.0
-    ∙ ap (λ (b : Bool). slow_verdict c.args.file.now b (slow_number (record_at c.args.file.now) (record_count c.args.file.now) (S c.before.before.before.before.before.before.before.before.before.before.before)))
-    (c.are_full-long.ensures c.args.counts)
 
 pub prepare-requires : goal.prepare-requires
 prepare-requires c = record { index_len = (refl, refl, refl); counts_value = λ e. sym (c.are_full-long.ensures c.args.counts) ∙ e }
@@ -46,12 +22,21 @@ drawn_run-made-requires c =
 
 pub returns-in-Refused : goal.returns-in-Refused
 returns-in-Refused c =
-    run_refused c.args.file.now (S c.before.before.before.before.before.before.before.before.before.before.before.before.before.before.before.before) c.args.time c.args.limit _
-    (ap prepared_verdict (sym c.in-Refused.is) ∙ said c.before.before.before.before.before)
+    let a = c.args in
+    let S = slow_tables_of a.inputs.now a.outputs.now a.current.now a.following.now a.standing.now a.counts in
+    let said = c.prepare.ensures.0
+    ∙ ap (λ (b : Bool). slow_verdict a.file.now b (slow_number (record_at a.file.now) (record_count a.file.now) S))
+    (c.are_full-long.ensures a.counts) in
+    run_refused c.args.file.now S c.args.time c.args.limit _
+    (ap prepared_verdict (sym c.in-Refused.is) ∙ said)
 
 pub returns-in-Ready : goal.returns-in-Ready
 returns-in-Ready c =
     let a = c.args in
+    let S = slow_tables_of a.inputs.now a.outputs.now a.current.now a.following.now a.standing.now a.counts in
+    let said = c.prepare.ensures.0
+    ∙ ap (λ (b : Bool). slow_verdict a.file.now b (slow_number (record_at a.file.now) (record_count a.file.now) S))
+    (c.are_full-long.ensures a.counts) in
     let at = record_at a.file.now in
     let n = record_count a.file.now in
     let p = c.prepare.ensures.1 _ c.in-Ready.is in
@@ -59,8 +44,8 @@ returns-in-Ready c =
     let U = tables_of c.prepare.new.components r.new.inputs r.new.outputs []
     r.new.current r.new.following r.new.standing r.result.counts in
     rw c.slow_counts.ensures
-    (run_done a.file.now (S c.before.before.before.before.before.before.before.before.before.before.before.before.before.before.before.before.before.before.before.before.before.before.before.before.before.before.before.before.before.before.before.before.before.before.before.before.before.before) a.time a.limit U r.result.rounds r.result.evaluations r.result.moved
-    (ap prepared_verdict (sym c.in-Ready.is) ∙ said c.before.before.before.before.before.before.before.before.before.before.before.before.before.before.before.before.before.before.before.before.before.before.before.before.before.before.before)
+    (run_done a.file.now S a.time a.limit U r.result.rounds r.result.evaluations r.result.moved
+    (ap prepared_verdict (sym c.in-Ready.is) ∙ said)
     (r.ensures
     ∙ ap (λ (T : Tables). run_by (slow_round_of at n a.time) (slow_bits at n a.time) a.limit T)
     (prepared_is a.file.now _ _ _ _ _ _ _ _ _ _ p _ c.counts_for.ensures)))

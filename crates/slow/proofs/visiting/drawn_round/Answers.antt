@@ -17,61 +17,52 @@ use Rattle.slow.specs.Slow.{leaving}
 use Rattle.slow.proofs.RoundsLaws.{visits_bare, moved_bare, fits_few, fits_entry, fits_small, fits_copied}
 use borrow.Author.Rules.{rules}
 use Rattle.slow.proofs.visiting.drawn_round.Goals as goal
-use Rattle.slow.proofs.visiting.drawn_round.Lts as lts
-use Rattle.slow.proofs.visiting.drawn_round.Tie as tie
-use Rattle.slow.proofs.visiting.drawn_round.Reads as reads
-
-abbrev Start : Type 0
-Start = lts.Start tie.the-claims reads.Pre reads.Post
-
--- The tables that came in, and the wires that leave each component.
-abbrev came : Start → Tables
-came s =
-    let a = s.args in
-    tables_of a.components.now a.inputs.now a.outputs.now [] a.current.now a.following.now a.standing.now a.counts
-
-abbrev ws : Start → ℕ → List Wire
-ws s = leaving (record_at s.args.file.now) (record_count s.args.file.now)
-
--- There are at most 256 components.
-few : (s : Start) → s.args.counts.components ≤ 256
-few s = omega (arith, s.requires.drawing.1, accepted_primitives_bound s.args.file.now s.requires.drawing.0.ready.accepted)
 
 pub copy-requires : goal.copy-requires
 copy-requires c =
-    (c.requires.list_fits.1.count, omega (arith, fits_few c.args.components.now c.args.counts _ _ c.requires.list_fits.1 (few c.before.before.before.before.before.before.before.before.before.before.before.before)))
+    let few : c.args.counts.components ≤ 256 =
+    omega (arith, c.requires.drawing.1, accepted_primitives_bound c.args.file.now c.requires.drawing.0.ready.accepted) in
+    (c.requires.list_fits.1.count, omega (arith, fits_few c.args.components.now c.args.counts _ _ c.requires.list_fits.1 few))
 
 pub copy-requires-2 : goal.copy-requires-2
 copy-requires-2 c =
-    (c.requires.list_fits.2.count, omega (arith, fits_few c.args.components.now c.args.counts _ _ c.requires.list_fits.2 (few c.before.before.before.before.before.before.before.before.before.before.before.before.before.before.before)))
+    let few : c.args.counts.components ≤ 256 =
+    omega (arith, c.requires.drawing.1, accepted_primitives_bound c.args.file.now c.requires.drawing.0.ready.accepted) in
+    (c.requires.list_fits.2.count, omega (arith, fits_few c.args.components.now c.args.counts _ _ c.requires.list_fits.2 few))
 
 pub mark-requires : goal.mark-requires
 mark-requires c =
-    (c.requires.list_fits.1.count, fits_small c.args.components.now c.args.counts _ _ c.requires.list_fits.1 (few c.before.before.before.before.before.before.before.before.before.before.before.before.before.before.before.before.before.before), listed_none)
+    let few : c.args.counts.components ≤ 256 =
+    omega (arith, c.requires.drawing.1, accepted_primitives_bound c.args.file.now c.requires.drawing.0.ready.accepted) in
+    (c.requires.list_fits.1.count, fits_small c.args.components.now c.args.counts _ _ c.requires.list_fits.1 few, listed_none)
 
 pub mark-requires-2 : goal.mark-requires-2
 mark-requires-2 c =
-    (c.requires.list_fits.2.count, fits_small c.args.components.now c.args.counts _ _ c.requires.list_fits.2 (few c.before.before.before.before.before.before.before.before.before.before.before.before.before.before.before.before.before.before.before.before), listed_none)
+    let few : c.args.counts.components ≤ 256 =
+    omega (arith, c.requires.drawing.1, accepted_primitives_bound c.args.file.now c.requires.drawing.0.ready.accepted) in
+    (c.requires.list_fits.2.count, fits_small c.args.components.now c.args.counts _ _ c.requires.list_fits.2 few, listed_none)
 
 pub visit_all-reached-requires : goal.visit_all-reached-requires
 visit_all-reached-requires c =
+    let few : c.args.counts.components ≤ 256 =
+    omega (arith, c.requires.drawing.1, accepted_primitives_bound c.args.file.now c.requires.drawing.0.ready.accepted) in
     let a = c.args in
     let f = c.copy in
     let d = c.copy-2 in
     let fol = copy_list a.counts.following a.following.now _ _ c.requires.list_fits.1.count f.ensures in record {
       drawing = (
         c.requires.drawing.0,
-        fits_few a.components.now a.counts _ _ c.requires.list_fits.0 (few c.before.before.before.before.before.before.before.before.before.before.before.before.before.before.before.before.before.before.before.before.before.before.before.before.before.before.before.before),
+        fits_few a.components.now a.counts _ _ c.requires.list_fits.0 few,
         c.requires.list_fits.0.count,
-        λ k h. omega (arith, fits_entry a.components.now a.counts _ _ c.requires.list_fits.0 (few c.before.before.before.before.before.before.before.before.before.before.before.before.before.before.before.before.before.before.before.before.before.before.before.before.before.before.before.before) k h, c.requires.drawing.1),
+        λ k h. omega (arith, fits_entry a.components.now a.counts _ _ c.requires.list_fits.0 few k h, c.requires.drawing.1),
       );
       list_marked = (
         record {
-          fits = fits_copied a.components.now a.counts _ _ c.requires.list_fits.1 (few c.before.before.before.before.before.before.before.before.before.before.before.before.before.before.before.before.before.before.before.before.before.before.before.before.before.before.before.before) _ (omega (arith, f.auto.1.1.0)) fol;
+          fits = fits_copied a.components.now a.counts _ _ c.requires.list_fits.1 few _ (omega (arith, f.auto.into)) fol;
           marked = rw fol c.mark.ensures;
         },
         listed_covers _ a.standing.now _ a.counts.standing
-            (omega (arith, fits_few a.components.now a.counts _ _ c.requires.list_fits.2 (few c.before.before.before.before.before.before.before.before.before.before.before.before.before.before.before.before.before.before.before.before.before.before.before.before.before.before.before.before), d.auto.into))
+            (omega (arith, fits_few a.components.now a.counts _ _ c.requires.list_fits.2 few, d.auto.into))
             (copy_list a.counts.standing a.standing.now _ _ c.requires.list_fits.2.count d.ensures) c.mark-2.ensures,
         c.requires.list_fits.3,
       );
@@ -92,13 +83,15 @@ end_round-requires c =
 pub returns : goal.returns
 returns c =
     let a = c.args in
+    let came = tables_of a.components.now a.inputs.now a.outputs.now [] a.current.now a.following.now a.standing.now a.counts in
+    let ws = leaving (record_at a.file.now) (record_count a.file.now) in
     let fol = copy_list a.counts.following a.following.now _ _ c.requires.list_fits.1.count c.copy.ensures in
     let std = copy_list a.counts.standing a.standing.now _ _ c.requires.list_fits.2.count c.copy-2.ensures in
     let v = c.visit_all-reached in
     let o = state_at a.inputs.now a.outputs.now (take a.counts.following c.copy.new.into)
     (take a.counts.standing c.copy-2.new.into) in (
-      round_made (came c.before.before.before.before.before.before.before.before.before.before.before.before.before.before.before.before.before.before.before.before.before.before.before.before.before.before.before.before.before.before.before.before.before.before.before.before.before.before.before.before.before.before.before.before.before.before.before.before.before) a.time (ws c.before.before.before.before.before.before.before.before.before.before.before.before.before.before.before.before.before.before.before.before.before.before.before.before.before.before.before.before.before.before.before.before.before.before.before.before.before.before.before.before.before.before.before.before.before.before.before.before.before) _ _ _ _ _ _ _ _ _ v.result _ fol std
-          (visits_bare a.components.now a.counts (ws c.before.before.before.before.before.before.before.before.before.before.before.before.before.before.before.before.before.before.before.before.before.before.before.before.before.before.before.before.before.before.before.before.before.before.before.before.before.before.before.before.before.before.before.before.before.before.before.before.before) a.time _ o (current_list (came c.before.before.before.before.before.before.before.before.before.before.before.before.before.before.before.before.before.before.before.before.before.before.before.before.before.before.before.before.before.before.before.before.before.before.before.before.before.before.before.before.before.before.before.before.before.before.before.before.before)) v.ensures.0) c.end_round.ensures,
-      round_moved_lem (came c.before.before.before.before.before.before.before.before.before.before.before.before.before.before.before.before.before.before.before.before.before.before.before.before.before.before.before.before.before.before.before.before.before.before.before.before.before.before.before.before.before.before.before.before.before.before.before.before.before) (ws c.before.before.before.before.before.before.before.before.before.before.before.before.before.before.before.before.before.before.before.before.before.before.before.before.before.before.before.before.before.before.before.before.before.before.before.before.before.before.before.before.before.before.before.before.before.before.before.before.before) a.time _ _ a.moved.now _ fol std
-          (moved_bare a.components.now a.counts (ws c.before.before.before.before.before.before.before.before.before.before.before.before.before.before.before.before.before.before.before.before.before.before.before.before.before.before.before.before.before.before.before.before.before.before.before.before.before.before.before.before.before.before.before.before.before.before.before.before.before) a.time o (current_list (came c.before.before.before.before.before.before.before.before.before.before.before.before.before.before.before.before.before.before.before.before.before.before.before.before.before.before.before.before.before.before.before.before.before.before.before.before.before.before.before.before.before.before.before.before.before.before.before.before.before)) a.moved.now _ v.ensures.1),
+      round_made came a.time ws _ _ _ _ _ _ _ _ _ v.result _ fol std
+          (visits_bare a.components.now a.counts ws a.time _ o (current_list came) v.ensures.0) c.end_round.ensures,
+      round_moved_lem came ws a.time _ _ a.moved.now _ fol std
+          (moved_bare a.components.now a.counts ws a.time o (current_list came) a.moved.now _ v.ensures.1),
     )

@@ -19,19 +19,6 @@ use Rattle.slow.specs.Sending.{bare}
 use Rattle.slow.proofs.DrawingLaws.{drawing_kept}
 use borrow.Author.Rules.{rules}
 use Rattle.slow.proofs.visiting.visit_all.Goals as goal
-use Rattle.slow.proofs.visiting.visit_all.Lts as lts
-use Rattle.slow.proofs.visiting.visit_all.Tie as tie
-use Rattle.slow.proofs.visiting.visit_all.Reads as reads
-
-abbrev Start : Type 0
-Start = lts.Start tie.the-claims reads.Pre reads.Post goal.the-invariant-loop-k goal.the-decreases-loop-k
-
--- The components, and the wires that leave each.
-abbrev T : Start → Tables
-T s = bare s.args.components.now
-
-abbrev ws : Start → ℕ → List Wire
-ws s = leaving (record_at s.args.file.now) (record_count s.args.file.now)
 
 pub loop-k-init : goal.loop-k-init
 loop-k-init c =
@@ -77,16 +64,16 @@ loop-k-preserved c =
       simp length-set l.invariant.5,
       v.ensures.1,
       v.ensures.2,
-      visits_next (T c.before.before.before.before.before.before.before.before.before.before.before.before.before.before.before.before.before.before.before.before.before.before.before.before.before.before.before.before.before) (ws c.before.before.before.before.before.before.before.before.before.before.before.before.before.before.before.before.before.before.before.before.before.before.before.before.before.before.before.before.before) c.args.time c.args.list.now l.k c.args.count _ _ _ _ b c.requires.drawing.2 e v.ensures.0 l.invariant.8,
-      bits_next (T c.before.before.before.before.before.before.before.before.before.before.before.before.before.before.before.before.before.before.before.before.before.before.before.before.before.before.before.before.before) (ws c.before.before.before.before.before.before.before.before.before.before.before.before.before.before.before.before.before.before.before.before.before.before.before.before.before.before.before.before.before) c.args.time c.args.list.now c.args.count _ c.args.moved.now c.requires.drawing.2
+      visits_next (bare c.args.components.now) (leaving (record_at c.args.file.now) (record_count c.args.file.now)) c.args.time c.args.list.now l.k c.args.count _ _ _ _ b c.requires.drawing.2 e v.ensures.0 l.invariant.8,
+      bits_next (bare c.args.components.now) (leaving (record_at c.args.file.now) (record_count c.args.file.now)) c.args.time c.args.list.now c.args.count _ c.args.moved.now c.requires.drawing.2
           l.k _ _ _ _ l.moved b (omega (arith, c.requires.drawing.1, c.requires.list_marked.2)) e v.ensures.0 v.ensures.3 l.invariant.9,
     )
 
 pub returns : goal.returns
 returns c =
     let l = c.loop-k in (
-      visits_end (T c.before.before.before.before.before.before.before.before.before.before.before.before.before) (ws c.before.before.before.before.before.before.before.before.before.before.before.before.before) c.args.time c.args.list.now l.k c.args.count _ _ (omega arith) l.invariant.8,
-      bits_end (T c.before.before.before.before.before.before.before.before.before.before.before.before.before) (ws c.before.before.before.before.before.before.before.before.before.before.before.before.before) c.args.time c.args.list.now c.args.count _ c.args.moved.now c.requires.drawing.2 l.k _ l.moved (omega arith)
+      visits_end (bare c.args.components.now) (leaving (record_at c.args.file.now) (record_count c.args.file.now)) c.args.time c.args.list.now l.k c.args.count _ _ (omega arith) l.invariant.8,
+      bits_end (bare c.args.components.now) (leaving (record_at c.args.file.now) (record_count c.args.file.now)) c.args.time c.args.list.now c.args.count _ c.args.moved.now c.requires.drawing.2 l.k _ l.moved (omega arith)
           l.invariant.9,
       l.invariant.6.fits.count,
       l.invariant.7.count,
