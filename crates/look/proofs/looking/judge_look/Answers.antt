@@ -1,28 +1,25 @@
 -- `judge_look`: a list is too short, or what a load is judged to be.
 -- Assumes nothing.
-use Rattle.tables.specs.declared.Counts.{Counts}
-use Rattle.tables.specs.Tables.{Tables, tables_of}
+use Rattle.tables.specs.Tables.{tables_of}
 use borrow.Author.Rules.{rules}
 use Rattle.flatten.proofs.Accepted.{not_accepted}
 use Rattle.look.proofs.LookLaws.{own_lists, own_load}
 use Rattle.look.proofs.looking.judge_look.Goals as goal
-use Rattle.look.proofs.looking.judge_look.Lts as lts
-use Rattle.look.proofs.looking.judge_look.Tie as tie
-use Rattle.look.proofs.looking.judge_look.Reads as reads
-
-abbrev Start : Type 0
-Start = lts.Start tie.the-claims reads.Pre reads.Post
-
--- The tables that came in, by their counts.
-abbrev came : Start → Counts → Tables
-came s =
-    let a = s.args in
-    tables_of a.components.now a.inputs.now a.outputs.now a.wires.now a.current.now a.following.now a.standing.now
 
 pub returns-then-is_sized-numbers : goal.returns-then-is_sized-numbers
 returns-then-is_sized-numbers c =
-    let a = c.args in record { value = λ m. own_lists a.file.now (came c.before.before.before.before.before.before.before.before.before.before.before.before.before.before.before m) a.numbers.now a.widths.now _ c.is_sized.ensures c.if-is_sized-numbers.true _ c.refused_by.ensures; index = λ y. absurd (not_accepted _ y) }
+    let a = c.args in record {
+      value = λ m.
+          own_lists a.file.now (tables_of a.components.now a.inputs.now a.outputs.now a.wires.now a.current.now a.following.now a.standing.now m)
+          a.numbers.now a.widths.now _ c.is_sized.ensures c.if-is_sized-numbers.true _ c.refused_by.ensures;
+      index = λ y. absurd (not_accepted _ y);
+    }
 
 pub returns : goal.returns
 returns c =
-    let a = c.args in record { value = λ m. own_load a.file.now (came c.before.before.before.before.before.before.before.before.before.before.before.before.before.before.before.before.before.before m) a.numbers.now a.widths.now _ c.is_sized.ensures c.if-is_sized-numbers.false _ (c.judge_load.ensures.value m); index = c.judge_load.ensures.index }
+    let a = c.args in record {
+      value = λ m.
+          own_load a.file.now (tables_of a.components.now a.inputs.now a.outputs.now a.wires.now a.current.now a.following.now a.standing.now m)
+          a.numbers.now a.widths.now _ c.is_sized.ensures c.if-is_sized-numbers.false _ (c.judge_load.ensures.value m);
+      index = c.judge_load.ensures.index;
+    }

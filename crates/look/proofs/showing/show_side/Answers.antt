@@ -20,7 +20,11 @@ loop-i-init c = (omega arith, refl, refl, refl, refl)
 
 pub value_shown-value-requires : goal.value_shown-value-requires
 value_shown-value-requires c =
-    (c.requires.ready, (c.requires.rows_held.0, (omega (arith, c.requires.rows_held.1.0.0, c.loop-i-test.true), c.requires.rows_held.1.0.1)))
+    record {
+      ready = c.requires.ready;
+      rows_held = c.requires.rows_held;
+      i_bound = (omega (arith, c.requires.count_value.0, c.loop-i-test.true), c.requires.count_value.1);
+    }
 
 pub overflow_add-k : goal.overflow_add-k
 overflow_add-k c = omega arith
@@ -65,5 +69,8 @@ pub returns : goal.returns
 returns c =
     let l = c.loop-i in
     let a = c.args in
-    let all : l.i ≡ ports_on a.side (record_at a.file.now a.c) = omega (arith, c.requires.rows_held.1.0.0) in
-    let shows = value_shown (record_at a.file.now) (record_count a.file.now) (ported a.components.now a.inputs.now a.outputs.now) a.side a.c in record { numbers_after = l.invariant.3 ∙ ap (λ (j : ℕ). sets a.numbers.now a.at (map (λ (v : Value). v.number) (map shows (from 0 j)))) all; widths_after = l.invariant.4 ∙ ap (λ (j : ℕ). sets a.widths.now a.at (map (λ (v : Value). v.width) (map shows (from 0 j)))) all }
+    let all : l.i ≡ ports_on a.side (record_at a.file.now a.c) = omega (arith, c.requires.count_value.0) in
+    let shows = value_shown (record_at a.file.now) (record_count a.file.now) (ported a.components.now a.inputs.now a.outputs.now) a.side a.c in record {
+      numbers_after = l.invariant.3 ∙ ap (λ (j : ℕ). sets a.numbers.now a.at (map (λ (v : Value). v.number) (map shows (from 0 j)))) all;
+      widths_after = l.invariant.4 ∙ ap (λ (j : ℕ). sets a.widths.now a.at (map (λ (v : Value). v.width) (map shows (from 0 j)))) all;
+    }
