@@ -34,8 +34,8 @@ put_round-next-requires c =
     let r = c.round_left-left in
     let T = tables_of a.components.now l.inputs l.outputs a.wires.now l.current l.following l.standing l.reached in
     let U =
-    tables_of a.components.now r.new.1.0 r.new.1.1.0 a.wires.now r.new.1.1.1.1.0
-    r.new.1.1.1.1.1.0 r.new.1.1.1.1.1.1.0 r.result.counts in
+    tables_of a.components.now r.new.inputs r.new.outputs a.wires.now r.new.current
+    r.new.following r.new.standing r.result.counts in
     current_in U (net_left T U r.result.calm l.invariant.6 r.ensures)
 
 pub loop-calm-smaller : goal.loop-calm-smaller
@@ -51,15 +51,15 @@ loop-calm-preserved c =
     let p = c.put_round-next in
     let T = tables_of a.components.now l.inputs l.outputs a.wires.now l.current l.following l.standing l.reached in
     let U =
-    tables_of a.components.now r.new.1.0 r.new.1.1.0 a.wires.now r.new.1.1.1.1.0
-    r.new.1.1.1.1.1.0 r.new.1.1.1.1.1.1.0 r.result.counts in
+    tables_of a.components.now r.new.inputs r.new.outputs a.wires.now r.new.current
+    r.new.following r.new.standing r.result.counts in
     let less = test_below l.calm l.round 16 c.loop-calm-test.true in (
       omega (arith, less),
-      r.auto.1.0 ∙ l.invariant.1,
-      r.auto.1.1.0 ∙ l.invariant.2,
-      r.auto.1.1.1.1.0 ∙ l.invariant.3,
-      r.auto.1.1.1.1.1.0 ∙ l.invariant.4,
-      r.auto.1.1.1.1.1.1.0 ∙ l.invariant.5,
+      r.auto.inputs ∙ l.invariant.1,
+      r.auto.outputs ∙ l.invariant.2,
+      r.auto.current ∙ l.invariant.3,
+      r.auto.following ∙ l.invariant.4,
+      r.auto.standing ∙ l.invariant.5,
       net_left T U r.result.calm l.invariant.6 r.ensures,
       round_put T U r.result.calm r.ensures l.round less l.calm
           (test_going l.calm l.round 16 c.loop-calm-test.true) l.invariant.7 p.ensures,

@@ -17,7 +17,7 @@ returns c =
     tables_of a.components.now a.inputs.now a.outputs.now a.wires.now a.current.now a.following.now
     a.standing.now a.counts in
     let U =
-    tables_of a.components.now r.new.1.0 r.new.1.1.0 a.wires.now r.new.1.1.1.1.0
-    r.new.1.1.1.1.1.0 r.new.1.1.1.1.1.1.0 m.result in
+    tables_of a.components.now r.new.inputs r.new.outputs a.wires.now r.new.current
+    r.new.following r.new.standing m.result in
     rounded T U c.requires _ _ r.result m.result q.result b.result (omega arith) r.ensures m.ensures q.ensures
     b.ensures
