@@ -2,7 +2,6 @@
 -- Assumes nothing.
 use Rattle.tables.specs.Tables.{tables_of}
 use Rattle.load.proofs.LoadLaws.{inputs_room, current_room, copy_room, filled}
-use borrow.Author.Rules.{rules}
 use Rattle.load.proofs.fill.Goals as goal
 
 pub zeros-requires : goal.zeros-requires

@@ -1,11 +1,9 @@
 -- `judge_load`: each way out is one of the cases of the definition.
 -- Assumes nothing.
 use mathlib.Core.Path.{sym, ◌∙◌}
-use borrow.Author.Tests.{not-true, not-false}
 use Rattle.flatten.proofs.Accepted.{not_accepted}
 use Rattle.meeting.proofs.MeetingLaws.{judges_judgement}
 use Rattle.load.proofs.LoadLaws.{judge_unsized, judge_short, judge_file}
-use borrow.Author.Rules.{rules}
 use Rattle.load.proofs.judge_load.Goals as goal
 
 pub returns-then-not-is_sized : goal.returns-then-not-is_sized

@@ -1,7 +1,6 @@
 -- `load`: each way out is one of the cases of the definition.
 -- Assumes nothing.
 use Rattle.load.proofs.LoadLaws.{load_refused, load_ready, load_done}
-use borrow.Author.Rules.{rules}
 use Rattle.load.proofs.load.Goals as goal
 
 pub returns-in-Refused : goal.returns-in-Refused

@@ -1,17 +1,12 @@
 -- `is_dangling`: whether one of the inputs to come is open is the answer.
 -- Assumes nothing.
-use mathlib.Core.Path.{◌≡◌, sym, ap, ◌∙◌}
+use mathlib.Core.Path.{◌≡◌}
 use Prim.Native.Nat.{◌-◌}
-use native.Mathlib.Omega.{arith}
 use lib.ListN.{length}
 use lib.Dec.{eqb}
 use Rattle.lists.specs.Lists.{from, any}
-use Rattle.lists.proofs.ListsLaws.{any_here, any_next, any_none}
-use Rattle.kinds.specs.declared.table.Fields.{Fields}
 use Rattle.component.specs.Record.{record_at, record_count}
 use Rattle.boxes.specs.Boxes.{behind, dangling}
-use Rattle.boxes.proofs.BehindLaws.{dangling_start}
-use borrow.Author.Rules.{rules}
 use Rattle.boxes.proofs.behind.is_dangling.Given as goal
 
 abbrev pub invariant-loop-i : goal.invariant-loop-i

@@ -2,7 +2,6 @@
 -- Assumes nothing.
 use mathlib.Core.Path.{refl}
 use Rattle.boxes.proofs.BehindLaws.{accepted_most, behind_room, behind_none}
-use borrow.Author.Rules.{rules}
 use Rattle.boxes.proofs.behind.is_open.Goals as goal
 
 pub list_targets-requires : goal.list_targets-requires

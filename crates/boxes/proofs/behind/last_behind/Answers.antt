@@ -4,7 +4,6 @@ use mathlib.Core.Path.{refl}
 use Rattle.flatten.specs.Descent.{pin}
 use Rattle.component.specs.Record.{record_count}
 use Rattle.boxes.proofs.BehindLaws.{accepted_most, behind_room, behind_empty, behind_within, behind_last}
-use borrow.Author.Rules.{rules}
 use Rattle.boxes.proofs.behind.last_behind.Goals as goal
 
 pub list_targets-count-requires : goal.list_targets-count-requires

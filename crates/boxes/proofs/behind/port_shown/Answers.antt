@@ -5,7 +5,6 @@ use Prim.Native.Nat.{ℕ}
 use Rattle.component.specs.Record.{record_at, record_count}
 use Rattle.flatten.specs.Descent.{output_below}
 use Rattle.boxes.proofs.BehindLaws.{shown_input, shown_output, shown_inputs}
-use borrow.Author.Rules.{rules}
 use Rattle.boxes.proofs.behind.port_shown.Goals as goal
 
 pub last_behind-requires : goal.last_behind-requires

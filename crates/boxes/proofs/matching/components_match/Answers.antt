@@ -8,7 +8,6 @@ use Rattle.flatten.proofs.WireTheorems.{accepted_primitives_bound}
 use Rattle.laying.specs.declared.rows.Before.{Before}
 use Rattle.laying.specs.Laid.{primitives, primitive_words}
 use Rattle.boxes.proofs.MatchLaws.{laid_other, laid_room, laid_same}
-use borrow.Author.Rules.{rules}
 use Rattle.boxes.proofs.matching.components_match.Goals as goal
 
 pub returns-then-all-count : goal.returns-then-all-count

@@ -1,11 +1,9 @@
 -- `is_matched`: the components differ, or the wires decide.
 -- Assumes nothing.
 use mathlib.Core.List.{[]}
-use borrow.Author.Tests.{not-true, not-false}
 use Rattle.component.specs.Record.{record_at, record_count}
 use Rattle.net.specs.Parts.{lent}
 use Rattle.boxes.proofs.MatchLaws.{matched_not, matched_by}
-use borrow.Author.Rules.{rules}
 use Rattle.boxes.proofs.matching.is_matched.Goals as goal
 
 pub returns-then-not-components_match : goal.returns-then-not-components_match

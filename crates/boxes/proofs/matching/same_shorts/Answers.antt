@@ -1,11 +1,7 @@
 -- `same_shorts`: whether the words to come are the same is the answer.
 -- Assumes nothing.
-use mathlib.Core.Path.{◌≡◌, refl}
-use Prim.Native.Nat.{◌-◌}
-use lib.ListN.{take, drop}
-use Rattle.boxes.specs.Boxes.{same}
+use mathlib.Core.Path.{refl}
 use Rattle.boxes.proofs.MatchLaws.{same_differs, same_next, same_end}
-use borrow.Author.Rules.{rules}
 use Rattle.boxes.proofs.matching.same_shorts.Goals as goal
 
 pub loop-k-init : goal.loop-k-init

@@ -1,11 +1,9 @@
 -- `same_words`: whether the words to come are the same is the answer.
 -- Assumes nothing.
-use mathlib.Core.Path.{◌≡◌, refl}
+use mathlib.Core.Path.{◌≡◌}
 use Prim.Native.Nat.{◌-◌}
 use lib.ListN.{take, drop}
 use Rattle.boxes.specs.Boxes.{same}
-use Rattle.boxes.proofs.MatchLaws.{same_differs, same_next, same_end}
-use borrow.Author.Rules.{rules}
 use Rattle.boxes.proofs.matching.same_words.Given as goal
 
 abbrev pub invariant-loop-k : goal.invariant-loop-k

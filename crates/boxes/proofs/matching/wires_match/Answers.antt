@@ -9,7 +9,6 @@ use Rattle.tables.specs.Tables.{wire_words}
 use Rattle.laying.specs.Laid.{flat_wires}
 use Rattle.laying.proofs.FlatWires.{flat_wires-bound}
 use Rattle.boxes.proofs.MatchLaws.{laid_other, laid_room, laid_same}
-use borrow.Author.Rules.{rules}
 use Rattle.boxes.proofs.matching.wires_match.Goals as goal
 
 pub returns-then-lay_wires-count : goal.returns-then-lay_wires-count

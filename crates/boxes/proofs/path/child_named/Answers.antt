@@ -1,14 +1,9 @@
 -- `child_named`: the first child of the id among the records to come is the answer.
 -- Assumes nothing.
-use mathlib.Core.Path.{◌≡◌, refl, sym, ◌∙◌}
-use Prim.Native.Nat.{◌-◌}
-use lib.ListN.{get_or}
-use Rattle.lists.specs.Lists.{from, keep}
+use mathlib.Core.Path.{refl, sym, ◌∙◌}
 use Rattle.lists.proofs.ListsLaws.{kth_here, kth_next, kth_none}
 use Rattle.component.specs.Record.{record_at, record_count}
-use Rattle.boxes.specs.Boxes.{child_named}
 use Rattle.boxes.specs.Naming.{named}
-use borrow.Author.Rules.{rules}
 use Rattle.boxes.proofs.path.child_named.Goals as goal
 
 pub loop-q-init : goal.loop-q-init

@@ -2,7 +2,6 @@
 -- Assumes nothing.
 use Rattle.component.specs.Record.{record_at}
 use Rattle.boxes.proofs.PathLaws.{named_none, named_is}
-use borrow.Author.Rules.{rules}
 use Rattle.boxes.proofs.path.is_named.Goals as goal
 
 pub returns-in_default : goal.returns-in_default

@@ -1,14 +1,8 @@
 -- `place_of`: what the ids to come name below the component found so far is the answer.
 -- Assumes nothing.
-use mathlib.Core.Path.{◌≡◌, refl}
-use Prim.Native.Nat.{◌-◌}
-use mathlib.Core.List.{foldl}
-use lib.ListN.{length, drop}
-use Rattle.component.specs.Record.{record_at, record_count}
+use mathlib.Core.Path.{refl}
 use Rattle.flatten.proofs.Accepted.{accepted_readable}
-use Rattle.boxes.specs.Boxes.{child_named, place_of}
 use Rattle.boxes.proofs.PathLaws.{place_next, place_missed, place_end}
-use borrow.Author.Rules.{rules}
 use Rattle.boxes.proofs.path.place_of.Goals as goal
 
 pub loop-k-init : goal.loop-k-init

@@ -1,7 +1,7 @@
 -- `list_targets`: the depth left falls at every call. The invariant is `Listing`: what is listed and what the maps to come give is what the
 -- input leads to.
 -- Assumes nothing.
-use Rattle.std.proofs.Common.{ℕ, ◌-◌, ◌/◌, length}
+use Rattle.std.proofs.Common.{◌-◌}
 use Rattle.lists.specs.Lists.{from, joined}
 use Rattle.component.specs.Record.{record_at, record_count}
 use Rattle.flatten.specs.Descent.{inputs_below}
@@ -15,7 +15,7 @@ decreases-list_targets l = l.depth
 abbrev pub invariant-loop-q : goal.invariant-loop-q
 invariant-loop-q l =
     Listing l.fn.targets l.fn.at (inputs_below (record_at l.fn.file) (record_count l.fn.file) l.fn.depth l.fn.c l.fn.i) l.targets l.next
-        (joined (given (record_at l.fn.file) (record_count l.fn.file) (l.fn.depth - 1) l.fn.c l.fn.i) (from l.q (l.end - l.q)))
+    (joined (given (record_at l.fn.file) (record_count l.fn.file) (l.fn.depth - 1) l.fn.c l.fn.i) (from l.q (l.end - l.q)))
 
 abbrev pub decreases-loop-q : goal.decreases-loop-q
 decreases-loop-q l = l.end - l.q

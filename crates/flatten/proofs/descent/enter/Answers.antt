@@ -11,7 +11,6 @@ use Rattle.component.specs.declared.Says.{Says}
 use Rattle.component.specs.declared.Says.TheVariants.{Component, Connection, InputMap, OutputMap}
 use Rattle.component.specs.contracts.Says.{the_type}
 use Rattle.flatten.proofs.DescentLaws.{entered_refused, entered_other, entered_owner, entered_port, entered_to}
-use borrow.Author.Rules.{rules}
 use Rattle.flatten.proofs.descent.enter.Goals as goal
 
 -- What is no InputMap is one of the other three.

@@ -7,7 +7,6 @@ use Rattle.component.specs.Record.{record_at}
 use lib.ListN.{length}
 use Prim.Native.Nat.{ℕ, ◌/◌}
 use mathlib.Core.Path.{ap, ◌∙◌}
-use borrow.Author.Rules.{rules}
 use Rattle.flatten.proofs.descent.source_from.Goals as goal
 
 pub returns-then-is_primitive_at : goal.returns-then-is_primitive_at

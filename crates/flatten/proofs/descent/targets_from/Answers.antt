@@ -10,7 +10,6 @@ use lib.ListN.{length}
 use native.Mathlib.Omega.{arith}
 use Prim.Native.Nat.{ℕ, ◌+◌, ◌/◌, ◌≤◌}
 use mathlib.Core.Path.{◌≡◌, ap, subst}
-use borrow.Author.Rules.{rules}
 use Rattle.flatten.proofs.descent.targets_from.Goals as goal
 
 pub lay_target-requires : goal.lay_target-requires

@@ -2,15 +2,14 @@
 -- Assumes nothing.
 use mathlib.Core.Bool.{true, false}
 use mathlib.Core.Path.{refl}
-use Prim.Native.Nat.{◌-◌, ◌/◌, ◌≤◌}
+use Prim.Native.Nat.{◌/◌}
 use native.Mathlib.Omega.{arith}
 use lib.ListN.{length}
 use Rattle.component.specs.Record.{record_at}
-use Rattle.checks.proofs.PassesLaws.{NoneBefore, none_start, none_next, first_this, first_none}
+use Rattle.checks.proofs.PassesLaws.{none_start, none_next, first_this, first_none}
 use Rattle.flatten.specs.Searches.{fails_at}
 use Rattle.flatten.proofs.Accepted.{passed_check}
 use Rattle.flatten.proofs.JudgementLaws.{readable_before, fails_here, passes_here}
-use borrow.Author.Rules.{rules}
 use Rattle.flatten.proofs.judgement.first_alone.Goals as goal
 
 pub loop-p-init : goal.loop-p-init

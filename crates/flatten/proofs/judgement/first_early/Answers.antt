@@ -8,7 +8,6 @@ use Rattle.checks.specs.Checks.{fails_by, IsFirst}
 use Rattle.flatten.specs.Searches.{fails_at}
 use Rattle.flatten.proofs.JudgementLaws.{readable_before}
 use native.Mathlib.Omega.{arith}
-use borrow.Author.Rules.{rules}
 use Rattle.flatten.proofs.judgement.first_early.Goals as goal
 
 pub first10-requires : goal.first10-requires

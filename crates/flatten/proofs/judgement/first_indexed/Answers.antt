@@ -3,15 +3,14 @@
 use mathlib.Core.Logic.{◌⊎◌, inl, inr}
 use mathlib.Core.Bool.{true, false}
 use mathlib.Core.Path.{◌≡◌, refl}
-use Prim.Native.Nat.{ℕ, ◌-◌, ◌/◌, ◌≤◌, ◌<◌}
+use Prim.Native.Nat.{ℕ, ◌/◌, ◌≤◌, ◌<◌}
 use native.Mathlib.Omega.{arith}
 use lib.ListN.{length}
 use Rattle.component.specs.Record.{record_at}
-use Rattle.checks.proofs.PassesLaws.{NoneBefore, none_start, none_next, first_this, first_none}
+use Rattle.checks.proofs.PassesLaws.{none_start, none_next, first_this, first_none}
 use Rattle.flatten.specs.Searches.{fails_at}
 use Rattle.flatten.proofs.Accepted.{passed_check}
 use Rattle.flatten.proofs.JudgementLaws.{fails_here, passes_here}
-use borrow.Author.Rules.{rules}
 use Rattle.flatten.proofs.judgement.first_indexed.Goals as goal
 
 kind : {k : ℕ} → (k ≡ 12) ⊎ (k ≡ 14) → (12 ≤ k) × (k < 15)

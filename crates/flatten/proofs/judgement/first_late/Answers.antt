@@ -9,7 +9,6 @@ use Rattle.component.specs.Record.{record_at}
 use Rattle.checks.specs.Checks.{fails_by, IsFirst}
 use Rattle.flatten.specs.Searches.{fails_at, PassedBefore}
 use native.Mathlib.Omega.{arith}
-use borrow.Author.Rules.{rules}
 use Rattle.flatten.proofs.judgement.first_late.Goals as goal
 
 -- Of the checks 12 to 15, neither 13 nor 15.

@@ -1,12 +1,9 @@
 -- `judge_early`: the invariant: the checks made so far have passed.
 -- Assumes nothing.
 use Prim.Native.Nat.{◌-◌, ◌/◌, ◌≤◌}
-use native.Mathlib.Omega.{arith}
 use lib.ListN.{length}
 use Rattle.component.specs.Record.{record_at}
 use Rattle.flatten.specs.Searches.{PassedBefore}
-use Rattle.flatten.proofs.JudgementLaws.{judged_here, passed_next, judged_refused, judged_passed}
-use borrow.Author.Rules.{rules}
 use Rattle.flatten.proofs.judgement.judge_early.Given as goal
 
 abbrev pub invariant-loop-k : goal.invariant-loop-k

@@ -1,12 +1,10 @@
 -- `judge_late`: the invariant: the checks made so far have passed.
 -- Assumes nothing.
-use Prim.Native.Nat.{◌-◌, ◌/◌, ◌≤◌}
+use Prim.Native.Nat.{◌/◌}
 use native.Mathlib.Omega.{arith}
 use lib.ListN.{length}
 use Rattle.component.specs.Record.{record_at}
-use Rattle.flatten.specs.Searches.{PassedBefore}
 use Rattle.flatten.proofs.JudgementLaws.{judged_here, passed_next, judged_refused, judged_passed}
-use borrow.Author.Rules.{rules}
 use Rattle.flatten.proofs.judgement.judge_late.Goals as goal
 
 pub returns-in-Refused : goal.returns-in-Refused

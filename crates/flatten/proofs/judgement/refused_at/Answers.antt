@@ -1,7 +1,6 @@
 -- `refused_at`: the first record that fails, or none.
 -- Assumes nothing.
 use Rattle.flatten.proofs.JudgementLaws.{refused_first, accepted_first}
-use borrow.Author.Rules.{rules}
 use Rattle.flatten.proofs.judgement.refused_at.Goals as goal
 
 pub returns-then-p-file : goal.returns-then-p-file

@@ -5,7 +5,6 @@ use mathlib.Core.Path.{ap}
 use native.Mathlib.Omega.{arith}
 use Rattle.flatten.proofs.Accepted.{not_accepted}
 use Rattle.flatten.proofs.JudgementLaws.{sized_most, verdict_sized, verdict_early, verdict_late, readable_before}
-use borrow.Author.Rules.{rules}
 use Rattle.flatten.proofs.judgement.verdict_indexed.Goals as goal
 
 pub returns-then-not-is_sized : goal.returns-then-not-is_sized

@@ -5,7 +5,6 @@ use Prim.Native.Nat.{ℕ, ◌*◌}
 use native.Mathlib.Numerals.{add-one}
 use native.Mathlib.Omega.{arith}
 use lib.ListN.{length-set, set}
-use borrow.Author.Rules.{rules}
 use Rattle.flatten.proofs.targets.lay_target.Goals as goal
 
 pub bounds-targets-at-2 : goal.bounds-targets-at-2

@@ -2,7 +2,6 @@
 -- Assumes nothing.
 use Prim.Native.Nat.{◌*◌}
 use native.Mathlib.Omega.{arith}
-use borrow.Author.Rules.{rules}
 use Rattle.flatten.proofs.targets.target_at.Goals as goal
 
 pub overflow_cast-result : goal.overflow_cast-result

@@ -1,15 +1,8 @@
 -- `any_differs`: the invariant: whether one of the targets to come has another width is the answer.
 -- Assumes nothing.
-use mathlib.Core.Path.{◌≡◌}
-use Prim.Native.Nat.{◌-◌}
 use native.Mathlib.Omega.{arith}
-use Rattle.lists.specs.Lists.{from, any}
 use Rattle.lists.proofs.ListsLaws.{any_here, any_next, any_none}
-use Rattle.component.specs.Record.{record_at}
-use Rattle.flatten.specs.Searches.{unlike}
-use Rattle.flatten.specs.Targets.{target_in, targets_in}
 use Rattle.flatten.proofs.WidthsLaws.{differs_start, differs_at}
-use borrow.Author.Rules.{rules}
 use Rattle.flatten.proofs.widths.any_differs.Goals as goal
 
 pub loop-k-init : goal.loop-k-init

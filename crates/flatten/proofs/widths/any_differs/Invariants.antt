@@ -2,14 +2,10 @@
 -- Assumes nothing.
 use mathlib.Core.Path.{◌≡◌}
 use Prim.Native.Nat.{◌-◌}
-use native.Mathlib.Omega.{arith}
 use Rattle.lists.specs.Lists.{from, any}
-use Rattle.lists.proofs.ListsLaws.{any_here, any_next, any_none}
 use Rattle.component.specs.Record.{record_at}
 use Rattle.flatten.specs.Searches.{unlike}
 use Rattle.flatten.specs.Targets.{target_in, targets_in}
-use Rattle.flatten.proofs.WidthsLaws.{differs_start, differs_at}
-use borrow.Author.Rules.{rules}
 use Rattle.flatten.proofs.widths.any_differs.Given as goal
 
 abbrev pub invariant-loop-k : goal.invariant-loop-k

@@ -1,14 +1,12 @@
 -- `first15`: the invariant: no record before p fails.
 -- Assumes nothing.
 use mathlib.Core.Path.{refl}
-use mathlib.Core.Path.{◌≡◌}
-use Prim.Native.Nat.{◌-◌, ◌/◌, ◌≤◌}
+use Prim.Native.Nat.{◌/◌}
 use native.Mathlib.Omega.{arith}
 use lib.ListN.{length}
 use Rattle.component.specs.Record.{record_at}
-use Rattle.checks.proofs.PassesLaws.{NoneBefore, none_start, none_next, first_this, first_none}
+use Rattle.checks.proofs.PassesLaws.{none_start, none_next, first_this, first_none}
 use Rattle.flatten.specs.Descent.{fails15}
-use borrow.Author.Rules.{rules}
 use Rattle.flatten.proofs.widths.first15.Goals as goal
 
 pub loop-p-init : goal.loop-p-init

@@ -1,14 +1,11 @@
 -- `first15`: the invariant: no record before p fails.
 -- Assumes nothing.
-use mathlib.Core.Path.{refl}
 use mathlib.Core.Path.{◌≡◌}
 use Prim.Native.Nat.{◌-◌, ◌/◌, ◌≤◌}
-use native.Mathlib.Omega.{arith}
 use lib.ListN.{length}
 use Rattle.component.specs.Record.{record_at}
-use Rattle.checks.proofs.PassesLaws.{NoneBefore, none_start, none_next, first_this, first_none}
+use Rattle.checks.proofs.PassesLaws.{NoneBefore}
 use Rattle.flatten.specs.Descent.{fails15}
-use borrow.Author.Rules.{rules}
 use Rattle.flatten.proofs.widths.first15.Given as goal
 
 abbrev pub invariant-loop-p : goal.invariant-loop-p

@@ -1,11 +1,8 @@
 -- `count_up`: the numbers passed are written.
 -- Assumes nothing.
 use mathlib.Core.Path.{◌≡◌, refl}
-use Prim.Native.Nat.{◌-◌, ◌≤◌}
 use native.Mathlib.Omega.{arith}
-use lib.ListN.{length, length-set}
-use lib.Seq.{sets}
-use Rattle.lists.specs.Lists.{from}
+use lib.ListN.{length-set}
 use Rattle.lists.proofs.LayingLaws.{numbers_step}
 use Rattle.laying.proofs.names.count_up.Goals as goal
 

@@ -1,12 +1,10 @@
 -- `count_up`: the numbers passed are written.
 -- Assumes nothing.
-use mathlib.Core.Path.{◌≡◌, refl}
+use mathlib.Core.Path.{◌≡◌}
 use Prim.Native.Nat.{◌-◌, ◌≤◌}
-use native.Mathlib.Omega.{arith}
-use lib.ListN.{length, length-set}
+use lib.ListN.{length}
 use lib.Seq.{sets}
 use Rattle.lists.specs.Lists.{from}
-use Rattle.lists.proofs.LayingLaws.{numbers_step}
 use Rattle.laying.proofs.names.count_up.Given as goal
 
 abbrev pub invariant-loop-i : goal.invariant-loop-i

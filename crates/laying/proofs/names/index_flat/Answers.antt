@@ -1,13 +1,10 @@
 -- `index_flat`: the words of the components passed so far are their flat indexes, and the count is the next one's, also past the records.
 -- Assumes nothing.
 use mathlib.Core.Path.{◌≡◌, sym, ◌∙◌}
-use Prim.Native.Nat.{ℕ, ◌-◌, ◌≤◌, ◌<◌}
 use native.Mathlib.Omega.{arith}
-use lib.ListN.{length, get_or, length-set}
+use lib.ListN.{length-set}
 use Rattle.component.specs.Record.{record_at, record_count, is_primitive}
-use Rattle.flatten.specs.Descent.{flat as flatIndex}
 use Rattle.laying.proofs.StandingLaws.{flat_next, flat_same, flat_few, flat_word, flat_past}
-use borrow.Author.Rules.{rules}
 use Rattle.laying.proofs.names.index_flat.Goals as goal
 use Rattle.laying.proofs.names.index_flat.Goals.{else-is_primitive_at, then-is_primitive_at}
 

@@ -1,14 +1,10 @@
 -- `index_flat`: the words of the components passed so far are their flat indexes, and the count is the next one's, also past the records.
 -- Assumes nothing.
-use mathlib.Core.Path.{◌≡◌, sym, ◌∙◌}
-use mathlib.Core.Logic.{⊎_elim}
+use mathlib.Core.Path.{◌≡◌}
 use Prim.Native.Nat.{ℕ, ◌-◌, ◌≤◌, ◌<◌}
-use native.Mathlib.Omega.{arith}
-use lib.ListN.{length, get_or, length-set}
-use Rattle.component.specs.Record.{record_at, record_count, is_primitive}
+use lib.ListN.{length, get_or}
+use Rattle.component.specs.Record.{record_at, record_count}
 use Rattle.flatten.specs.Descent.{flat as flatIndex}
-use Rattle.laying.proofs.StandingLaws.{flat_next, flat_same, flat_few, flat_word, flat_past}
-use borrow.Author.Rules.{rules}
 use Rattle.laying.proofs.names.index_flat.Given as goal
 
 abbrev pub invariant-loop-c : goal.invariant-loop-c

@@ -3,7 +3,6 @@
 use mathlib.Core.Bool.{not}
 use mathlib.Core.Path.{ap}
 use Rattle.laying.proofs.StandingLaws.{stand_not, stand_room, stand_laid}
-use borrow.Author.Rules.{rules}
 use Rattle.laying.proofs.names.stand.Goals as goal
 
 pub returns-then-not-stands : goal.returns-then-not-stands

@@ -1,6 +1,5 @@
 -- `stands`: the numbers of the two kinds are those of the definition.
 -- Assumes nothing.
-use borrow.Author.Rules.{rules}
 use Rattle.laying.proofs.names.stands.Goals as goal
 
 pub returns : goal.returns

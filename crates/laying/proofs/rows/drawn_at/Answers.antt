@@ -1,7 +1,6 @@
 -- `drawn_at`: a record is a primitive if it is a component of such a kind.
 -- Assumes nothing.
 use Rattle.laying.proofs.PassesLaws.{drawn_none, drawn_primitive, drawn_composite}
-use borrow.Author.Rules.{rules}
 use Rattle.laying.proofs.rows.drawn_at.Goals as goal
 
 -- no component

@@ -1,7 +1,6 @@
 -- `lay_component`: the entry of a primitive is written; any other record has none.
 -- Assumes nothing.
 use Rattle.laying.proofs.PassesLaws.{row_room, row_laid}
-use borrow.Author.Rules.{rules}
 use Rattle.laying.proofs.rows.lay_component.Goals as goal
 
 pub lay_row-requires : goal.lay_row-requires

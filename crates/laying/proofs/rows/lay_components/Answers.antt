@@ -1,15 +1,10 @@
 -- `lay_components`: the entries of the primitives passed so far are laid, and what stands before the next is known.
 -- Assumes nothing.
 use Rattle.flatten.proofs.Accepted.{accepted_readable}
-use mathlib.Core.Path.{◌≡◌, refl}
-use Prim.Native.Nat.{◌-◌, ◌≤◌}
+use mathlib.Core.Path.{refl}
 use native.Mathlib.Omega.{arith}
-use Rattle.component.specs.Record.{record_at, record_count}
-use Rattle.laying.specs.Laying.{before_at, row_at}
-use Rattle.lists.proofs.LayingLaws.{Laid, laid_start, laid_length}
+use Rattle.lists.proofs.LayingLaws.{laid_start, laid_length}
 use Rattle.laying.proofs.PassesLaws.{rows_requires, rows_before, rows_step, rows_end}
-use Rattle.tables.specs.Words.{row_place}
-use borrow.Author.Rules.{rules}
 use Rattle.laying.proofs.rows.lay_components.Goals as goal
 
 pub loop-p-init : goal.loop-p-init

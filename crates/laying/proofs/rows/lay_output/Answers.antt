@@ -1,7 +1,6 @@
 -- `lay_output`: the starting values of a primitive are written; any other record has none.
 -- Assumes nothing.
 use Rattle.laying.proofs.PortsLaws.{outputs_none, const_room, const_laid, zeros_room, zeros_laid}
-use borrow.Author.Rules.{rules}
 use Rattle.laying.proofs.rows.lay_output.Goals as goal
 
 pub returns-in_default : goal.returns-in_default

@@ -1,13 +1,9 @@
 -- `lay_outputs`: the starting values of the primitives passed so far are laid.
 -- Assumes nothing.
 use Rattle.flatten.proofs.Accepted.{accepted_readable}
-use Prim.Native.Nat.{◌-◌, ◌≤◌}
 use native.Mathlib.Omega.{arith}
-use Rattle.component.specs.Record.{record_at, record_count}
-use Rattle.laying.specs.Laying.{outputs_laid}
-use Rattle.lists.proofs.LayingLaws.{Laid, laid_start, laid_length}
+use Rattle.lists.proofs.LayingLaws.{laid_start, laid_length}
 use Rattle.laying.proofs.PortsLaws.{outputs_requires, outputs_step, outputs_end_lem}
-use borrow.Author.Rules.{rules}
 use Rattle.laying.proofs.rows.lay_outputs.Goals as goal
 
 pub loop-p-init : goal.loop-p-init

@@ -1,10 +1,8 @@
 -- `zeros`: as many zeros are written as were passed.
 -- Assumes nothing.
 use mathlib.Core.Path.{◌≡◌, refl}
-use Prim.Native.Nat.{◌-◌, ◌≤◌}
 use native.Mathlib.Omega.{arith}
-use lib.ListN.{length, replicate, length-set}
-use lib.Seq.{sets}
+use lib.ListN.{length-set}
 use Rattle.lists.proofs.LayingLaws.{zeros_step}
 use Rattle.laying.proofs.rows.zeros.Goals as goal
 

@@ -1,11 +1,9 @@
 -- `zeros`: as many zeros are written as were passed.
 -- Assumes nothing.
-use mathlib.Core.Path.{◌≡◌, refl}
+use mathlib.Core.Path.{◌≡◌}
 use Prim.Native.Nat.{◌-◌, ◌≤◌}
-use native.Mathlib.Omega.{arith}
-use lib.ListN.{length, replicate, length-set}
+use lib.ListN.{length, replicate}
 use lib.Seq.{sets}
-use Rattle.lists.proofs.LayingLaws.{zeros_step}
 use Rattle.laying.proofs.rows.zeros.Given as goal
 
 abbrev pub invariant-loop-i : goal.invariant-loop-i

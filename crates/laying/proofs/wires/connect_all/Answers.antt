@@ -1,15 +1,9 @@
 -- `connect_all`: the wires of the records passed so far are laid.
 -- Assumes nothing.
-use mathlib.Core.Path.{◌≡◌, refl}
-use borrow.Author.Rules.{rules}
-use Prim.Native.Nat.{◌-◌, ◌/◌, ◌≤◌}
+use mathlib.Core.Path.{refl}
 use native.Mathlib.Omega.{arith}
-use lib.ListN.{length}
-use Rattle.component.specs.Record.{record_at}
-use Rattle.laying.specs.Laying.{wires_given}
-use Rattle.lists.proofs.LayingLaws.{Laid, laid_start, laid_length}
+use Rattle.lists.proofs.LayingLaws.{laid_start, laid_length}
 use Rattle.laying.proofs.WiresLaws.{wires_requires, wires_step, wires_end}
-use Rattle.tables.specs.Words.{wire_place}
 use Rattle.laying.proofs.wires.connect_all.Goals as goal
 
 pub loop-p-init : goal.loop-p-init

@@ -1,14 +1,11 @@
 -- `connect_all`: the wires of the records passed so far are laid.
 -- Assumes nothing.
-use mathlib.Core.Path.{◌≡◌, refl}
-use borrow.Author.Rules.{rules}
+use mathlib.Core.Path.{◌≡◌}
 use Prim.Native.Nat.{◌-◌, ◌/◌, ◌≤◌}
-use native.Mathlib.Omega.{arith}
 use lib.ListN.{length}
 use Rattle.component.specs.Record.{record_at}
 use Rattle.laying.specs.Laying.{wires_given}
-use Rattle.lists.proofs.LayingLaws.{Laid, laid_start, laid_length}
-use Rattle.laying.proofs.WiresLaws.{wires_requires, wires_step, wires_end}
+use Rattle.lists.proofs.LayingLaws.{Laid}
 use Rattle.tables.specs.Words.{wire_place}
 use Rattle.laying.proofs.wires.connect_all.Given as goal
 

@@ -2,11 +2,10 @@
 -- Assumes nothing.
 use mathlib.Core.Path.{refl}
 use native.Mathlib.Omega.{arith}
-use borrow.Author.Rules.{rules}
 use Rattle.laying.proofs.wires.flat_pin.Goals as goal
 
 pub overflow_cast-result : goal.overflow_cast-result
-overflow_cast-result c = omega (arith, c.shared_slice_known-1.given c.args.pin.comp)
+overflow_cast-result c = omega (arith, c.type_inv.indexes c.args.pin.comp)
 
 pub returns : goal.returns
-returns c = (refl, omega (arith, c.shared_slice_known-1.given c.args.pin.comp))
+returns c = (refl, omega (arith, c.type_inv.indexes c.args.pin.comp))

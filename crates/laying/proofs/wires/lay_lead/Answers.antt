@@ -2,7 +2,6 @@
 -- Assumes nothing.
 use mathlib.Core.Path.{ap, ◌∙◌}
 use lib.Seq.{sets}
-use borrow.Author.Rules.{rules}
 use Rattle.tables.specs.declared.End.{End}
 use Rattle.tables.specs.Tables.{wire_words}
 use Rattle.tables.specs.Words.{wire_place}

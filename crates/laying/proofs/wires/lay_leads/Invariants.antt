@@ -1,14 +1,10 @@
 -- `lay_leads`: the wires to the targets passed so far are laid.
 -- Assumes nothing.
-use mathlib.Core.Path.{◌≡◌}
 use Prim.Native.Nat.{◌+◌, ◌-◌, ◌≤◌}
-use native.Mathlib.Omega.{arith}
-use lib.ListN.{length}
 use Rattle.lists.specs.Lists.{joined}
 use Rattle.flatten.specs.Targets.{targets_in}
 use Rattle.tables.specs.Words.{wire_place}
 use Rattle.laying.specs.Laying.{Written, lead_by}
-use Rattle.laying.proofs.WiresLaws.{leads_start, leads_size, leads_step, leads_end}
 use Rattle.laying.proofs.wires.lay_leads.Given as goal
 
 abbrev pub invariant-loop-k : goal.invariant-loop-k

@@ -1,7 +1,6 @@
 -- `judge_look`: a list is too short, or what a load is judged to be.
 -- Assumes nothing.
 use Rattle.tables.specs.Tables.{tables_of}
-use borrow.Author.Rules.{rules}
 use Rattle.flatten.proofs.Accepted.{not_accepted}
 use Rattle.look.proofs.LookLaws.{own_lists, own_load}
 use Rattle.look.proofs.looking.judge_look.Goals as goal

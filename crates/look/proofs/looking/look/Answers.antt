@@ -1,7 +1,6 @@
 -- `look`: each way out is one of the cases of the definition.
 -- Assumes nothing.
 use mathlib.Core.Path.{sym, ◌∙◌}
-use borrow.Author.Rules.{rules}
 use Rattle.component.specs.Record.{record_at, record_count}
 use Rattle.flatten.proofs.Accepted.{accepted_passed}
 use Rattle.tables.specs.Tables.{tables_of}

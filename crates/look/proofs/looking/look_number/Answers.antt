@@ -1,7 +1,6 @@
 -- `look_number`: each way out is one of the cases of the definition.
 -- Assumes nothing.
 use native.Mathlib.Omega.{arith}
-use borrow.Author.Rules.{rules}
 use Rattle.component.specs.Record.{record_at, record_count}
 use Rattle.tables.specs.Tables.{tables_of}
 use Rattle.net.proofs.NetLaws.{passed_net, net_number-sizes}

@@ -5,7 +5,6 @@ use Rattle.value.specs.declared.Value.{Value}
 use Rattle.kinds.specs.declared.table.Fields.{Fields}
 use Rattle.look.specs.declared.Looked.TheVariants.{Shown}
 use Rattle.look.proofs.ShowLaws.{first_room, second_room, both_shown}
-use borrow.Author.Rules.{rules}
 use Rattle.look.proofs.showing.show.Goals as goal
 
 pub show_side-requires : goal.show_side-requires

@@ -1,10 +1,10 @@
 -- `show_side`: the ports passed are shown.
 -- Assumes nothing.
 use mathlib.Core.Path.{◌≡◌, refl, ap, ◌∙◌}
-use Prim.Native.Nat.{ℕ, ◌-◌, ◌≤◌}
+use Prim.Native.Nat.{ℕ}
 use native.Mathlib.Omega.{arith}
 use mathlib.Core.List.{map}
-use lib.ListN.{length, length-set}
+use lib.ListN.{length-set}
 use lib.Seq.{sets}
 use Rattle.lists.specs.Lists.{from}
 use Rattle.value.specs.declared.Value.{Value}
@@ -12,7 +12,6 @@ use Rattle.component.specs.Record.{record_at, record_count}
 use Rattle.boxes.specs.Boxes.{ports_on}
 use Rattle.look.specs.Looking.{ported, value_shown}
 use Rattle.look.proofs.ShowLaws.{shown_step}
-use borrow.Author.Rules.{rules}
 use Rattle.look.proofs.showing.show_side.Goals as goal
 
 pub loop-i-init : goal.loop-i-init

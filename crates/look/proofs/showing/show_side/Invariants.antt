@@ -1,18 +1,14 @@
 -- `show_side`: the ports passed are shown.
 -- Assumes nothing.
-use mathlib.Core.Path.{◌≡◌, refl, ap, ◌∙◌}
-use Prim.Native.Nat.{ℕ, ◌-◌, ◌≤◌}
-use native.Mathlib.Omega.{arith}
+use mathlib.Core.Path.{◌≡◌}
+use Prim.Native.Nat.{◌-◌, ◌≤◌}
 use mathlib.Core.List.{map}
-use lib.ListN.{length, length-set}
+use lib.ListN.{length}
 use lib.Seq.{sets}
 use Rattle.lists.specs.Lists.{from}
 use Rattle.value.specs.declared.Value.{Value}
 use Rattle.component.specs.Record.{record_at, record_count}
-use Rattle.boxes.specs.Boxes.{ports_on}
 use Rattle.look.specs.Looking.{ported, value_shown}
-use Rattle.look.proofs.ShowLaws.{shown_step}
-use borrow.Author.Rules.{rules}
 use Rattle.look.proofs.showing.show_side.Given as goal
 
 abbrev pub invariant-loop-i : goal.invariant-loop-i

@@ -1,7 +1,6 @@
 -- `value_shown`: the port shown stands in the tables.
 -- Assumes nothing.
 use Rattle.look.proofs.ShowLaws.{shown_number, shown_row, shown_port, shown_value}
-use borrow.Author.Rules.{rules}
 use Rattle.look.proofs.showing.value_shown.Goals as goal
 
 pub flat_pin-end-requires : goal.flat_pin-end-requires
