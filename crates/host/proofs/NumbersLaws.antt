@@ -1,7 +1,7 @@
 -- The number of an evaluation is at most 28, at position 0; a load's number and position fit the answer.
 -- Assumes nothing.
 use mathlib.Core.Path.{◌≡◌, refl, sym, ap, ◌∙◌, subst}
-use mathlib.Core.Bool.{Bool, true, false, cond, not, ◌&&◌, ◌||◌}
+use mathlib.Core.Bool.{cond, not, ◌&&◌, ◌||◌}
 use mathlib.Core.List.{List, [], ◌∷◌}
 use Prim.Native.Nat.{ℕ, ◌≤◌, ◌<◌}
 use native.Mathlib.Omega.{arith}
@@ -12,7 +12,6 @@ use Rattle.kinds.specs.declared.table.Fields.{Fields}
 use Rattle.kinds.specs.Kinds.{for_custom, unknown, primitive, obeys, input_width, output_width}
 use Rattle.kinds.specs.Given.{Given, giving, spoken}
 use Rattle.primitive.specs.Evaluate.{fitting, evaluate_number}
-use Rattle.component.specs.declared.Verdict.{Verdict}
 use Rattle.component.specs.Record.{sized}
 use Rattle.flatten.specs.Verdict.{refused, verdict_gives}
 use Rattle.meeting.specs.Meeting.{judgement}

@@ -7,7 +7,6 @@ use Rattle.questions.specs.Questions.{index_gives, AsksIndex}
 use Rattle.words.proofs.PlainLaws.{plain_fits, plain_spoken}
 use Rattle.words.proofs.SaidLaws.{enough_found}
 use Rattle.asking.proofs.AskingLaws.{index_plain, ask_short, ask_made}
-use borrow.Author.Rules.{rules}
 use Rattle.asking.proofs.index_of.berxundar_index.Goals as goal
 use Rattle.asking.proofs.index_of.berxundar_index.Lts as lts
 use Rattle.asking.proofs.index_of.berxundar_index.Tie as tie

@@ -16,7 +16,6 @@ use Rattle.net.specs.Net.{net_number, Checks}
 use Rattle.words.specs.Words.{values_in}
 use Rattle.words.proofs.PlainLaws.{net_small, Plain, giving_plain}
 use Rattle.asking.proofs.AskingLaws.{ask_short, ask_made}
-use borrow.Author.Rules.{rules}
 use Rattle.asking.proofs.is_net.berxundar_check.Goals as goal
 use Rattle.asking.proofs.is_net.berxundar_check.Lts as lts
 use Rattle.asking.proofs.is_net.berxundar_check.Tie as tie

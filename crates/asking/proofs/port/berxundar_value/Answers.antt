@@ -9,7 +9,6 @@ use Rattle.words.specs.Words.{side_of}
 use Rattle.words.proofs.PlainLaws.{plain_fits, plain_spoken}
 use Rattle.words.proofs.SaidLaws.{enough_found}
 use Rattle.asking.proofs.AskingLaws.{value_plain, ask_short, ask_made}
-use borrow.Author.Rules.{rules}
 use Rattle.asking.proofs.port.berxundar_value.Goals as goal
 use Rattle.asking.proofs.port.berxundar_value.Lts as lts
 use Rattle.asking.proofs.port.berxundar_value.Tie as tie

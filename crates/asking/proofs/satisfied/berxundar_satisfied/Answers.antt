@@ -8,7 +8,6 @@ use Rattle.questions.specs.Questions.{whether_gives, AsksSatisfied}
 use Rattle.words.proofs.PlainLaws.{plain_fits, plain_spoken}
 use Rattle.words.proofs.SaidLaws.{enough_found}
 use Rattle.asking.proofs.AskingLaws.{whether_plain, ask_short, ask_made}
-use borrow.Author.Rules.{rules}
 use Rattle.asking.proofs.satisfied.berxundar_satisfied.Goals as goal
 use Rattle.asking.proofs.satisfied.berxundar_satisfied.Lts as lts
 use Rattle.asking.proofs.satisfied.berxundar_satisfied.Tie as tie

@@ -7,7 +7,6 @@ use Rattle.questions.specs.Questions.{list_gives, AsksSources}
 use Rattle.words.proofs.PlainLaws.{plain_fits, plain_spoken}
 use Rattle.words.proofs.SaidLaws.{enough_found}
 use Rattle.asking.proofs.AskingLaws.{listed_plain, list_short, list_made}
-use borrow.Author.Rules.{rules}
 use Rattle.asking.proofs.sources.berxundar_sources.Goals as goal
 use Rattle.asking.proofs.sources.berxundar_sources.Lts as lts
 use Rattle.asking.proofs.sources.berxundar_sources.Tie as tie

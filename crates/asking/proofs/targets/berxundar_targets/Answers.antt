@@ -7,7 +7,6 @@ use Rattle.questions.specs.Questions.{list_gives, AsksTargets}
 use Rattle.words.proofs.PlainLaws.{plain_fits, plain_spoken}
 use Rattle.words.proofs.SaidLaws.{enough_found}
 use Rattle.asking.proofs.AskingLaws.{listed_plain, list_short, list_made}
-use borrow.Author.Rules.{rules}
 use Rattle.asking.proofs.targets.berxundar_targets.Goals as goal
 use Rattle.asking.proofs.targets.berxundar_targets.Lts as lts
 use Rattle.asking.proofs.targets.berxundar_targets.Tie as tie

@@ -8,7 +8,6 @@ use Rattle.simulator.specs.Calls.{Edits}
 use Rattle.words.proofs.PlainLaws.{plain_fits, plain_spoken}
 use Rattle.words.proofs.SaidLaws.{change_short, change_made}
 use Rattle.changing.proofs.ChangingLaws.{edited_plain}
-use borrow.Author.Rules.{rules}
 use Rattle.changing.proofs.edit.berxundar_edit.Goals as goal
 use Rattle.changing.proofs.edit.berxundar_edit.Lts as lts
 use Rattle.changing.proofs.edit.berxundar_edit.Tie as tie

@@ -6,7 +6,6 @@ use Rattle.tables.specs.Tables.{Tables, tables_of, answer_gives}
 use Rattle.simulator.specs.Calls.{Rounds}
 use Rattle.words.proofs.PlainLaws.{plain_fits, plain_spoken}
 use Rattle.changing.proofs.ChangingLaws.{round_short, round_answered, rounded_plain}
-use borrow.Author.Rules.{rules}
 use Rattle.changing.proofs.round.berxundar_round.Goals as goal
 use Rattle.changing.proofs.round.berxundar_round.Lts as lts
 use Rattle.changing.proofs.round.berxundar_round.Tie as tie

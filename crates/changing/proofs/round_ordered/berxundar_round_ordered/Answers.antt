@@ -6,7 +6,6 @@ use Rattle.tables.specs.Tables.{Tables, tables_of, answer_gives}
 use Rattle.simulator.specs.Ordered.{RoundsOrdered}
 use Rattle.words.proofs.PlainLaws.{plain_fits, plain_spoken}
 use Rattle.changing.proofs.ChangingLaws.{round_short, round_answered, ordered_plain}
-use borrow.Author.Rules.{rules}
 use Rattle.changing.proofs.round_ordered.berxundar_round_ordered.Goals as goal
 use Rattle.changing.proofs.round_ordered.berxundar_round_ordered.Lts as lts
 use Rattle.changing.proofs.round_ordered.berxundar_round_ordered.Tie as tie

@@ -7,7 +7,6 @@ use Rattle.simulator.specs.Calls.{ran_gives, Runs}
 use Rattle.words.proofs.PlainLaws.{plain_fits, plain_spoken}
 use Rattle.words.proofs.SaidLaws.{enough_counts, enough_found}
 use Rattle.changing.proofs.ChangingLaws.{changed_plain, run_short, run_made}
-use borrow.Author.Rules.{rules}
 use Rattle.changing.proofs.run.berxundar_run_until_calm.Goals as goal
 use Rattle.changing.proofs.run.berxundar_run_until_calm.Lts as lts
 use Rattle.changing.proofs.run.berxundar_run_until_calm.Tie as tie

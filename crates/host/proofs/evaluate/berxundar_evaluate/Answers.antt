@@ -7,7 +7,6 @@ use Rattle.primitive.specs.Evaluate.{evaluated_gives}
 use Rattle.host.specs.Host.{fields_from, few_to_evaluate, evaluated}
 use Rattle.words.proofs.PlainLaws.{plain_fits, plain_spoken}
 use Rattle.host.proofs.NumbersLaws.{evaluate_plain}
-use borrow.Author.Rules.{rules}
 use Rattle.host.proofs.evaluate.berxundar_evaluate.Goals as goal
 
 pub returns-then-found-lt1 : goal.returns-then-found-lt1

@@ -7,7 +7,6 @@ use Rattle.kinds.specs.Given.{spoken}
 use Rattle.component.specs.declared.Verdict.{Verdict}
 use Rattle.flatten.specs.Verdict.{verdict_gives}
 use Rattle.flatten.proofs.JudgementLaws.{verdict_bound}
-use borrow.Author.Rules.{rules}
 use Rattle.host.proofs.judge.berxundar_judge.Goals as goal
 
 pub overflow_mul-result : goal.overflow_mul-result

@@ -7,7 +7,6 @@ use Rattle.kinds.specs.Given.{spoken_pair}
 use Rattle.component.specs.declared.Verdict.{Verdict}
 use Rattle.flatten.specs.Verdict.{verdict_gives}
 use Rattle.meeting.proofs.MeetingLaws.{judges_judgement, judgement_small}
-use borrow.Author.Rules.{rules}
 use Rattle.host.proofs.judge.berxundar_judge_pair.Goals as goal
 
 pub overflow_add-result : goal.overflow_add-result

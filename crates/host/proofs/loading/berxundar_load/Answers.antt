@@ -1,13 +1,11 @@
 -- `berxundar_load`: a file of no size, too few count words, or what the engine answers.
 -- Assumes nothing.
 use mathlib.Core.Path.{sym, ◌∙◌}
-use borrow.Author.Tests.{not-true, not-false}
 use Rattle.tables.specs.declared.Counts.{Counts}
 use Rattle.tables.specs.Tables.{Tables, tables_of, answer_gives}
 use Rattle.words.specs.Words.{counts_in}
 use Rattle.host.proofs.NumbersLaws.{load_small}
 use Rattle.host.proofs.HostLaws.{load_unsized, load_short, load_made}
-use borrow.Author.Rules.{rules}
 use Rattle.host.proofs.loading.berxundar_load.Goals as goal
 use Rattle.host.proofs.loading.berxundar_load.Lts as lts
 use Rattle.host.proofs.loading.berxundar_load.Tie as tie

@@ -1,13 +1,11 @@
 -- `berxundar_look`: a file of no size, too few words, or what the engine answers.
 -- Assumes nothing.
 use mathlib.Core.Path.{sym, ◌∙◌}
-use borrow.Author.Tests.{not-true, not-false}
 use Rattle.tables.specs.declared.Counts.{Counts}
 use Rattle.tables.specs.Tables.{Tables, tables_of}
 use Rattle.look.specs.Look.{look_gives}
 use Rattle.words.proofs.SaidLaws.{enough_found}
 use Rattle.host.proofs.LookedLaws.{look_small, look_unsized, look_short, look_made}
-use borrow.Author.Rules.{rules}
 use Rattle.host.proofs.looking.berxundar_look.Goals as goal
 use Rattle.host.proofs.looking.berxundar_look.Lts as lts
 use Rattle.host.proofs.looking.berxundar_look.Tie as tie

@@ -6,7 +6,6 @@ use Rattle.kinds.specs.Given.{spoken}
 use Rattle.look.specs.declared.Looked.TheVariants.{Refused}
 use Rattle.look.specs.Look.{look_gives}
 use Rattle.words.proofs.WordsLaws.{two_laid, none_laid}
-use borrow.Author.Rules.{rules}
 use Rattle.host.proofs.looking.lay_looked.Goals as goal
 
 pub overflow_mul-result : goal.overflow_mul-result

@@ -3,7 +3,6 @@
 use native.Mathlib.Omega.{arith}
 use Rattle.mend.specs.Mend.{mend_gives}
 use Rattle.host.proofs.MendedLaws.{mend_small, mend_unsized, mend_short, mend_made}
-use borrow.Author.Rules.{rules}
 use Rattle.host.proofs.mending.berxundar_mend.Goals as goal
 
 pub returns-then-n : goal.returns-then-n

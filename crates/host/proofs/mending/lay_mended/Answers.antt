@@ -6,7 +6,6 @@ use Rattle.kinds.specs.Given.{spoken}
 use Rattle.mend.specs.declared.Mended.TheVariants.{Refused}
 use Rattle.mend.specs.Mend.{mend_gives}
 use Rattle.words.proofs.WordsLaws.{two_laid, none_laid}
-use borrow.Author.Rules.{rules}
 use Rattle.host.proofs.mending.lay_mended.Goals as goal
 
 pub overflow_mul-result : goal.overflow_mul-result

@@ -3,7 +3,6 @@
 use native.Mathlib.Omega.{arith}
 use Rattle.simulator.specs.Edit.{stands}
 use Rattle.slow.proofs.EditingLaws.{edits_refused, edits_index, edits_room_standing, edits_stand}
-use borrow.Author.Rules.{rules}
 use Rattle.slow.proofs.editing.edit_standing.Goals as goal
 
 pub returns-in-Refused : goal.returns-in-Refused

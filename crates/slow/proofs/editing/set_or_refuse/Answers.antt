@@ -1,13 +1,12 @@
 -- `set_or_refuse`: refused by its checks, and nothing written; or the port set, which is there.
 -- Assumes nothing.
-use mathlib.Core.Path.{◌≡◌, refl, sym, ap, ◌∙◌}
+use mathlib.Core.Path.{refl, sym, ap, ◌∙◌}
 use mathlib.Core.Bool.{Bool}
 use Rattle.component.specs.Record.{record_at, record_count}
 use Rattle.simulator.specs.Asked.{edit_refusal}
-use Rattle.slow.specs.Slow.{SlowTables, slow_tables_of, slow_full, slow_number, slow_verdict, led_into}
+use Rattle.slow.specs.Slow.{slow_tables_of, slow_number, slow_verdict}
 use Rattle.slow.specs.Sending.{prepared_verdict}
 use Rattle.slow.proofs.EditingLaws.{edit_declined, edit_refused, edit_passed, number_given, row_there, port_output, port_input}
-use borrow.Author.Rules.{rules}
 use Rattle.slow.proofs.editing.set_or_refuse.Goals as goal
 
 pub prepare-requires : goal.prepare-requires

@@ -1,21 +1,14 @@
 -- `any_into`: one of the targets still to come is an input of component i exactly if one of all is.
 -- Assumes nothing.
-use mathlib.Core.Path.{◌≡◌, ap, sym, ◌∙◌}
+use mathlib.Core.Path.{◌≡◌}
 use mathlib.Core.Bool.{Bool}
 use mathlib.Core.List.{List}
 use Prim.Native.Nat.{ℕ, ◌-◌, ◌≤◌}
-use native.Mathlib.Omega.{arith}
-use native.Mathlib.Nat.{sub-zero}
-use borrow.Author.Tests.{eq-eqb, ne_eqb}
 use lib.Dec.{eqb}
 use Rattle.lists.specs.Lists.{from, any}
-use Rattle.lists.proofs.ListsLaws.{any_here, any_next, any_none}
-use Rattle.lists.proofs.MembersLaws.{any_map}
 use Rattle.flatten.specs.declared.Pin.{Pin}
 use Rattle.flatten.specs.Targets.{target_in, targets_in}
-use Rattle.tables.specs.declared.End.{End}
 use Rattle.laying.specs.Laying.{end_by}
-use borrow.Author.Rules.{rules}
 use Rattle.slow.proofs.entering.any_into.Given as goal
 
 -- Target k of the table is an input of component i.

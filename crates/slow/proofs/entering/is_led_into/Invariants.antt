@@ -1,15 +1,11 @@
 -- `is_led_into`: one of the records still to come leads into component i exactly if one of all does.
 -- Assumes nothing.
-use mathlib.Core.Path.{◌≡◌, refl, sym, ◌∙◌}
+use mathlib.Core.Path.{◌≡◌}
 use Prim.Native.Nat.{◌-◌, ◌≤◌}
-use native.Mathlib.Omega.{arith}
 use lib.ListN.{length}
 use Rattle.lists.specs.Lists.{from, any}
-use Rattle.lists.proofs.ListsLaws.{any_here, any_next, any_none}
 use Rattle.component.specs.Record.{record_at, record_count}
 use Rattle.slow.specs.Slow.{led_into, enters_by}
-use Rattle.slow.proofs.LeadingLaws.{led_into-start}
-use borrow.Author.Rules.{rules}
 use Rattle.slow.proofs.entering.is_led_into.Given as goal
 
 abbrev pub invariant-loop-p : goal.invariant-loop-p

@@ -11,13 +11,11 @@ use Rattle.flatten.proofs.DescentLaws.{connection_at}
 use Rattle.flatten.proofs.TargetsLaws.{listed_length}
 use Rattle.flatten.proofs.ConnectionLaws.{connection_room, connection_within}
 use Rattle.laying.proofs.WiresLaws.{source_number, targets_small}
-use Rattle.tables.specs.Tables.{Tables}
-use Rattle.rounds.specs.Round.{State, send}
+use Rattle.rounds.specs.Round.{send}
 use Rattle.rounds.specs.Steps.{state_at}
 use Rattle.slow.specs.Sending.{bare}
 use Rattle.slow.proofs.DrawingLaws.{leaving_reach}
 use Rattle.slow.proofs.LeadingLaws.{but_connection, leaves_refused, leaves_other, leaves_elsewhere, leaves_here, here_member}
-use borrow.Author.Rules.{rules}
 use Rattle.slow.proofs.leading.send_connection.Goals as goal
 
 pub returns-in_default : goal.returns-in_default

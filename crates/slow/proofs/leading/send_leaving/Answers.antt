@@ -1,20 +1,15 @@
 -- `send_leaving`: what the records still to come make of the state is what all of them make of the state that came in.
 -- Assumes nothing.
-use mathlib.Core.Path.{◌≡◌, refl, ◌∙◌}
-use mathlib.Core.List.{[], foldl}
-use Prim.Native.Nat.{◌≤◌, ◌-◌}
+use mathlib.Core.Path.{refl, ◌∙◌}
+use mathlib.Core.List.{[]}
 use native.Mathlib.Omega.{arith}
-use lib.ListN.{length, take}
-use Rattle.lists.specs.Lists.{from, joined}
+use lib.ListN.{take}
 use Rattle.component.specs.Record.{record_at, record_count}
-use Rattle.rounds.specs.Round.{send}
 use Rattle.rounds.specs.Steps.{state_at}
-use Rattle.rounds.specs.Links.{ListMarked}
-use Rattle.slow.specs.Slow.{leaving_by, leaving}
+use Rattle.slow.specs.Slow.{leaving_by}
 use Rattle.slow.specs.Sending.{bare}
 use Rattle.slow.proofs.DrawingLaws.{drawing_kept}
 use Rattle.slow.proofs.LeadingLaws.{records_start, records_next, records_end}
-use borrow.Author.Rules.{rules}
 use Rattle.slow.proofs.leading.send_leaving.Goals as goal
 
 pub loop-p-init : goal.loop-p-init

@@ -1,9 +1,8 @@
 -- `send_leaving`: what the records still to come make of the state is what all of them make of the state that came in.
 -- Assumes nothing.
-use mathlib.Core.Path.{◌≡◌, refl, ◌∙◌}
+use mathlib.Core.Path.{◌≡◌}
 use mathlib.Core.List.{[], foldl}
 use Prim.Native.Nat.{◌≤◌, ◌-◌}
-use native.Mathlib.Omega.{arith}
 use lib.ListN.{length, take}
 use Rattle.lists.specs.Lists.{from, joined}
 use Rattle.component.specs.Record.{record_at, record_count}
@@ -12,9 +11,6 @@ use Rattle.rounds.specs.Steps.{state_at}
 use Rattle.rounds.specs.Links.{ListMarked}
 use Rattle.slow.specs.Slow.{leaving_by, leaving}
 use Rattle.slow.specs.Sending.{bare}
-use Rattle.slow.proofs.DrawingLaws.{drawing_kept}
-use Rattle.slow.proofs.LeadingLaws.{records_start, records_next, records_end}
-use borrow.Author.Rules.{rules}
 use Rattle.slow.proofs.leading.send_leaving.Given as goal
 
 abbrev pub invariant-loop-p : goal.invariant-loop-p

@@ -1,20 +1,15 @@
 -- `send_to`: what the wires to the targets still to come make of the state is what all of them make of the state that came in.
 -- Assumes nothing.
-use mathlib.Core.Path.{◌≡◌, refl, ◌∙◌}
-use mathlib.Core.List.{[], map, foldl}
-use Prim.Native.Nat.{◌≤◌, ◌-◌}
+use mathlib.Core.Path.{refl, ◌∙◌}
+use mathlib.Core.List.{[]}
 use native.Mathlib.Omega.{arith}
-use lib.ListN.{length, take}
-use Rattle.lists.specs.Lists.{from}
-use Rattle.flatten.specs.Targets.{target_in, targets_in}
-use Rattle.tables.specs.Tables.{Tables, counts_of}
-use Rattle.rounds.specs.Round.{send}
+use lib.ListN.{take}
+use Rattle.flatten.specs.Targets.{target_in}
+use Rattle.tables.specs.Tables.{counts_of}
 use Rattle.rounds.specs.Steps.{state_at, CanReach}
-use Rattle.rounds.specs.Links.{ListMarked}
 use Rattle.rounds.proofs.StepsLaws.{send_bare, reach_sends, sent_listed}
 use Rattle.slow.specs.Sending.{lead_to, bare}
 use Rattle.slow.proofs.LeadingLaws.{sends_start, sends_next, sends_end, reach_kept}
-use borrow.Author.Rules.{rules}
 use Rattle.slow.proofs.leading.send_to.Goals as goal
 
 pub loop-k-init : goal.loop-k-init
@@ -39,8 +34,7 @@ send_along-reached-requires c =
     let l = c.loop-k in
     let reach : CanReach (bare c.args.components.now) l.inputs c.args.outputs.now (record { src = c.args.from; dst = c.flat_pin-to.result }) =
     reach_kept (bare c.args.components.now) c.args.inputs.now c.args.outputs.now l.inputs _
-    (rw (c.flat_pin-to.ensures.0, c.target_at.ensures) (c.requires.list_marked.1 l.k c.loop-k-test.true)) l.invariant.1 in
-    (
+    (rw (c.flat_pin-to.ensures.0, c.target_at.ensures) (c.requires.list_marked.1 l.k c.loop-k-test.true)) l.invariant.1 in (
       reach_sends c.args.components.now [] (counts_of 256 1024 1024 0 256 256 256) l.inputs c.args.outputs.now _ reach
           l.reached l.following l.invariant.3.fits,
       l.invariant.3.marked,
@@ -53,8 +47,7 @@ loop-k-preserved c =
     let r = c.send_along-reached in
     let reach : CanReach (bare c.args.components.now) l.inputs c.args.outputs.now (record { src = c.args.from; dst = c.flat_pin-to.result }) =
     reach_kept (bare c.args.components.now) c.args.inputs.now c.args.outputs.now l.inputs _
-    (rw (c.flat_pin-to.ensures.0, c.target_at.ensures) (c.requires.list_marked.1 l.k c.loop-k-test.true)) l.invariant.1 in
-    (
+    (rw (c.flat_pin-to.ensures.0, c.target_at.ensures) (c.requires.list_marked.1 l.k c.loop-k-test.true)) l.invariant.1 in (
       omega (arith, b),
       r.auto.inputs ∙ l.invariant.1,
       r.auto.following ∙ l.invariant.2,

@@ -1,20 +1,15 @@
 -- `send_to`: what the wires to the targets still to come make of the state is what all of them make of the state that came in.
 -- Assumes nothing.
-use mathlib.Core.Path.{◌≡◌, refl, ◌∙◌}
+use mathlib.Core.Path.{◌≡◌}
 use mathlib.Core.List.{[], map, foldl}
 use Prim.Native.Nat.{◌≤◌, ◌-◌}
-use native.Mathlib.Omega.{arith}
 use lib.ListN.{length, take}
 use Rattle.lists.specs.Lists.{from}
 use Rattle.flatten.specs.Targets.{target_in, targets_in}
-use Rattle.tables.specs.Tables.{Tables, counts_of}
 use Rattle.rounds.specs.Round.{send}
-use Rattle.rounds.specs.Steps.{state_at, CanReach}
+use Rattle.rounds.specs.Steps.{state_at}
 use Rattle.rounds.specs.Links.{ListMarked}
-use Rattle.rounds.proofs.StepsLaws.{send_bare, reach_sends, sent_listed}
 use Rattle.slow.specs.Sending.{lead_to, bare}
-use Rattle.slow.proofs.LeadingLaws.{sends_start, sends_next, sends_end, reach_kept}
-use borrow.Author.Rules.{rules}
 use Rattle.slow.proofs.leading.send_to.Given as goal
 
 abbrev pub invariant-loop-k : goal.invariant-loop-k

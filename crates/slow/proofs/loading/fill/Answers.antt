@@ -2,10 +2,9 @@
 -- Assumes nothing.
 use Rattle.load.proofs.LoadLaws.{inputs_room, current_room, copy_room}
 use Rattle.slow.specs.declared.SlowCounts.{SlowCounts}
-use Rattle.slow.specs.Slow.{SlowTables, slow_tables_of}
-use Rattle.slow.proofs.PreparingLaws.{SlowSizes, slow_full-sound}
+use Rattle.slow.specs.Slow.{slow_tables_of}
+use Rattle.slow.proofs.PreparingLaws.{slow_full-sound}
 use Rattle.slow.proofs.CallsLaws.{load_filled}
-use borrow.Author.Rules.{rules}
 use Rattle.slow.proofs.loading.fill.Goals as goal
 
 pub zeros-requires : goal.zeros-requires

@@ -2,11 +2,9 @@
 -- Assumes nothing.
 use mathlib.Core.Path.{sym, ap, ◌∙◌}
 use mathlib.Core.Bool.{Bool}
-use Rattle.slow.specs.declared.SlowCounts.{SlowCounts}
-use Rattle.slow.specs.Slow.{SlowTables, slow_tables_of, slow_verdict}
+use Rattle.slow.specs.Slow.{slow_tables_of, slow_verdict}
 use Rattle.slow.proofs.PreparingLaws.{lent_long, lent_accepted}
 use Rattle.slow.proofs.CallsLaws.{load_refused, load_done}
-use borrow.Author.Rules.{rules}
 use Rattle.slow.proofs.loading.load.Goals as goal
 
 pub returns-in-Refused : goal.returns-in-Refused

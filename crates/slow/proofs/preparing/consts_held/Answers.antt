@@ -1,14 +1,12 @@
 -- `consts_held`: each Const still to come holds its value exactly if each of all does.
 -- Assumes nothing.
-use mathlib.Core.Path.{◌≡◌, ap, sym, ◌∙◌}
-use Prim.Native.Nat.{ℕ, ◌-◌, ◌≤◌}
+use mathlib.Core.Path.{ap, sym, ◌∙◌}
+use Prim.Native.Nat.{ℕ}
 use native.Mathlib.Omega.{arith}
 use native.Mathlib.Nat.{sub-zero}
-use borrow.Author.Tests.{not-true, not-false}
 use Rattle.lists.specs.Lists.{from, every}
 use Rattle.lists.proofs.ListsLaws.{every_fails, every_next, every_end}
 use Rattle.net.specs.Parts.{held_at}
-use borrow.Author.Rules.{rules}
 use Rattle.slow.proofs.preparing.consts_held.Goals as goal
 
 pub loop-i-init : goal.loop-i-init

@@ -1,11 +1,9 @@
 -- `judge_lent`: each way out is one of the cases of the definition.
 -- Assumes nothing.
 use mathlib.Core.Path.{sym, ◌∙◌}
-use borrow.Author.Tests.{not-true, not-false}
 use Rattle.flatten.proofs.Accepted.{not_accepted}
 use Rattle.meeting.proofs.MeetingLaws.{judges_judgement}
 use Rattle.slow.proofs.PreparingLaws.{lent_unsized, lent_short, lent_judged}
-use borrow.Author.Rules.{rules}
 use Rattle.slow.proofs.preparing.judge_lent.Goals as goal
 
 pub returns-then-not-is_sized : goal.returns-then-not-is_sized

@@ -1,23 +1,16 @@
 -- `prepare`: a load's own refusal, or one of the clauses of 20 fails, or all hold.
 -- Assumes nothing.
 use mathlib.Core.Path.{◌≡◌, refl, sym, ap, ◌∙◌}
-use mathlib.Core.Bool.{Bool, true, false, ◌&&◌}
+use mathlib.Core.Bool.{true, false, ◌&&◌}
 use mathlib.Core.List.{List}
-use Prim.Native.Nat.{ℕ, ◌≤◌}
+use Prim.Native.Nat.{ℕ}
 use native.Mathlib.Omega.{arith}
-use borrow.Author.Tests.{not-true, not-false}
 use lib.ListN.{length}
-use Rattle.component.specs.Record.{record_at, record_count}
-use Rattle.component.specs.declared.Verdict.TheVariants.{Accepted}
-use Rattle.flatten.specs.Verdict.{verdict}
 use Rattle.flatten.proofs.Accepted.{accepted_readable}
 use Rattle.flatten.proofs.WireTheorems.{accepted_primitives_bound}
 use Rattle.laying.specs.declared.rows.Before.{Before}
-use Rattle.laying.specs.Laid.{primitives}
-use Rattle.net.specs.Net.{values_fit, consts_held}
-use Rattle.slow.specs.Slow.{SlowTables, slow_tables_of, slow_verdict, drawn, slow_right, drawn_words}
-use Rattle.slow.proofs.PreparingLaws.{SlowSizes, slow_full-sound, lent_refused, lent_long, lent_accepted, counts_are, listed, right_counts, right_values, right_consts, right_lists, verdict_20, verdict_right, counts_as, found_lists, laid_words, row_given, values_as, consts_as, names_as, not_ready, ready_is}
-use borrow.Author.Rules.{rules}
+use Rattle.slow.specs.Slow.{slow_tables_of}
+use Rattle.slow.proofs.PreparingLaws.{slow_full-sound, lent_refused, lent_long, lent_accepted, listed, right_counts, right_values, right_consts, right_lists, verdict_20, verdict_right, counts_as, found_lists, laid_words, row_given, values_as, consts_as, names_as, not_ready, ready_is}
 use Rattle.slow.proofs.preparing.prepare.Goals as goal
 
 pub returns-in-Refused : goal.returns-in-Refused
@@ -41,8 +34,7 @@ returns-then-not-counts_match c =
     let S = slow_tables_of a.inputs.now a.outputs.now a.current.now a.following.now a.standing.now a.counts in
     let passed = sym c.in_default.is ∙ c.judge_lent.ensures.value in
     let l = c.lay_components-all in
-    let counted = c.counts_match.ensures ∙ counts_as a.file.now a.counts l.result l.ensures.value S refl in
-    (
+    let counted = c.counts_match.ensures ∙ counts_as a.file.now a.counts l.result l.ensures.value S refl in (
       rw c.refused_by.ensures (verdict_20 a.file.now S a.long passed (right_counts a.file.now S (sym counted ∙ c.if-not-counts_match.true))),
       λ k e. absurd (not_ready _ k e),
     )
@@ -67,8 +59,7 @@ returns-then-not-values_fit c =
     let words = laid_words a.file.now _ _ l.ensures.components_after c.requires.index_len.2 in
     let many = ap (λ (b : Before). b.components) l.ensures.value in
     let counted = c.counts_match.ensures ∙ counts_as a.file.now a.counts l.result l.ensures.value S refl in
-    let values = c.values_fit.ensures ∙ values_as a.file.now _ words _ many S in
-    (
+    let values = c.values_fit.ensures ∙ values_as a.file.now _ words _ many S in (
       rw c.refused_by-then-not-values_fit.ensures (verdict_20 a.file.now S a.long passed
           (right_values a.file.now S (sym counted ∙ c.if-not-counts_match.false) (sym values ∙ c.if-not-values_fit.true))),
       λ k e. absurd (not_ready _ k e),
@@ -96,8 +87,7 @@ returns-then-not-consts_held c =
     let many = ap (λ (b : Before). b.components) l.ensures.value in
     let counted = c.counts_match.ensures ∙ counts_as a.file.now a.counts l.result l.ensures.value S refl in
     let values = c.values_fit.ensures ∙ values_as a.file.now _ words _ many S in
-    let consts = c.consts_held.ensures ∙ consts_as a.file.now _ words _ many S in
-    (
+    let consts = c.consts_held.ensures ∙ consts_as a.file.now _ words _ many S in (
       rw c.refused_by-then-not-consts_held.ensures (verdict_20 a.file.now S a.long passed
           (right_consts a.file.now S (sym counted ∙ c.if-not-counts_match.false) (sym values ∙ c.if-not-values_fit.false)
           (sym consts ∙ c.if-not-consts_held.true))),
@@ -162,8 +152,7 @@ returns-then-not-names c =
     let naming : (c.names.result && c.names-2.result && c.names-3.result) ≡ listed a.file.now S =
     rw (c.names.ensures ∙ same _, c.names-2.ensures ∙ same _, c.names-3.ensures ∙ same _) in
     let right = right_lists a.file.now S (sym counted ∙ c.if-not-counts_match.false) (sym values ∙ c.if-not-values_fit.false)
-    (sym consts ∙ c.if-not-consts_held.false) false (sym naming ∙ c.if-not-names.true) in
-    (
+    (sym consts ∙ c.if-not-consts_held.false) false (sym naming ∙ c.if-not-names.true) in (
       rw c.refused_by-then-not-names.ensures (verdict_20 a.file.now S a.long passed right),
       λ k e. absurd (not_ready _ k e),
     )
@@ -195,8 +184,7 @@ returns c =
     let naming : (c.names.result && c.names-2.result && c.names-3.result) ≡ listed a.file.now S =
     rw (c.names.ensures ∙ same _, c.names-2.ensures ∙ same _, c.names-3.ensures ∙ same _) in
     let right = right_lists a.file.now S (sym counted ∙ c.if-not-counts_match.false) (sym values ∙ c.if-not-values_fit.false)
-    (sym consts ∙ c.if-not-consts_held.false) true (sym naming ∙ c.if-not-names.false) in
-    (
+    (sym consts ∙ c.if-not-consts_held.false) true (sym naming ∙ c.if-not-names.false) in (
       verdict_right a.file.now S a.long passed right,
       λ k e. record {
         ready =

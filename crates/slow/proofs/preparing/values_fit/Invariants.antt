@@ -1,15 +1,9 @@
 -- `values_fit`: the values of the components still to come fit exactly if those of all do.
 -- Assumes nothing.
-use mathlib.Core.Path.{◌≡◌, ap, sym, ◌∙◌}
-use Prim.Native.Nat.{ℕ, ◌-◌, ◌≤◌}
-use native.Mathlib.Omega.{arith}
-use native.Mathlib.Nat.{sub-zero}
-use borrow.Author.Tests.{not-true, not-false}
+use mathlib.Core.Path.{◌≡◌}
+use Prim.Native.Nat.{◌-◌, ◌≤◌}
 use Rattle.lists.specs.Lists.{from, every}
-use Rattle.lists.proofs.ListsLaws.{every_fails, every_next, every_end}
 use Rattle.net.specs.Parts.{values_fit_at}
-use Rattle.tables.proofs.RowsLaws.{obeyed_fit}
-use borrow.Author.Rules.{rules}
 use Rattle.slow.proofs.preparing.values_fit.Given as goal
 
 abbrev pub invariant-loop-i : goal.invariant-loop-i

@@ -1,19 +1,15 @@
 -- `drawn_run`: the rounds so far, before the run that is still to come, are the whole run; each round leaves tables that 20 does not refuse.
 -- Assumes nothing.
-use mathlib.Core.Path.{◌≡◌, refl, ◌∙◌}
+use mathlib.Core.Path.{◌≡◌}
 use mathlib.Core.List.{[]}
 use Prim.Native.Nat.{◌*◌, ◌≤◌, ◌-◌}
-use native.Mathlib.Omega.{arith}
 use lib.ListN.{length}
-use Rattle.component.specs.Record.{IsBytes, record_at, record_count}
-use Rattle.tables.specs.Tables.{Tables, tables_of}
-use Rattle.rounds.proofs.RoundLaws.{calm_lists}
+use Rattle.component.specs.Record.{record_at, record_count}
+use Rattle.tables.specs.Tables.{tables_of}
 use Rattle.simulator.specs.Calls.{run_by}
-use Rattle.simulator.proofs.MovedLaws.{counted_few}
-use Rattle.simulator.proofs.RunLaws.{on_top, stopped_by, run_by-start, run_by-turn, run_by-end, test_going, test_below}
+use Rattle.simulator.proofs.RunLaws.{on_top, stopped_by}
 use Rattle.slow.specs.Slow.{slow_round_of, slow_bits}
-use Rattle.slow.proofs.RunsLaws.{InRun, run_starts, run_drawing, run_count, run_lists, run_few, run_inside, run_made, run_listed, run_bits, run_on}
-use borrow.Author.Rules.{rules}
+use Rattle.slow.proofs.RunsLaws.{InRun}
 use Rattle.slow.proofs.rounding.drawn_run.Given as goal
 
 abbrev pub invariant-loop-calm : goal.invariant-loop-calm

@@ -1,6 +1,6 @@
 -- `round`: refused by its checks, or the round straight from the drawing.
 -- Assumes nothing.
-use mathlib.Core.Path.{◌≡◌, refl, sym, ap, ◌∙◌}
+use mathlib.Core.Path.{refl, sym, ap, ◌∙◌}
 use mathlib.Core.Bool.{Bool, ◌&&◌}
 use mathlib.Core.List.{[]}
 use lib.ListN.{length}
@@ -9,11 +9,10 @@ use borrow.Author.Tests.{leb-true}
 use Rattle.lists.proofs.TestsLaws.{and_left, and_right}
 use Rattle.component.specs.Record.{record_at, record_count}
 use Rattle.tables.specs.Tables.{tables_of}
-use Rattle.slow.specs.Slow.{SlowTables, slow_tables_of, slow_of, slow_full, slow_number, slow_verdict}
+use Rattle.slow.specs.Slow.{slow_tables_of, slow_of, slow_full, slow_number, slow_verdict}
 use Rattle.slow.specs.Sending.{prepared_verdict}
 use Rattle.slow.proofs.PreparingLaws.{lent_room}
 use Rattle.slow.proofs.CallsLaws.{round_refused, round_done, prepared_drawing, prepared_is, prepared_count, prepared_current, prepared_following, prepared_standing, round_drawn, bits_drawn}
-use borrow.Author.Rules.{rules}
 use Rattle.slow.proofs.rounding.round.Goals as goal
 
 pub prepare-requires : goal.prepare-requires

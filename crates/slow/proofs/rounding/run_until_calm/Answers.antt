@@ -1,15 +1,14 @@
 -- `run_until_calm`: refused by its checks, or the run straight from the drawing.
 -- Assumes nothing.
-use mathlib.Core.Path.{◌≡◌, refl, sym, ap, ◌∙◌}
+use mathlib.Core.Path.{refl, sym, ap, ◌∙◌}
 use mathlib.Core.Bool.{Bool}
 use mathlib.Core.List.{[]}
 use Rattle.component.specs.Record.{record_at, record_count}
 use Rattle.tables.specs.Tables.{Tables, tables_of}
 use Rattle.simulator.specs.Calls.{run_by}
-use Rattle.slow.specs.Slow.{SlowTables, slow_tables_of, slow_full, slow_number, slow_verdict, slow_round_of, slow_bits}
+use Rattle.slow.specs.Slow.{slow_tables_of, slow_number, slow_verdict, slow_round_of, slow_bits}
 use Rattle.slow.specs.Sending.{prepared_verdict}
 use Rattle.slow.proofs.CallsLaws.{run_refused, run_done, prepared_is, prepared_for}
-use borrow.Author.Rules.{rules}
 use Rattle.slow.proofs.rounding.run_until_calm.Goals as goal
 
 pub prepare-requires : goal.prepare-requires

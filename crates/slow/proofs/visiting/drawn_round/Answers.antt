@@ -1,21 +1,19 @@
 -- `drawn_round`: the lists that were copied out are those of the tables, and their marks say what they name.
 -- Assumes nothing.
 use mathlib.Core.Path.{◌∙◌}
-use mathlib.Core.List.{List, []}
-use Prim.Native.Nat.{ℕ, ◌≤◌}
+use mathlib.Core.List.{[]}
+use Prim.Native.Nat.{◌≤◌}
 use native.Mathlib.Omega.{arith}
 use lib.ListN.{take}
 use Rattle.component.specs.Record.{record_at, record_count}
 use Rattle.flatten.proofs.WireTheorems.{accepted_primitives_bound}
-use Rattle.tables.specs.declared.Wire.{Wire}
-use Rattle.tables.specs.Tables.{Tables, tables_of, current_list}
+use Rattle.tables.specs.Tables.{tables_of, current_list}
 use Rattle.rounds.specs.Steps.{state_at}
 use Rattle.rounds.proofs.RoundLaws.{copy_list, round_made}
 use Rattle.rounds.proofs.MovedLaws.{round_moved_lem}
 use Rattle.rounds.proofs.ListedLaws.{listed_none, listed_covers}
 use Rattle.slow.specs.Slow.{leaving}
 use Rattle.slow.proofs.RoundsLaws.{visits_bare, moved_bare, fits_few, fits_entry, fits_small, fits_copied}
-use borrow.Author.Rules.{rules}
 use Rattle.slow.proofs.visiting.drawn_round.Goals as goal
 
 pub copy-requires : goal.copy-requires

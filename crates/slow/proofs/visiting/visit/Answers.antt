@@ -8,7 +8,6 @@ use Rattle.rounds.proofs.StepsLaws.{evaluated_bare, visited}
 use Rattle.slow.specs.Slow.{leaving}
 use Rattle.slow.specs.Sending.{bare}
 use Rattle.slow.proofs.DrawingLaws.{drawing_evaluates, drawing_kept}
-use borrow.Author.Rules.{rules}
 use Rattle.slow.proofs.visiting.visit.Goals as goal
 
 pub evaluate_at-evaluation-requires : goal.evaluate_at-evaluation-requires

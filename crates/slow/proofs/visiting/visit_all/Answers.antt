@@ -1,23 +1,14 @@
 -- `visit_all`: what the components still to come make of the state is what all of them make of the state that came in.
 -- Assumes nothing.
-use mathlib.Core.Path.{◌≡◌, refl, ◌∙◌}
-use mathlib.Core.List.{List, foldl}
-use Prim.Native.Nat.{ℕ, ◌≤◌, ◌-◌}
+use mathlib.Core.Path.{refl, ◌∙◌}
 use native.Mathlib.Omega.{arith}
-use lib.ListN.{length, take, length-set}
-use lib.Seq.{slice}
+use lib.ListN.{length-set}
 use Rattle.component.specs.Record.{record_at, record_count}
-use Rattle.tables.specs.declared.Wire.{Wire}
-use Rattle.tables.specs.Tables.{Tables}
-use Rattle.rounds.specs.Round.{visit}
-use Rattle.rounds.specs.Steps.{state_at}
-use Rattle.rounds.specs.Links.{ListMarked, ListCovered}
 use Rattle.rounds.proofs.StepsLaws.{visits_next, visits_end}
-use Rattle.rounds.proofs.MovedLaws.{BitsSo, bits_start, bits_next, bits_end}
+use Rattle.rounds.proofs.MovedLaws.{bits_start, bits_next, bits_end}
 use Rattle.slow.specs.Slow.{leaving}
 use Rattle.slow.specs.Sending.{bare}
 use Rattle.slow.proofs.DrawingLaws.{drawing_kept}
-use borrow.Author.Rules.{rules}
 use Rattle.slow.proofs.visiting.visit_all.Goals as goal
 
 pub loop-k-init : goal.loop-k-init

@@ -1,7 +1,6 @@
 -- `counts_in`: word by word.
 -- Assumes nothing.
 use Rattle.slowly.specs.Slowly.{slow_counts_in}
-use borrow.Author.Rules.{rules}
 use Rattle.slowly.proofs.counts.counts_in.Goals as goal
 
 pub returns : goal.returns

@@ -6,7 +6,6 @@ use Rattle.kinds.specs.Given.{spoken}
 use Rattle.words.proofs.WordsLaws.{none_laid}
 use Rattle.slow.specs.declared.SlowAnswer.TheVariants.{Refused}
 use Rattle.slow.specs.Slow.{slow_gives}
-use borrow.Author.Rules.{rules}
 use Rattle.slowly.proofs.counts.keep.Goals as goal
 
 pub lay-requires : goal.lay-requires

@@ -7,7 +7,6 @@ use Rattle.kinds.specs.Given.{spoken}
 use Rattle.words.proofs.WordsLaws.{set_room, three_laid, none_laid}
 use Rattle.slow.specs.declared.SlowRan.TheVariants.{Refused}
 use Rattle.slow.specs.Slow.{slow_ran_gives}
-use borrow.Author.Rules.{rules}
 use Rattle.slowly.proofs.counts.keep_run.Goals as goal
 
 pub lay-requires : goal.lay-requires

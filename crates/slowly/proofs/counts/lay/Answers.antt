@@ -3,7 +3,6 @@
 use native.Mathlib.Omega.{arith}
 use lib.ListN.{length-set}
 use Rattle.slowly.proofs.SlowlyLaws.{counts_laid}
-use borrow.Author.Rules.{rules}
 use Rattle.slowly.proofs.counts.lay.Goals as goal
 
 pub bounds-words-1 : goal.bounds-words-1

@@ -9,7 +9,6 @@ use Rattle.slow.specs.declared.SlowCounts.{SlowCounts}
 use Rattle.slow.specs.Slow.{SlowTables, slow_tables_of, slow_words, slow_gives, SlowEdits}
 use Rattle.slowly.specs.Slowly.{few_slow}
 use Rattle.slowly.proofs.SlowlyLaws.{call_short, call_made, edit_is, said_small, done_sized, room_counts}
-use borrow.Author.Rules.{rules}
 use Rattle.slowly.proofs.edit.berxundar_slow_edit.Goals as goal
 use Rattle.slowly.proofs.edit.berxundar_slow_edit.Lts as lts
 use Rattle.slowly.proofs.edit.berxundar_slow_edit.Tie as tie

@@ -8,7 +8,6 @@ use Rattle.slow.specs.declared.SlowCounts.{SlowCounts}
 use Rattle.slow.specs.Slow.{SlowTables, slow_tables_of, slow_words, slow_gives, SlowLoads}
 use Rattle.slowly.specs.Slowly.{slow_counts_in, few_slow}
 use Rattle.slowly.proofs.SlowlyLaws.{call_short, call_made, load_is, said_small, done_sized, room_counts}
-use borrow.Author.Rules.{rules}
 use Rattle.slowly.proofs.loading.berxundar_slow_load.Goals as goal
 use Rattle.slowly.proofs.loading.berxundar_slow_load.Lts as lts
 use Rattle.slowly.proofs.loading.berxundar_slow_load.Tie as tie

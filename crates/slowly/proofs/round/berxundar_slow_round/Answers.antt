@@ -7,7 +7,6 @@ use lib.Dec.{ltb}
 use Rattle.slow.specs.declared.SlowCounts.{SlowCounts}
 use Rattle.slow.specs.Slow.{SlowTables, slow_tables_of, slow_words, slow_gives}
 use Rattle.slowly.proofs.SlowlyLaws.{round_short, round_made, round_is, said_small, done_sized, room_counts}
-use borrow.Author.Rules.{rules}
 use Rattle.slowly.proofs.round.berxundar_slow_round.Goals as goal
 use Rattle.slowly.proofs.round.berxundar_slow_round.Lts as lts
 use Rattle.slowly.proofs.round.berxundar_slow_round.Tie as tie

@@ -8,7 +8,6 @@ use Rattle.words.specs.Said.{short}
 use Rattle.slow.specs.declared.SlowCounts.{SlowCounts}
 use Rattle.slow.specs.Slow.{SlowTables, slow_tables_of, slow_words, slow_ran_gives, SlowRuns}
 use Rattle.slowly.proofs.SlowlyLaws.{run_short, run_made, run_is, said_small, done_sized, room_run}
-use borrow.Author.Rules.{rules}
 use Rattle.slowly.proofs.run.berxundar_slow_run_until_calm.Goals as goal
 use Rattle.slowly.proofs.run.berxundar_slow_run_until_calm.Lts as lts
 use Rattle.slowly.proofs.run.berxundar_slow_run_until_calm.Tie as tie

@@ -5,7 +5,6 @@ use native.Mathlib.Omega.{arith}
 use Rattle.primitive.specs.declared.Evaluated.TheVariants.{Refused}
 use Rattle.primitive.specs.Evaluate.{evaluated_gives}
 use Rattle.words.proofs.WordsLaws.{one_laid, none_laid}
-use borrow.Author.Rules.{rules}
 use Rattle.words.proofs.answers.lay_evaluated.Goals as goal
 
 pub overflow_mul-result : goal.overflow_mul-result

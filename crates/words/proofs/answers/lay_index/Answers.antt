@@ -5,7 +5,6 @@ use native.Mathlib.Omega.{arith}
 use Rattle.questions.specs.declared.Index.TheVariants.{Refused}
 use Rattle.questions.specs.Questions.{index_gives}
 use Rattle.words.proofs.WordsLaws.{one_laid, none_laid}
-use borrow.Author.Rules.{rules}
 use Rattle.words.proofs.answers.lay_index.Goals as goal
 
 pub overflow_mul-result : goal.overflow_mul-result

@@ -5,7 +5,6 @@ use native.Mathlib.Omega.{arith}
 use Rattle.simulator.specs.declared.Ran.TheVariants.{Refused}
 use Rattle.simulator.specs.Calls.{ran_gives}
 use Rattle.words.proofs.WordsLaws.{set_room, three_laid, none_laid}
-use borrow.Author.Rules.{rules}
 use Rattle.words.proofs.answers.lay_run.Goals as goal
 
 pub bounds-found-1 : goal.bounds-found-1

@@ -1,7 +1,6 @@
 -- `counts_in`: word by word.
 -- Assumes nothing.
 use Rattle.words.specs.Words.{counts_in}
-use borrow.Author.Rules.{rules}
 use Rattle.words.proofs.counts.counts_in.Goals as goal
 
 pub returns : goal.returns

@@ -5,7 +5,6 @@ use Prim.Native.Nat.{◌<◌}
 use Rattle.tables.specs.declared.Answer.TheVariants.{Refused}
 use Rattle.tables.specs.Tables.{answer_gives}
 use Rattle.words.proofs.WordsLaws.{none_laid}
-use borrow.Author.Rules.{rules}
 use Rattle.words.proofs.counts.keep.Goals as goal
 
 pub overflow_mul-result : goal.overflow_mul-result

@@ -6,7 +6,6 @@ use Rattle.kinds.specs.Given.{spoken}
 use Rattle.tables.specs.Tables.{answer_gives}
 use Rattle.tables.specs.declared.Answer.TheVariants.{Refused}
 use Rattle.words.proofs.WordsLaws.{none_laid}
-use borrow.Author.Rules.{rules}
 use Rattle.words.proofs.counts.keep_loaded.Goals as goal
 
 pub overflow_mul-result : goal.overflow_mul-result

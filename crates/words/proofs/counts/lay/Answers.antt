@@ -3,7 +3,6 @@
 use native.Mathlib.Omega.{arith}
 use lib.ListN.{length-set}
 use Rattle.words.proofs.WordsLaws.{counts_laid}
-use borrow.Author.Rules.{rules}
 use Rattle.words.proofs.counts.lay.Goals as goal
 
 pub bounds-words-1 : goal.bounds-words-1
