@@ -25,12 +25,7 @@ fn lay_mended(found: &mut [u64], answer: Mended) -> u32
 
 // Mends a damaged drawing into a buffer as long as the file; the positions of what was dropped, into a list of 1,025; how many bytes and how many
 // positions they are, into two lent words.
-pub fn berxundar_mend(
-    file: &[u8],
-    mended: &mut [u8],
-    dropped: &mut [u16],
-    found: &mut [u64],
-) -> u32
+pub fn berxundar_mend(file: &[u8], mended: &mut [u8], dropped: &mut [u16], found: &mut [u64]) -> u32
     ensures { CallMends file.now mended.old mended.new dropped.old dropped.new
         found.old found.new result }
 {

@@ -3,14 +3,12 @@
 use mathlib.Core.Path.{sym, ◌∙◌}
 use mathlib.Core.List.{[], ◌++◌}
 use native.Mathlib.Omega.{arith}
-use borrow.Author.Tests.{not-true, not-false}
 use Rattle.lists.proofs.ListsLaws.{replicate_zero}
 use Rattle.tables.specs.Tables.{Tables, tables_of, current_list, following_list}
 use Rattle.rounds.proofs.Sound.{net_within, current_in, following_in, standing_in}
 use Rattle.rounds.proofs.RoundLaws.{net_wires}
 use Rattle.rounds.proofs.ListedLaws.{listed_none}
 use Rattle.judging.proofs.JudgingLaws.{net_compare, current_judge, following_judge, standing_judge, none_judged, current_fails, following_fails, standing_fails, wires_decide}
-use borrow.Author.Rules.{rules}
 use Rattle.judging.proofs.net_satisfied.Goals as goal
 use Rattle.judging.proofs.net_satisfied.Lts as lts
 use Rattle.judging.proofs.net_satisfied.Tie as tie

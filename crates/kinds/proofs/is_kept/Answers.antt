@@ -1,7 +1,6 @@
 -- `is_kept`: the number is read, and kept where it is read so.
 -- Assumes nothing.
 use Rattle.kinds.proofs.KindsLaws.{known_read, kept_read, unknown_read}
-use borrow.Author.Rules.{rules}
 use Rattle.kinds.proofs.is_kept.Goals as goal
 
 pub returns-in-Known : goal.returns-in-Known

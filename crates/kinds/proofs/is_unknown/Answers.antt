@@ -1,7 +1,6 @@
 -- `is_unknown`: the number is read, and no kind where it is read so.
 -- Assumes nothing.
 use Rattle.kinds.proofs.KindsLaws.{known_read, kept_read, unknown_read}
-use borrow.Author.Rules.{rules}
 use Rattle.kinds.proofs.is_unknown.Goals as goal
 
 pub returns-in-Known : goal.returns-in-Known

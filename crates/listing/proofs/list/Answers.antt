@@ -10,7 +10,6 @@ use Rattle.lines.proofs.LinesLaws.{both, named_as}
 use Rattle.running.specs.Running.{round_lines}
 use Rattle.listing.specs.Listing.{fresh}
 use Rattle.listing.proofs.LoadedLaws.{inside, listed_refused, listed_net, listed_done}
-use borrow.Author.Rules.{rules}
 use Rattle.listing.proofs.list.Goals as goal
 use Rattle.listing.proofs.list.Lts as lts
 use Rattle.listing.proofs.list.Tie as tie

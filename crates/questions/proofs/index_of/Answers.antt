@@ -4,7 +4,6 @@ use Rattle.tables.specs.Tables.{Tables, tables_of}
 use Rattle.questions.proofs.QuestionsLaws.{index_refused, index_found_lem}
 use Rattle.net.proofs.NetLaws.{passed_net}
 use Rattle.rounds.proofs.RoundLaws.{net_rows}
-use borrow.Author.Rules.{rules}
 use Rattle.questions.proofs.index_of.Goals as goal
 use Rattle.questions.proofs.index_of.Lts as lts
 use Rattle.questions.proofs.index_of.Tie as tie

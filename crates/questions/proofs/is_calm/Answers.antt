@@ -6,7 +6,6 @@ use Rattle.rounds.specs.Round.{calm}
 use Rattle.rounds.proofs.RoundLaws.{net_listed, calm_lists}
 use Rattle.questions.proofs.QuestionsLaws.{whether_refused, whether_is}
 use Rattle.net.proofs.NetLaws.{passed_net}
-use borrow.Author.Rules.{rules}
 use Rattle.questions.proofs.is_calm.Goals as goal
 use Rattle.questions.proofs.is_calm.Lts as lts
 use Rattle.questions.proofs.is_calm.Tie as tie

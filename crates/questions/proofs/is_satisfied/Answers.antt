@@ -4,7 +4,6 @@ use Rattle.tables.specs.Tables.{Tables, tables_of}
 use Rattle.judging.specs.Judged.{judged_named}
 use Rattle.questions.proofs.QuestionsLaws.{whether_refused, whether_is}
 use Rattle.net.proofs.NetLaws.{passed_net}
-use borrow.Author.Rules.{rules}
 use Rattle.questions.proofs.is_satisfied.Goals as goal
 use Rattle.questions.proofs.is_satisfied.Lts as lts
 use Rattle.questions.proofs.is_satisfied.Tie as tie

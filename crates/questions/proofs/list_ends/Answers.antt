@@ -6,7 +6,6 @@ use Prim.Native.Nat.{ℕ}
 use lib.ListN.{length}
 use Rattle.lists.specs.Lists.{overlay}
 use Rattle.questions.proofs.EndsLaws.{marked_met}
-use borrow.Author.Rules.{rules}
 use Rattle.questions.proofs.list_ends.Goals as goal
 
 pub returns : goal.returns

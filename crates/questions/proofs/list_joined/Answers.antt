@@ -9,7 +9,6 @@ use Rattle.questions.specs.Asked.{met}
 use Rattle.rounds.proofs.Sound.{net_within}
 use Rattle.rounds.proofs.RoundLaws.{net_wires}
 use Rattle.questions.proofs.QuestionsLaws.{net_end, list_full, list_net, joined_refused, joined_listed}
-use borrow.Author.Rules.{rules}
 use Rattle.questions.proofs.list_joined.Goals as goal
 use Rattle.questions.proofs.list_joined.Lts as lts
 use Rattle.questions.proofs.list_joined.Tie as tie

@@ -1,15 +1,11 @@
 -- `list_marked`: the list holds the marked ones of the components passed.
 -- Assumes nothing.
 use mathlib.Core.Path.{◌≡◌, refl}
-use mathlib.Core.Logic.{⊎_elim}
-use Prim.Native.Nat.{◌-◌, ◌≤◌}
+use Prim.Native.Nat.{◌-◌}
 use native.Mathlib.Omega.{arith}
-use lib.ListN.{length, length-set}
-use Rattle.lists.specs.Lists.{overlay}
+use lib.ListN.{length-set}
 use Rattle.tables.proofs.NamedLaws.{overlay_start}
-use Rattle.questions.specs.Asked.{marked_below}
 use Rattle.questions.proofs.EndsLaws.{list_here, list_none}
-use borrow.Author.Rules.{rules}
 use Rattle.questions.proofs.list_marked.Goals as goal
 use Rattle.questions.proofs.list_marked.Goals.{else-marks-j-eq1, then-marks-j-eq1}
 

@@ -1,15 +1,10 @@
 -- `list_marked`: the list holds the marked ones of the components passed.
 -- Assumes nothing.
-use mathlib.Core.Path.{◌≡◌, refl}
-use mathlib.Core.Logic.{⊎_elim}
+use mathlib.Core.Path.{◌≡◌}
 use Prim.Native.Nat.{◌-◌, ◌≤◌}
-use native.Mathlib.Omega.{arith}
-use lib.ListN.{length, length-set}
+use lib.ListN.{length}
 use Rattle.lists.specs.Lists.{overlay}
-use Rattle.tables.proofs.NamedLaws.{overlay_start}
 use Rattle.questions.specs.Asked.{marked_below}
-use Rattle.questions.proofs.EndsLaws.{list_here, list_none}
-use borrow.Author.Rules.{rules}
 use Rattle.questions.proofs.list_marked.Given as goal
 
 abbrev pub invariant-loop-j : goal.invariant-loop-j

@@ -3,7 +3,6 @@
 use mathlib.Core.Path.{sym, ◌∙◌}
 use Rattle.tables.specs.Tables.{Tables, tables_of}
 use Rattle.questions.proofs.QuestionsLaws.{list_short, list_refused, list_none, list_passed}
-use borrow.Author.Rules.{rules}
 use Rattle.questions.proofs.list_number.Goals as goal
 use Rattle.questions.proofs.list_number.Lts as lts
 use Rattle.questions.proofs.list_number.Tie as tie

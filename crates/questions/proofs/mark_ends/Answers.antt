@@ -2,15 +2,12 @@
 -- was.
 -- Assumes nothing.
 use mathlib.Core.Path.{◌≡◌, refl, sym, ap, ◌∙◌}
-use mathlib.Core.Bool.{cond}
-use mathlib.Core.Logic.{⊎_elim}
-use Prim.Native.Nat.{ℕ, ◌-◌, ◌≤◌}
+use Prim.Native.Nat.{ℕ, ◌-◌}
 use native.Mathlib.Omega.{arith}
-use lib.ListN.{length, get_or, length-set}
+use lib.ListN.{length-set}
 use Rattle.tables.specs.declared.Wire.{Wire}
-use Rattle.questions.specs.Asked.{comp_at, end_of, meets}
+use Rattle.questions.specs.Asked.{comp_at, end_of}
 use Rattle.questions.proofs.EndsLaws.{mark_here, mark_none}
-use borrow.Author.Rules.{rules}
 use Rattle.questions.proofs.mark_ends.Goals as goal
 use Rattle.questions.proofs.mark_ends.Goals.{else-comp_at-i, then-comp_at-i}
 use Rattle.questions.proofs.mark_ends.Lts as lts

@@ -1,16 +1,11 @@
 -- `mark_ends`: after the wires passed, a component is marked exactly if one of them joins it to component i, or if it
 -- was.
 -- Assumes nothing.
-use mathlib.Core.Path.{◌≡◌, refl, sym, ap, ◌∙◌}
+use mathlib.Core.Path.{◌≡◌}
 use mathlib.Core.Bool.{cond}
-use mathlib.Core.Logic.{⊎_elim}
 use Prim.Native.Nat.{ℕ, ◌-◌, ◌≤◌}
-use native.Mathlib.Omega.{arith}
-use lib.ListN.{length, get_or, length-set}
-use Rattle.tables.specs.declared.Wire.{Wire}
-use Rattle.questions.specs.Asked.{comp_at, end_of, meets}
-use Rattle.questions.proofs.EndsLaws.{mark_here, mark_none}
-use borrow.Author.Rules.{rules}
+use lib.ListN.{length, get_or}
+use Rattle.questions.specs.Asked.{meets}
 use Rattle.questions.proofs.mark_ends.Given as goal
 
 abbrev pub invariant-loop-k : goal.invariant-loop-k

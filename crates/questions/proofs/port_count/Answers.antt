@@ -4,7 +4,6 @@ use mathlib.Core.Path.{◌∙◌}
 use mathlib.Core.List.{[]}
 use Rattle.tables.specs.Words.{uncounted}
 use Rattle.questions.proofs.QuestionsLaws.{count_input, count_output}
-use borrow.Author.Rules.{rules}
 use Rattle.questions.proofs.port_count.Goals as goal
 
 pub returns-in-Inputs : goal.returns-in-Inputs

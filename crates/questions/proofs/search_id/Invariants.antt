@@ -1,17 +1,12 @@
 -- `search_id`: what is found among the components still to come is what is found among all.
 -- Assumes nothing.
-use mathlib.Core.Path.{◌≡◌, sym, ap, ◌∙◌}
+use mathlib.Core.Path.{◌≡◌}
 use mathlib.Core.Bool.{Bool}
 use mathlib.Core.List.{List}
 use Prim.Native.Nat.{ℕ, ◌-◌, ◌≤◌}
-use native.Mathlib.Omega.{arith}
 use lib.Dec.{eqb}
 use Rattle.lists.specs.Lists.{from, first}
-use Rattle.lists.proofs.ListsLaws.{first_here, first_next, first_none}
 use Rattle.tables.specs.Words.{id_in}
-use Rattle.net.proofs.LoopsLaws.{from_start}
-use Rattle.questions.specs.Questions.{index_found}
-use borrow.Author.Rules.{rules}
 use Rattle.questions.proofs.search_id.Given as goal
 
 abbrev pub has_id : List ℕ → ℕ → ℕ → Bool

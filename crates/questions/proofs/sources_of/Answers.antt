@@ -2,7 +2,6 @@
 -- Assumes nothing.
 use Rattle.tables.specs.Tables.{Tables, tables_of}
 use Rattle.questions.proofs.QuestionsLaws.{sources_joined}
-use borrow.Author.Rules.{rules}
 use Rattle.questions.proofs.sources_of.Goals as goal
 use Rattle.questions.proofs.sources_of.Lts as lts
 use Rattle.questions.proofs.sources_of.Tie as tie

@@ -2,7 +2,6 @@
 -- Assumes nothing.
 use Rattle.tables.specs.Tables.{Tables, tables_of}
 use Rattle.questions.proofs.QuestionsLaws.{targets_joined}
-use borrow.Author.Rules.{rules}
 use Rattle.questions.proofs.targets_of.Goals as goal
 use Rattle.questions.proofs.targets_of.Lts as lts
 use Rattle.questions.proofs.targets_of.Tie as tie

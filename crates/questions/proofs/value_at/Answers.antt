@@ -9,7 +9,6 @@ use Rattle.tables.specs.Tables.{Tables}
 use Rattle.tables.specs.Words.{no_counts}
 use Rattle.net.specs.Parts.{lent}
 use Rattle.questions.proofs.QuestionsLaws.{count_words_lem, count_input, count_output, value_input, value_output}
-use borrow.Author.Rules.{rules}
 use Rattle.questions.proofs.value_at.Goals as goal
 use Rattle.questions.proofs.value_at.Lts as lts
 use Rattle.questions.proofs.value_at.Tie as tie

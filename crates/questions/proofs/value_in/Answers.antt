@@ -8,7 +8,6 @@ use lib.Dec.{leb}
 use Rattle.tables.specs.Tables.{Tables}
 use Rattle.net.specs.Parts.{lent}
 use Rattle.questions.proofs.QuestionsLaws.{value_none, value_port, value_here}
-use borrow.Author.Rules.{rules}
 use Rattle.questions.proofs.value_in.Goals as goal
 use Rattle.questions.proofs.value_in.Lts as lts
 use Rattle.questions.proofs.value_in.Tie as tie

@@ -3,7 +3,6 @@
 use Rattle.tables.specs.Tables.{Tables, tables_of}
 use Rattle.questions.proofs.QuestionsLaws.{net_row, value_refused, value_there}
 use Rattle.net.proofs.NetLaws.{passed_net}
-use borrow.Author.Rules.{rules}
 use Rattle.questions.proofs.value_of.Goals as goal
 use Rattle.questions.proofs.value_of.Lts as lts
 use Rattle.questions.proofs.value_of.Tie as tie

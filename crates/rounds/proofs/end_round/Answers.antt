@@ -1,7 +1,6 @@
 -- `end_round`: the three copies are the tables that are left.
 -- Assumes nothing.
 use Rattle.rounds.proofs.RoundLaws.{round_ended}
-use borrow.Author.Rules.{rules}
 use Rattle.rounds.proofs.end_round.Goals as goal
 
 pub returns : goal.returns

@@ -7,7 +7,6 @@ use Rattle.tables.specs.Words.{uncounted}
 use Rattle.tables.proofs.RowsLaws.{obeyed_fit}
 use Rattle.rounds.proofs.StepsLaws.{lent_inputs, lent_outputs, lent_own, evaluated_moved, evaluated_unstood, evaluated_clock, evaluated_struck}
 use Rattle.rounds.proofs.ListedLaws.{covered_struck}
-use borrow.Author.Rules.{rules}
 use Rattle.rounds.proofs.evaluate_at.Goals as goal
 
 pub fields_at-f-requires : goal.fields_at-f-requires

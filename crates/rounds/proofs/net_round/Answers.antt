@@ -10,7 +10,6 @@ use Rattle.rounds.proofs.Sound.{net_within, following_in, standing_in}
 use Rattle.rounds.proofs.RoundLaws.{net_runs, net_current, net_copied, net_named, copy_list, round_made}
 use Rattle.rounds.proofs.MovedLaws.{round_moved_lem}
 use Rattle.rounds.proofs.ListedLaws.{listed_none, listed_covers}
-use borrow.Author.Rules.{rules}
 use Rattle.rounds.proofs.net_round.Goals as goal
 use Rattle.rounds.proofs.net_round.Lts as lts
 use Rattle.rounds.proofs.net_round.Tie as tie

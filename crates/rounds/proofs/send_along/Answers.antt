@@ -9,7 +9,6 @@ use Rattle.tables.specs.Tables.{Tables, input_place, output_place}
 use Rattle.tables.specs.Words.{uncounted}
 use Rattle.rounds.proofs.StepsLaws.{send_agrees, send_writes}
 use Rattle.rounds.proofs.ListedLaws.{listed_overlay}
-use borrow.Author.Rules.{rules}
 use Rattle.rounds.proofs.send_along.Goals as goal
 use Rattle.rounds.proofs.send_along.Lts as lts
 use Rattle.rounds.proofs.send_along.Tie as tie

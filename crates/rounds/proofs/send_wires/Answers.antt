@@ -1,18 +1,17 @@
 -- `send_wires`: what the wires still met make of the state is what all that are met make of the state that came in.
 -- Assumes nothing.
-use mathlib.Core.Path.{◌≡◌, refl, sym, ap, ◌∙◌}
+use mathlib.Core.Path.{refl, sym, ap, ◌∙◌}
 use mathlib.Core.List.{[], foldl}
 use Prim.Native.Nat.{◌<◌}
 use native.Mathlib.Omega.{arith}
-use lib.ListN.{length, get_or, take}
+use lib.ListN.{get_or, take}
 use Rattle.tables.specs.Tables.{Tables}
 use Rattle.tables.specs.Words.{wire_in}
 use Rattle.rounds.specs.Round.{State, send}
 use Rattle.rounds.specs.Steps.{wiring, state_at, CanReach, CanRun}
-use Rattle.rounds.specs.Links.{numbers_from, ListMarked}
-use Rattle.rounds.proofs.LinksLaws.{met, Sending, sending_start, sending_next, sending_falls, sending_end, follows_from}
+use Rattle.rounds.specs.Links.{numbers_from}
+use Rattle.rounds.proofs.LinksLaws.{sending_start, sending_next, sending_falls, sending_end, follows_from}
 use Rattle.rounds.proofs.StepsLaws.{send_bare, runs_kept, runs_reach, reach_sends, sent_listed}
-use borrow.Author.Rules.{rules}
 use Rattle.rounds.proofs.send_wires.Goals as goal
 use Rattle.rounds.proofs.send_wires.Lts as lts
 use Rattle.rounds.proofs.send_wires.Tie as tie

@@ -1,18 +1,11 @@
 -- `send_wires`: what the wires still met make of the state is what all that are met make of the state that came in.
 -- Assumes nothing.
-use mathlib.Core.Path.{◌≡◌, refl, sym, ap, ◌∙◌}
-use mathlib.Core.List.{[], foldl}
-use Prim.Native.Nat.{◌<◌}
-use native.Mathlib.Omega.{arith}
+use mathlib.Core.Path.{◌≡◌}
+use mathlib.Core.List.{[]}
 use lib.ListN.{length, get_or, take}
-use Rattle.tables.specs.Tables.{Tables}
-use Rattle.tables.specs.Words.{wire_in}
-use Rattle.rounds.specs.Round.{State, send}
-use Rattle.rounds.specs.Steps.{wiring, state_at, CanReach, CanRun}
-use Rattle.rounds.specs.Links.{numbers_from, ListMarked}
-use Rattle.rounds.proofs.LinksLaws.{met, Sending, sending_start, sending_next, sending_falls, sending_end, follows_from}
-use Rattle.rounds.proofs.StepsLaws.{send_bare, runs_kept, runs_reach, reach_sends, sent_listed}
-use borrow.Author.Rules.{rules}
+use Rattle.rounds.specs.Steps.{wiring, state_at}
+use Rattle.rounds.specs.Links.{ListMarked}
+use Rattle.rounds.proofs.LinksLaws.{met, Sending}
 use Rattle.rounds.proofs.send_wires.Given as goal
 
 abbrev pub invariant-loop-k : goal.invariant-loop-k

@@ -5,7 +5,6 @@ use native.Mathlib.Omega.{arith}
 use Rattle.rounds.specs.Round.{wires_from}
 use Rattle.rounds.specs.Steps.{wiring}
 use Rattle.rounds.proofs.StepsLaws.{runs_kept, runs_evaluates, evaluated_bare, visited}
-use borrow.Author.Rules.{rules}
 use Rattle.rounds.proofs.visit.Goals as goal
 
 pub evaluate_at-evaluation-requires : goal.evaluate_at-evaluation-requires

@@ -1,18 +1,15 @@
 -- `visit_all`: what the components still to come make of the state is what all of them make of the state that came in.
 -- Assumes nothing.
-use mathlib.Core.Path.{◌≡◌, refl, ◌∙◌}
+use mathlib.Core.Path.{◌≡◌}
 use mathlib.Core.List.{List, foldl}
 use Prim.Native.Nat.{◌≤◌, ◌<◌, ◌-◌}
-use native.Mathlib.Omega.{arith}
-use lib.ListN.{length, take, length-set}
+use lib.ListN.{length, take}
 use lib.Seq.{slice}
 use Rattle.tables.specs.declared.Wire.{Wire}
 use Rattle.rounds.specs.Round.{wires_from, visit}
 use Rattle.rounds.specs.Steps.{wiring, state_at}
 use Rattle.rounds.specs.Links.{Follows, ListMarked, ListCovered}
-use Rattle.rounds.proofs.StepsLaws.{runs_kept, listed_at, listed_few, visits_next, visits_end}
-use Rattle.rounds.proofs.MovedLaws.{BitsSo, bits_start, bits_next, bits_end}
-use borrow.Author.Rules.{rules}
+use Rattle.rounds.proofs.MovedLaws.{BitsSo}
 use Rattle.rounds.proofs.visit_all.Given as goal
 
 abbrev pub invariant-loop-k : goal.invariant-loop-k

@@ -3,7 +3,6 @@
 use mathlib.Core.Path.{sym, ap}
 use Rattle.tables.specs.declared.Answer.{Answer}
 use Rattle.tables.specs.Tables.{counts_after}
-use borrow.Author.Rules.{rules}
 use Rattle.running.proofs.counts_of.Goals as goal
 
 pub returns-in_default : goal.returns-in_default

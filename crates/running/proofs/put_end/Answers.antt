@@ -2,7 +2,6 @@
 -- Assumes nothing.
 use Rattle.text.specs.Text.{ascii}
 use Rattle.text.proofs.TextLaws.{put}
-use borrow.Author.Rules.{rules}
 use Rattle.running.proofs.put_end.Goals as goal
 
 pub returns-then-calm : goal.returns-then-calm

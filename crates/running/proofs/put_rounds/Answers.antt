@@ -1,17 +1,12 @@
 -- `put_rounds`: what is written so far and what is to come are the rounds; each round leaves a net.
 -- Assumes nothing.
-use mathlib.Core.Path.{◌≡◌, refl, ◌∙◌}
-use Prim.Native.Nat.{◌+◌, ◌≤◌, ◌-◌}
+use mathlib.Core.Path.{refl, ◌∙◌}
+use Prim.Native.Nat.{◌-◌}
 use native.Mathlib.Omega.{arith}
-use lib.ListN.{length}
 use Rattle.tables.specs.Tables.{tables_of}
-use Rattle.net.specs.Net.{net_number}
 use Rattle.rounds.proofs.Sound.{current_in}
 use Rattle.simulator.proofs.RunLaws.{test_going, test_below}
-use Rattle.text.proofs.TextLaws.{ToCome}
-use Rattle.running.specs.Running.{round_lines}
-use Rattle.running.proofs.RoundsLaws.{later, net_left, round_put, begun_inside, rounds_end}
-use borrow.Author.Rules.{rules}
+use Rattle.running.proofs.RoundsLaws.{net_left, round_put, begun_inside, rounds_end}
 use Rattle.running.proofs.put_rounds.Goals as goal
 
 pub loop-calm-init : goal.loop-calm-init

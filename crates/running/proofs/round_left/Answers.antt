@@ -3,7 +3,6 @@
 use native.Mathlib.Omega.{arith}
 use Rattle.tables.specs.Tables.{tables_of}
 use Rattle.running.proofs.RoundsLaws.{rounded}
-use borrow.Author.Rules.{rules}
 use Rattle.running.proofs.round_left.Goals as goal
 
 pub returns : goal.returns

@@ -1,6 +1,5 @@
 -- `all_ones`: the shifted one less one is the word of the width's bits; at 64 the largest word.
 -- Assumes nothing.
-use borrow.Author.Rules.{rules}
 use mathlib.Core.Path.{◌≡◌}
 use native.Mathlib.Omega.{arith}
 use lib.Pow.{pow_pos}

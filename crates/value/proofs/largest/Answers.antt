@@ -1,6 +1,5 @@
 -- `largest`: the smaller of the width and the widest is the one that the test finds.
 -- Assumes nothing.
-use borrow.Author.Rules.{rules}
 use mathlib.Core.Path.{◌≡◌, ◌∙◌, ap}
 use Prim.Native.Nat.{min}
 use native.Mathlib.Omega.{arith}

@@ -6,7 +6,6 @@ use Rattle.tables.specs.Tables.{Tables}
 use Rattle.tables.specs.Words.{no_counts}
 use Rattle.net.specs.Parts.{lent}
 use Rattle.judging.proofs.JudgingLaws.{const_agrees, switch_aside, clock_aside, judged_other}
-use borrow.Author.Rules.{rules}
 use Rattle.judging.proofs.components.component_agrees.Goals as goal
 use Rattle.judging.proofs.components.component_agrees.Lts as lts
 use Rattle.judging.proofs.components.component_agrees.Tie as tie

@@ -8,7 +8,6 @@ use Rattle.tables.proofs.RowsLaws.{obeyed_fit}
 use Rattle.net.specs.Parts.{lent}
 use Rattle.rounds.proofs.StepsLaws.{lent_inputs, lent_outputs}
 use Rattle.judging.proofs.JudgingLaws.{should_room, should_length, should_own, should_kept, should_compared}
-use borrow.Author.Rules.{rules}
 use Rattle.judging.proofs.components.has_outputs.Goals as goal
 use Rattle.judging.proofs.components.has_outputs.Lts as lts
 use Rattle.judging.proofs.components.has_outputs.Tie as tie

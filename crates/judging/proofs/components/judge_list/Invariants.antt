@@ -1,22 +1,17 @@
 -- `judge_list`: the entries still to come agree exactly if all do; those passed are marked.
 -- Assumes nothing.
-use mathlib.Core.Path.{◌≡◌, refl, sym, ap, ◌∙◌, subst}
-use mathlib.Core.Bool.{Bool, false≢true}
-use mathlib.Core.List.{List, [], ◌++◌, append-nil}
+use mathlib.Core.Path.{◌≡◌}
+use mathlib.Core.Bool.{Bool}
+use mathlib.Core.List.{List, [], ◌++◌}
 use Prim.Native.Nat.{ℕ, ◌-◌, ◌≤◌}
-use native.Mathlib.Omega.{arith}
-use borrow.Author.Tests.{not-true, not-false}
 use lib.ListN.{length, take}
 use lib.Seq.{slice}
 use Rattle.lists.specs.Lists.{every}
-use Rattle.net.proofs.LoopsLaws.{every_slice-fails, every_slice-next, every_slice-end}
 use Rattle.tables.specs.Words.{no_counts}
 use Rattle.net.specs.Parts.{lent}
 use Rattle.rounds.specs.Links.{IsListed}
 use Rattle.judging.specs.Judged.{component_agrees}
 use Rattle.judging.specs.Steps.{MarkedAgree}
-use Rattle.judging.proofs.JudgingLaws.{listed_entry}
-use borrow.Author.Rules.{rules}
 use Rattle.judging.proofs.components.judge_list.Given as goal
 
 abbrev pub agrees : List ℕ → List ℕ → List ℕ → ℕ → Bool

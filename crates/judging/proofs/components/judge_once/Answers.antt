@@ -7,7 +7,6 @@ use Rattle.tables.specs.Words.{no_counts}
 use Rattle.net.specs.Parts.{lent}
 use Rattle.rounds.proofs.ListedLaws.{listed_more}
 use Rattle.judging.proofs.JudgingLaws.{agree_more, listed_again}
-use borrow.Author.Rules.{rules}
 use Rattle.judging.proofs.components.judge_once.Goals as goal
 use Rattle.judging.proofs.components.judge_once.Lts as lts
 use Rattle.judging.proofs.components.judge_once.Tie as tie

@@ -1,17 +1,10 @@
 -- `outputs_are`: the outputs still to come are as they should be exactly if all are.
 -- Assumes nothing.
-use mathlib.Core.Path.{◌≡◌}
-use mathlib.Core.Bool.{Bool}
-use mathlib.Core.List.{List}
-use Prim.Native.Nat.{ℕ, ◌+◌, ◌-◌, ◌≤◌}
+use Prim.Native.Nat.{◌-◌}
 use native.Mathlib.Omega.{arith}
 use borrow.Author.Tests.{eq-eqb, ne_eqb}
-use lib.ListN.{get_or}
-use lib.Dec.{eqb}
-use Rattle.lists.specs.Lists.{from, every}
 use Rattle.lists.proofs.ListsLaws.{every_fails, every_next, every_end}
 use Rattle.net.proofs.LoopsLaws.{from_start}
-use borrow.Author.Rules.{rules}
 use Rattle.judging.proofs.components.outputs_are.Goals as goal
 use Rattle.judging.proofs.components.outputs_are.Invariants.{same}
 

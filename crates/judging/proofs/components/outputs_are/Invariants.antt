@@ -4,14 +4,9 @@ use mathlib.Core.Path.{◌≡◌}
 use mathlib.Core.Bool.{Bool}
 use mathlib.Core.List.{List}
 use Prim.Native.Nat.{ℕ, ◌+◌, ◌-◌, ◌≤◌}
-use native.Mathlib.Omega.{arith}
-use borrow.Author.Tests.{eq-eqb, ne_eqb}
 use lib.ListN.{get_or}
 use lib.Dec.{eqb}
 use Rattle.lists.specs.Lists.{from, every}
-use Rattle.lists.proofs.ListsLaws.{every_fails, every_next, every_end}
-use Rattle.net.proofs.LoopsLaws.{from_start}
-use borrow.Author.Rules.{rules}
 use Rattle.judging.proofs.components.outputs_are.Given as goal
 
 abbrev pub same : List ℕ → ℕ → List ℕ → ℕ → Bool

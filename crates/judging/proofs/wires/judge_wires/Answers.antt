@@ -1,20 +1,12 @@
 -- `judge_wires`: the wires still to come agree, where they leave a marked component, exactly if all do.
 -- Assumes nothing.
-use mathlib.Core.Path.{◌≡◌, sym, ◌∙◌}
-use mathlib.Core.Bool.{Bool, not, ◌||◌}
-use mathlib.Core.List.{List, []}
-use Prim.Native.Nat.{ℕ, ◌-◌, ◌≤◌}
+use mathlib.Core.Path.{sym, ◌∙◌}
+use Prim.Native.Nat.{◌-◌}
 use native.Mathlib.Omega.{arith}
-use borrow.Author.Tests.{not-true, not-false}
-use Rattle.lists.specs.Lists.{from, every, has}
+use Rattle.lists.specs.Lists.{from}
 use Rattle.lists.proofs.ListsLaws.{every_fails, every_next, every_end}
 use Rattle.net.proofs.LoopsLaws.{from_start, every_map}
-use Rattle.tables.specs.declared.Wire.{Wire}
-use Rattle.tables.specs.Words.{no_counts, wire_in}
-use Rattle.net.specs.Parts.{lent}
-use Rattle.rounds.specs.Links.{IsListed}
-use Rattle.judging.specs.Judged.{wire_agrees}
-use borrow.Author.Rules.{rules}
+use Rattle.tables.specs.Words.{wire_in}
 use Rattle.judging.proofs.wires.judge_wires.Goals as goal
 use Rattle.judging.proofs.wires.judge_wires.Invariants.{agrees}
 

@@ -1,20 +1,15 @@
 -- `judge_wires`: the wires still to come agree, where they leave a marked component, exactly if all do.
 -- Assumes nothing.
-use mathlib.Core.Path.{◌≡◌, sym, ◌∙◌}
+use mathlib.Core.Path.{◌≡◌}
 use mathlib.Core.Bool.{Bool, not, ◌||◌}
 use mathlib.Core.List.{List, []}
 use Prim.Native.Nat.{ℕ, ◌-◌, ◌≤◌}
-use native.Mathlib.Omega.{arith}
-use borrow.Author.Tests.{not-true, not-false}
 use Rattle.lists.specs.Lists.{from, every, has}
-use Rattle.lists.proofs.ListsLaws.{every_fails, every_next, every_end}
-use Rattle.net.proofs.LoopsLaws.{from_start, every_map}
 use Rattle.tables.specs.declared.Wire.{Wire}
 use Rattle.tables.specs.Words.{no_counts, wire_in}
 use Rattle.net.specs.Parts.{lent}
 use Rattle.rounds.specs.Links.{IsListed}
 use Rattle.judging.specs.Judged.{wire_agrees}
-use borrow.Author.Rules.{rules}
 use Rattle.judging.proofs.wires.judge_wires.Given as goal
 
 -- What is tested of a wire, where the marks are of what xs names.

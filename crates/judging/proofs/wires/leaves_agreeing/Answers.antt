@@ -11,7 +11,6 @@ use Rattle.net.specs.Parts.{lent}
 use Rattle.judging.specs.Judged.{wire_agrees}
 use Rattle.judging.specs.Steps.{CanCompare}
 use Rattle.judging.proofs.JudgingLaws.{unmarked_wire, marked_wire}
-use borrow.Author.Rules.{rules}
 use Rattle.judging.proofs.wires.leaves_agreeing.Goals as goal
 use Rattle.judging.proofs.wires.leaves_agreeing.Lts as lts
 use Rattle.judging.proofs.wires.leaves_agreeing.Tie as tie

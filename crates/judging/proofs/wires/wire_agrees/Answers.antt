@@ -1,6 +1,5 @@
 -- `wire_agrees`: both ends stand in the tables, and their numbers are compared.
 -- Assumes nothing.
-use borrow.Author.Rules.{rules}
 use Rattle.judging.proofs.wires.wire_agrees.Goals as goal
 
 pub returns : goal.returns

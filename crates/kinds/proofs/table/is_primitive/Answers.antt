@@ -1,6 +1,5 @@
 -- `is_primitive`: the tests are those of the definition.
 -- Assumes nothing.
-use borrow.Author.Rules.{rules}
 use Rattle.kinds.proofs.table.is_primitive.Goals as goal
 
 pub returns : goal.returns

@@ -1,5 +1,4 @@
 use Rattle.kinds.specs.Kinds.{obeys}
-use borrow.Author.Rules.{rules}
 use Rattle.kinds.proofs.table.obeys.Goals as goal
 
 pub returns : goal.returns

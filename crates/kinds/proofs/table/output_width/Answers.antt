@@ -1,4 +1,3 @@
-use borrow.Author.Rules.{rules}
 use Rattle.kinds.proofs.table.output_width.Goals as goal
 
 pub returns : goal.returns

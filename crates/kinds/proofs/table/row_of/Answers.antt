@@ -1,5 +1,4 @@
 use Rattle.kinds.proofs.KindsLaws.{row_of-known, row_of-kept, row_of-unknown}
-use borrow.Author.Rules.{rules}
 use Rattle.kinds.proofs.table.row_of.Goals as goal
 
 pub returns-in-Known : goal.returns-in-Known

@@ -1,4 +1,3 @@
-use borrow.Author.Rules.{rules}
 use Rattle.kinds.proofs.table.table_row.Goals as goal
 
 pub returns-in-Composite : goal.returns-in-Composite

@@ -1,4 +1,3 @@
-use borrow.Author.Rules.{rules}
 use Rattle.kinds.proofs.table.values.Goals as goal
 
 pub returns : goal.returns

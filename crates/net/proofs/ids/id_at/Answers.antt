@@ -3,7 +3,6 @@
 use native.Mathlib.Omega.{arith}
 use Rattle.value.proofs.ValueLaws.{below_lt}
 use Rattle.tables.specs.Words.{id_in}
-use borrow.Author.Rules.{rules}
 use Rattle.net.proofs.ids.id_at.Goals as goal
 
 pub overflow_cast-result : goal.overflow_cast-result

@@ -1,6 +1,5 @@
 -- `id_fits`: the word is read and compared.
 -- Assumes nothing.
-use borrow.Author.Rules.{rules}
 use Rattle.net.proofs.ids.id_fits.Goals as goal
 
 pub returns : goal.returns

@@ -9,7 +9,6 @@ use Rattle.lists.specs.Lists.{from, has}
 use Rattle.lists.proofs.KeysLaws.{marks_up}
 use Rattle.kinds.specs.Marks.{mark_of}
 use Rattle.tables.specs.Words.{id_in}
-use borrow.Author.Rules.{rules}
 use Rattle.net.proofs.ids.id_new.Goals as goal
 use Rattle.net.proofs.ids.id_new.Lts as lts
 use Rattle.net.proofs.ids.id_new.Tie as tie

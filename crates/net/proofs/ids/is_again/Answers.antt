@@ -6,7 +6,6 @@ use lib.ListN.{get_or}
 use Rattle.kinds.specs.Marks.{mark_of}
 use Rattle.tables.specs.Words.{id_in}
 use Rattle.net.proofs.PassLaws.{has_unmarked}
-use borrow.Author.Rules.{rules}
 use Rattle.net.proofs.ids.is_again.Goals as goal
 
 pub returns-then-marks-at-eq0 : goal.returns-then-marks-at-eq0

@@ -1,17 +1,14 @@
 -- `names`: the entries still to come name components that are fresh exactly if all name components and none stands
 -- twice.
 -- Assumes nothing.
-use mathlib.Core.Path.{◌≡◌, refl}
+use mathlib.Core.Path.{◌≡◌}
 use mathlib.Core.Bool.{◌&&◌}
 use Prim.Native.Nat.{◌-◌, ◌≤◌}
-use native.Mathlib.Omega.{arith}
-use lib.ListN.{length, take, length-set}
+use lib.ListN.{length, take}
 use lib.Seq.{slice}
 use lib.Dec.{ltb}
 use Rattle.lists.specs.Lists.{every, distinct}
-use Rattle.net.specs.Net.{names}
-use Rattle.net.proofs.MarksLaws.{naming, naming_start, naming_slice-past, naming_slice-again, naming_slice-next, naming_slice-end}
-use borrow.Author.Rules.{rules}
+use Rattle.net.proofs.MarksLaws.{naming}
 use Rattle.net.proofs.naming.names.Given as goal
 
 abbrev pub invariant-loop-i : goal.invariant-loop-i

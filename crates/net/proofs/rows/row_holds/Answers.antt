@@ -1,6 +1,5 @@
 -- `row_holds`: widths of a component that obeys the table of kinds fit a byte; the first test that fails decides.
 -- Assumes nothing.
-use borrow.Author.Tests.{not-true, not-false}
 use mathlib.Core.Path.{◌≡◌, sym, ap, ◌∙◌}
 use mathlib.Core.Bool.{Bool, ◌&&◌}
 use native.Mathlib.Omega.{arith}
@@ -10,7 +9,6 @@ use Rattle.tables.specs.Words.{fields_in}
 use Rattle.tables.proofs.RowsLaws.{obeyed_fit}
 use Rattle.net.specs.Parts.{values_fit_at, held_at}
 use Rattle.net.proofs.PassLaws.{input_width-small, output_width-small}
-use borrow.Author.Rules.{rules}
 use Rattle.net.proofs.rows.row_holds.Goals as goal
 use Rattle.net.proofs.rows.row_holds.Lts as lts
 use Rattle.net.proofs.rows.row_holds.Tie as tie

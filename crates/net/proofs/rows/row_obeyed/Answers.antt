@@ -1,9 +1,7 @@
 -- `row_obeyed`: a component whose words do not fit obeys nothing; of one whose words fit, the fields are tested.
 -- Assumes nothing.
-use borrow.Author.Tests.{not-true, not-false}
 use mathlib.Core.Path.{sym, ◌∙◌}
 use Rattle.tables.proofs.RowsLaws.{unfit_obeys}
-use borrow.Author.Rules.{rules}
 use Rattle.net.proofs.rows.row_obeyed.Goals as goal
 
 pub returns-then-not-fields_fit : goal.returns-then-not-fields_fit

@@ -1,6 +1,5 @@
 -- `row_stands`: the first test that fails decides.
 -- Assumes nothing.
-use borrow.Author.Tests.{not-true, not-false}
 use mathlib.Core.Path.{◌≡◌, sym, ◌∙◌}
 use mathlib.Core.Bool.{true}
 use Rattle.net.specs.Parts.{obeyed_at}

@@ -4,7 +4,7 @@ use borrow.Author.Tests.{not-true, not-false}
 use mathlib.Core.Path.{◌≡◌, refl, sym, ap, ◌∙◌, subst}
 use mathlib.Core.Bool.{Bool, true, false, ◌&&◌, true≢false}
 use mathlib.Core.List.{[], map}
-use Prim.Native.Nat.{ℕ, ◌-◌, ◌≤◌}
+use Prim.Native.Nat.{ℕ, ◌-◌}
 use native.Mathlib.Omega.{arith}
 use Rattle.lists.specs.Lists.{from, every, distinct}
 use Rattle.lists.proofs.TestsLaws.{and_both}
@@ -13,7 +13,7 @@ use Rattle.lists.proofs.KeysLaws.{marks_start}
 use Rattle.kinds.specs.Marks.{mark_of}
 use Rattle.tables.specs.Words.{fields_in, id_in, uncounted}
 use Rattle.net.specs.Net.{input_sum, output_sum}
-use Rattle.net.specs.Parts.{obeyed_at, stands_at, holds_at, row_right, IdsMarked, Widths}
+use Rattle.net.specs.Parts.{obeyed_at, stands_at, holds_at, row_right, Widths}
 use Rattle.net.proofs.LoopsLaws.{from_start, total_step}
 use Rattle.net.proofs.PassLaws.{stands_obeyed, stands_id, stands_ports, stands_within, ports_inside, within_inputs, within_outputs}
 use Rattle.net.proofs.PassLaws.{rows_fail, rows_again, rows_end, distinct_next, widths_next}

@@ -1,22 +1,13 @@
 -- `rows_right`: the rows so far are right, their ids are distinct and marked, and the widths of their ports are noted.
 -- Assumes nothing.
-use borrow.Author.Tests.{not-true, not-false}
-use mathlib.Core.Path.{◌≡◌, refl, sym, ap, ◌∙◌, subst}
-use mathlib.Core.Bool.{Bool, true, false, ◌&&◌, true≢false}
+use mathlib.Core.Path.{◌≡◌}
+use mathlib.Core.Bool.{true}
 use mathlib.Core.List.{[], map}
-use Prim.Native.Nat.{ℕ, ◌-◌, ◌≤◌}
-use native.Mathlib.Omega.{arith}
+use Prim.Native.Nat.{◌-◌, ◌≤◌}
 use Rattle.lists.specs.Lists.{from, every, distinct}
-use Rattle.lists.proofs.TestsLaws.{and_both}
-use Rattle.lists.proofs.ListsLaws.{every_fails, every_next, every_end}
-use Rattle.lists.proofs.KeysLaws.{marks_start}
-use Rattle.kinds.specs.Marks.{mark_of}
-use Rattle.tables.specs.Words.{fields_in, id_in, uncounted}
+use Rattle.tables.specs.Words.{id_in, uncounted}
 use Rattle.net.specs.Net.{input_sum, output_sum}
-use Rattle.net.specs.Parts.{obeyed_at, stands_at, holds_at, row_right, IdsMarked, Widths}
-use Rattle.net.proofs.LoopsLaws.{from_start, total_step}
-use Rattle.net.proofs.PassLaws.{stands_obeyed, stands_id, stands_ports, stands_within, ports_inside, within_inputs, within_outputs}
-use Rattle.net.proofs.PassLaws.{rows_fail, rows_again, rows_end, distinct_next, widths_next}
+use Rattle.net.specs.Parts.{row_right, IdsMarked, Widths}
 use Rattle.net.proofs.rows.rows_right.Given as goal
 
 abbrev pub invariant-loop-i : goal.invariant-loop-i

@@ -1,16 +1,12 @@
 -- `all_fit`: the values still to come fit exactly if all do.
 -- Assumes nothing.
 use borrow.Author.Tests.{not-true, not-false}
-use mathlib.Core.Path.{◌≡◌, refl, sym, ap, ◌∙◌}
-use mathlib.Core.Bool.{Bool}
-use Prim.Native.Nat.{ℕ, ◌+◌, ◌-◌, ◌≤◌}
+use mathlib.Core.Path.{refl, sym, ap, ◌∙◌}
+use Prim.Native.Nat.{◌+◌, ◌-◌}
 use native.Mathlib.Omega.{arith}
-use lib.Seq.{slice}
-use Rattle.lists.specs.Lists.{every}
 use Rattle.value.specs.declared.Fit.{Fit}
-use Rattle.value.specs.Value.{fits, of_width}
+use Rattle.value.specs.Value.{fits}
 use Rattle.net.proofs.LoopsLaws.{every_slice-fails, every_slice-next, every_slice-end}
-use borrow.Author.Rules.{rules}
 use Rattle.net.proofs.values.all_fit.Goals as goal
 use Rattle.net.proofs.values.all_fit.Invariants.{fits_bits}
 

@@ -1,6 +1,5 @@
 -- `row_held`: no Const has nothing to hold; of a Const the words are compared.
 -- Assumes nothing.
-use borrow.Author.Tests.{not-true, not-false}
 use mathlib.Core.Path.{◌≡◌, sym, ◌∙◌}
 use mathlib.Core.Bool.{true}
 use native.Mathlib.Omega.{arith}

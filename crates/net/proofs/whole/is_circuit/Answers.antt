@@ -3,14 +3,12 @@
 use mathlib.Core.Path.{◌≡◌, sym, ◌∙◌}
 use mathlib.Core.Bool.{true}
 use mathlib.Core.List.{[]}
-use borrow.Author.Tests.{not-true, not-false}
 use native.Mathlib.Omega.{arith}
 use Rattle.net.specs.Net.{counts_within}
 use Rattle.net.specs.Parts.{lent, rows_right}
 use Rattle.net.proofs.ClausesLaws.{Within, counts_within-sound}
 use Rattle.net.proofs.PassLaws.{widths_start, rows_follow}
 use Rattle.net.proofs.CircuitLaws.{circuit_counts, circuit_rows, circuit_wires}
-use borrow.Author.Rules.{rules}
 use Rattle.net.proofs.whole.is_circuit.Goals as goal
 use Rattle.net.proofs.whole.is_circuit.Lts as lts
 use Rattle.net.proofs.whole.is_circuit.Tie as tie

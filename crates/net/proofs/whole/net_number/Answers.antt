@@ -1,11 +1,9 @@
 -- `net_number`: 2, 16 or 0 by the two tests.
 -- Assumes nothing.
-use borrow.Author.Tests.{not-true, not-false}
 use mathlib.Core.Path.{◌≡◌, sym, ◌∙◌}
 use mathlib.Core.Bool.{true}
 use Rattle.tables.specs.Tables.{Tables, tables_of, full_size}
 use Rattle.net.proofs.NetLaws.{net_number-2, net_number-16, net_number-0}
-use borrow.Author.Rules.{rules}
 use Rattle.net.proofs.whole.net_number.Goals as goal
 use Rattle.net.proofs.whole.net_number.Lts as lts
 use Rattle.net.proofs.whole.net_number.Tie as tie

@@ -1,8 +1,6 @@
-use mathlib.Core.Path.{◌≡◌, sym}
-use Prim.Native.Nat.{ℕ, ◌-◌, ◌<◌}
+use Prim.Native.Nat.{◌-◌}
 use native.Mathlib.Omega.{arith}
 use borrow.Author.Rules.{rules}
-use Rattle.primitive.specs.Own.{Doubled}
 use Rattle.primitive.proofs.RemainderLaws.{once, more, shifted}
 use Rattle.primitive.proofs.remainder.doubled.Goals as goal
 

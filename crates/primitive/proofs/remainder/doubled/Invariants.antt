@@ -1,9 +1,5 @@
-use mathlib.Core.Path.{◌≡◌, sym}
-use Prim.Native.Nat.{ℕ, ◌-◌, ◌<◌}
-use native.Mathlib.Omega.{arith}
-use borrow.Author.Rules.{rules}
+use Prim.Native.Nat.{◌-◌, ◌<◌}
 use Rattle.primitive.specs.Own.{Doubled}
-use Rattle.primitive.proofs.RemainderLaws.{once, more, shifted}
 use Rattle.primitive.proofs.remainder.doubled.Given as goal
 
 abbrev pub invariant-loop-multiple : goal.invariant-loop-multiple

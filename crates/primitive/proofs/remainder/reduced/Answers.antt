@@ -1,6 +1,5 @@
-use mathlib.Core.Path.{◌≡◌, sym}
+use mathlib.Core.Path.{sym}
 use native.Mathlib.Nat.{mod-eq_of_lt}
-use borrow.Author.Rules.{rules}
 use Rattle.primitive.proofs.RemainderLaws.{reached}
 use Rattle.primitive.proofs.remainder.reduced.Goals as goal
 

@@ -1,10 +1,6 @@
-use mathlib.Core.Path.{◌≡◌, ◌∙◌, sym, ap}
-use Prim.Native.Nat.{ℕ, ◌*◌, ◌/◌, ◌%◌, ◌≤◌, ◌<◌}
-use native.Mathlib.Omega.{arith}
-use native.Mathlib.Nat.{mod-lt}
-use borrow.Author.Rules.{rules}
+use mathlib.Core.Path.{◌≡◌}
+use Prim.Native.Nat.{◌%◌}
 use Rattle.primitive.specs.Own.{Doubled}
-use Rattle.primitive.proofs.RemainderLaws.{halved, halved_mod, ended}
 use Rattle.primitive.proofs.remainder.remainder.Given as goal
 
 abbrev pub invariant-loop-multiple : goal.invariant-loop-multiple

@@ -1,4 +1,3 @@
-use borrow.Author.Rules.{rules}
 use Rattle.primitive.proofs.rules.any_high.Goals as goal
 
 pub returns : goal.returns

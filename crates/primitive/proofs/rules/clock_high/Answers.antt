@@ -1,5 +1,4 @@
 use native.Mathlib.Omega.{arith}
-use borrow.Author.Rules.{rules}
 use Rattle.primitive.proofs.rules.clock_high.Goals as goal
 
 pub remainder-requires : goal.remainder-requires

@@ -1,12 +1,8 @@
-use mathlib.Core.Path.{◌≡◌}
-use mathlib.Core.Logic.{⊎_elim}
-use Prim.Native.Nat.{◌+◌, ◌-◌, ◌≤◌}
+use Prim.Native.Nat.{◌-◌}
 use native.Mathlib.Nat.{zero-add}
 use native.Mathlib.Omega.{arith}
-use lib.ListN.{length, drop}
 use Rattle.primitive.specs.Evaluate.{highs}
 use Rattle.primitive.proofs.RulesLaws.{highs_high, highs_low, highs_end}
-use borrow.Author.Rules.{rules}
 use Rattle.primitive.proofs.rules.count_high.Goals as goal
 use Rattle.primitive.proofs.rules.count_high.Goals.{else-ports-i-gt0, then-ports-i-gt0}
 

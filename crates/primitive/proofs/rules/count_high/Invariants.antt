@@ -1,12 +1,7 @@
 use mathlib.Core.Path.{◌≡◌}
-use mathlib.Core.Logic.{⊎_elim}
 use Prim.Native.Nat.{◌+◌, ◌-◌, ◌≤◌}
-use native.Mathlib.Nat.{zero-add}
-use native.Mathlib.Omega.{arith}
 use lib.ListN.{length, drop}
 use Rattle.primitive.specs.Evaluate.{highs}
-use Rattle.primitive.proofs.RulesLaws.{highs_high, highs_low, highs_end}
-use borrow.Author.Rules.{rules}
 use Rattle.primitive.proofs.rules.count_high.Given as goal
 
 abbrev pub invariant-loop-i : goal.invariant-loop-i

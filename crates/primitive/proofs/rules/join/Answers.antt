@@ -1,13 +1,12 @@
 use mathlib.Core.Path.{◌≡◌, sym, ap, ◌∙◌}
-use Prim.Native.Nat.{ℕ, ◌-◌, ◌≤◌}
+use Prim.Native.Nat.{ℕ, ◌-◌}
 use native.Mathlib.Omega.{arith}
-use lib.ListN.{length, get_or, drop}
+use lib.ListN.{get_or, drop}
 use lib.Seq.{drop-length}
 use Rattle.value.proofs.ValueLaws.{level_le}
 use Rattle.primitive.specs.Evaluate.{join}
 use Rattle.primitive.specs.Own.{high}
 use Rattle.primitive.proofs.RulesLaws.{join_step, join_room}
-use borrow.Author.Rules.{rules}
 use Rattle.primitive.proofs.rules.join.Goals as goal
 
 pub loop-i-init : goal.loop-i-init

@@ -1,6 +1,5 @@
 -- `most_high`: no more ports are high than there are, so that twice their number fits.
 -- Assumes nothing.
-use borrow.Author.Rules.{rules}
 use native.Mathlib.Omega.{arith}
 use Rattle.primitive.proofs.FoldLaws.{highs_le}
 use Rattle.primitive.proofs.rules.most_high.Goals as goal

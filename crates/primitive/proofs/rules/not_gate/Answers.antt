@@ -1,4 +1,3 @@
-use borrow.Author.Rules.{rules}
 use mathlib.Core.Path.{ap}
 use Rattle.value.specs.declared.Value.{Value}
 use Rattle.primitive.proofs.rules.not_gate.Goals as goal

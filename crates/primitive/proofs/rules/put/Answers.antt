@@ -1,7 +1,4 @@
 use mathlib.Core.Path.{◌∙◌, ap, sym}
-use mathlib.Core.List.{List}
-use Prim.Native.Nat.{ℕ}
-use borrow.Author.Rules.{rules}
 use Rattle.primitive.specs.Evaluate.{moved}
 use Rattle.primitive.proofs.RulesLaws.{set_only}
 use Rattle.primitive.proofs.MovedLaws.{moved_only}

@@ -6,7 +6,6 @@ use borrow.Author.Tests.{eq-eqb, ne_eqb}
 use lib.ListN.{get_or, set}
 use lib.Seq.{set-get_or}
 use Rattle.primitive.proofs.MovedLaws.{bit_set}
-use borrow.Author.Rules.{rules}
 use Rattle.primitive.proofs.rules.put_at.Goals as goal
 
 -- It is what it shall be.

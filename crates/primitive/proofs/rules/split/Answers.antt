@@ -1,17 +1,16 @@
 -- `split`: the outputs before i are written, their bits are set, and what is left is the input, halved i times.
 -- Assumes nothing.
 use mathlib.Core.Path.{◌≡◌, refl, sym, ap, ◌∙◌}
-use Prim.Native.Nat.{ℕ, ◌-◌, ◌/◌, ◌%◌, ◌^◌, ◌≤◌, ◌<◌}
+use Prim.Native.Nat.{ℕ, ◌-◌, ◌/◌, ◌%◌, ◌<◌}
 use native.Mathlib.Nat.{div-one}
 use native.Mathlib.Omega.{arith}
-use lib.ListN.{length, get_or, take, length-set}
+use lib.ListN.{length, get_or, length-set}
 use lib.Pow.{shr-shr}
 use Rattle.value.specs.declared.Value.{Value}
 use Rattle.value.proofs.ValueLaws.{bit_of-lowest}
 use Rattle.primitive.specs.Evaluate.{split, moved}
 use Rattle.primitive.proofs.RulesLaws.{split_length, split_at}
-use Rattle.primitive.proofs.MovedLaws.{written, written_step, moved_step, moved_room, written_all, moved_all}
-use borrow.Author.Rules.{rules}
+use Rattle.primitive.proofs.MovedLaws.{written_step, moved_step, moved_room, written_all, moved_all}
 use Rattle.primitive.proofs.rules.split.Goals as goal
 
 pub loop-i-init : goal.loop-i-init

@@ -1,6 +1,5 @@
 -- `update`: a primitive's number is read as a kind, so the last two arms are never taken.
 -- Assumes nothing.
-use borrow.Author.Rules.{rules}
 use mathlib.Core.Path.{◌≡◌, sym, ◌∙◌}
 use Rattle.kinds.specs.declared.Seen.TheVariants.{Known}
 use Rattle.kinds.specs.Kinds.{seen_as}

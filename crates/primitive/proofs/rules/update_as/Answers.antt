@@ -1,6 +1,5 @@
 -- `update_as`: each arm leaves the rule of its kind, and answers what it has changed. What a kind's ports are comes from its row of the table of kinds.
 -- Assumes nothing.
-use borrow.Author.Rules.{rules}
 use mathlib.Core.Path.{◌≡◌, refl, sym, ap, ◌∙◌}
 use mathlib.Core.Bool.{Bool, true, false, not}
 use mathlib.Core.List.{List, [], ◌∷◌}

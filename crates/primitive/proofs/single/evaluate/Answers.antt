@@ -1,6 +1,5 @@
 -- `evaluate`: the number decides; where it is 0 the component's ports are there and `update` may have them.
 -- Assumes nothing.
-use borrow.Author.Rules.{rules}
 use mathlib.Core.Path.{◌≡◌, sym, ◌∙◌}
 use Rattle.primitive.specs.Evaluate.{evaluate_number}
 use Rattle.primitive.proofs.EvaluateLaws.{there_outputs, passed_there, passed_own, refused_answer, refused_outputs, done_answer, done_outputs}

@@ -1,7 +1,5 @@
 -- `evaluate_number`: the tests stand in the order of the definition's checks, so at each return those before did not hold.
 -- Assumes nothing.
-use borrow.Author.Rules.{rules}
-use borrow.Author.Tests.{not-true, not-false}
 use mathlib.Core.Path.{◌≡◌, sym, ◌∙◌}
 use mathlib.Core.Bool.{true, false, ◌&&◌}
 use Rattle.kinds.specs.Kinds.{for_custom, unknown, primitive, obeys}

@@ -1,7 +1,6 @@
 -- `net_calm`: the first list that names another ends it; else the last one decides.
 -- Assumes nothing.
 use mathlib.Core.Path.{◌≡◌, sym, ◌∙◌}
-use mathlib.Core.Logic.{⊎_elim}
 use mathlib.Core.Bool.{Bool, ◌&&◌}
 use mathlib.Core.List.{List, []}
 use Prim.Native.Nat.{ℕ}
@@ -9,7 +8,6 @@ use lib.ListN.{take}
 use Rattle.lists.proofs.TestsLaws.{and_first, and_second}
 use Rattle.tables.specs.Words.{uncounted}
 use Rattle.rounds.specs.Round.{only_clocks, calm}
-use borrow.Author.Rules.{rules}
 use Rattle.rounds.proofs.calm.net_calm.Goals as goal
 use Rattle.rounds.proofs.calm.net_calm.Goals.{else-only_clocks, then-only_clocks}
 use Rattle.rounds.proofs.calm.net_calm.Lts as lts

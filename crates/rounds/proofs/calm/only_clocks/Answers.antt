@@ -1,19 +1,9 @@
 -- `only_clocks`: the entries still to come name only Clocks exactly if all do.
 -- Assumes nothing.
-use borrow.Author.Tests.{not-true, not-false}
-use mathlib.Core.Path.{◌≡◌, refl, sym, ap, ◌∙◌}
-use mathlib.Core.Bool.{Bool}
-use mathlib.Core.List.{List}
-use Prim.Native.Nat.{ℕ, ◌-◌, ◌≤◌}
+use mathlib.Core.Path.{refl, sym, ap, ◌∙◌}
+use Prim.Native.Nat.{◌-◌}
 use native.Mathlib.Omega.{arith}
-use lib.ListN.{take}
-use lib.Seq.{slice}
-use Rattle.lists.specs.Lists.{every}
-use Rattle.kinds.specs.declared.Kind.TheVariants.{Clock}
-use Rattle.kinds.specs.Kinds.{is}
 use Rattle.net.proofs.LoopsLaws.{every_slice-fails, every_slice-next, every_slice-end}
-use Rattle.tables.specs.Words.{fields_in}
-use borrow.Author.Rules.{rules}
 use Rattle.rounds.proofs.calm.only_clocks.Goals as goal
 use Rattle.rounds.proofs.calm.only_clocks.Invariants.{clock}
 

@@ -1,19 +1,15 @@
 -- `only_clocks`: the entries still to come name only Clocks exactly if all do.
 -- Assumes nothing.
-use borrow.Author.Tests.{not-true, not-false}
-use mathlib.Core.Path.{◌≡◌, refl, sym, ap, ◌∙◌}
+use mathlib.Core.Path.{◌≡◌}
 use mathlib.Core.Bool.{Bool}
 use mathlib.Core.List.{List}
 use Prim.Native.Nat.{ℕ, ◌-◌, ◌≤◌}
-use native.Mathlib.Omega.{arith}
 use lib.ListN.{take}
 use lib.Seq.{slice}
 use Rattle.lists.specs.Lists.{every}
 use Rattle.kinds.specs.declared.Kind.TheVariants.{Clock}
 use Rattle.kinds.specs.Kinds.{is}
-use Rattle.net.proofs.LoopsLaws.{every_slice-fails, every_slice-next, every_slice-end}
 use Rattle.tables.specs.Words.{fields_in}
-use borrow.Author.Rules.{rules}
 use Rattle.rounds.proofs.calm.only_clocks.Given as goal
 
 abbrev pub clock : List ℕ → ℕ → Bool

@@ -1,13 +1,11 @@
 -- `is_order`: the entries still to come name wires that are fresh exactly if all name wires and none stands twice.
 -- Assumes nothing.
-use mathlib.Core.Path.{◌≡◌, refl}
-use Prim.Native.Nat.{◌-◌, ◌≤◌}
+use mathlib.Core.Path.{refl}
+use Prim.Native.Nat.{◌-◌}
 use native.Mathlib.Omega.{arith}
-use lib.ListN.{length, take, length-set}
-use lib.Seq.{slice}
-use Rattle.net.proofs.MarksLaws.{naming, naming_start, naming_slice-past, naming_slice-again, naming_slice-next, naming_slice-end}
+use lib.ListN.{take, length-set}
+use Rattle.net.proofs.MarksLaws.{naming_start, naming_slice-past, naming_slice-again, naming_slice-next, naming_slice-end}
 use Rattle.rounds.specs.Round.{is_order}
-use borrow.Author.Rules.{rules}
 use Rattle.rounds.proofs.links.is_order.Goals as goal
 
 pub loop-k-init : goal.loop-k-init

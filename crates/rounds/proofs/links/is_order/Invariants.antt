@@ -1,13 +1,11 @@
 -- `is_order`: the entries still to come name wires that are fresh exactly if all name wires and none stands twice.
 -- Assumes nothing.
-use mathlib.Core.Path.{◌≡◌, refl}
+use mathlib.Core.Path.{◌≡◌}
 use Prim.Native.Nat.{◌-◌, ◌≤◌}
-use native.Mathlib.Omega.{arith}
-use lib.ListN.{length, take, length-set}
+use lib.ListN.{length}
 use lib.Seq.{slice}
-use Rattle.net.proofs.MarksLaws.{naming, naming_start, naming_slice-past, naming_slice-again, naming_slice-next, naming_slice-end}
+use Rattle.net.proofs.MarksLaws.{naming}
 use Rattle.rounds.specs.Round.{is_order}
-use borrow.Author.Rules.{rules}
 use Rattle.rounds.proofs.links.is_order.Given as goal
 
 abbrev pub invariant-loop-k : goal.invariant-loop-k

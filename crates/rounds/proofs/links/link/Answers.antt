@@ -1,11 +1,9 @@
 -- `link`: the wires behind are linked in stored order.
 -- Assumes nothing.
-use Prim.Native.Nat.{◌-◌, ◌≤◌}
+use Prim.Native.Nat.{◌-◌}
 use native.Mathlib.Omega.{arith}
 use Rattle.lists.specs.Lists.{from}
-use Rattle.rounds.specs.Links.{IsLinked}
 use Rattle.rounds.proofs.LinksLaws.{links_start, links_new, links_next, links_end}
-use borrow.Author.Rules.{rules}
 use Rattle.rounds.proofs.links.link.Goals as goal
 
 pub loop-k-init : goal.loop-k-init

@@ -1,12 +1,11 @@
 -- `link_by`: the wires behind are linked in the order that was handed in.
 -- Assumes nothing.
 use mathlib.Core.Path.{◌≡◌, sym, subst}
-use Prim.Native.Nat.{ℕ, ◌-◌, ◌≤◌, ◌<◌}
+use Prim.Native.Nat.{ℕ, ◌-◌, ◌<◌}
 use native.Mathlib.Omega.{arith}
 use lib.Seq.{slice, slice_empty}
 use Rattle.rounds.specs.Links.{IsLinked}
 use Rattle.rounds.proofs.LinksLaws.{order_below, order_new, order_next}
-use borrow.Author.Rules.{rules}
 use Rattle.rounds.proofs.links.link_by.Goals as goal
 
 pub loop-place-init : goal.loop-place-init

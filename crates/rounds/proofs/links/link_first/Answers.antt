@@ -6,7 +6,6 @@ use native.Mathlib.Omega.{arith}
 use Rattle.tables.specs.declared.Wire.{Wire}
 use Rattle.rounds.specs.Links.{source_in}
 use Rattle.rounds.proofs.LinksLaws.{linked_first}
-use borrow.Author.Rules.{rules}
 use Rattle.rounds.proofs.links.link_first.Goals as goal
 use Rattle.rounds.proofs.links.link_first.Lts as lts
 use Rattle.rounds.proofs.links.link_first.Tie as tie

@@ -4,7 +4,6 @@ use native.Mathlib.Omega.{arith}
 use lib.ListN.{take}
 use Rattle.tables.proofs.NamedLaws.{append_there, append_length, append_more}
 use Rattle.rounds.proofs.ListedLaws.{listed_there, listed_new, listed_kept, listed_appended}
-use borrow.Author.Rules.{rules}
 use Rattle.rounds.proofs.marks.append_marked.Goals as goal
 
 pub returns-then-marks-x-ne0 : goal.returns-then-marks-x-ne0

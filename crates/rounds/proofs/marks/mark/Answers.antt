@@ -1,12 +1,11 @@
 -- `mark`: exactly what the entries passed so far name is marked.
 -- Assumes nothing.
 use mathlib.Core.Path.{◌≡◌, subst}
-use Prim.Native.Nat.{ℕ, ◌-◌, ◌≤◌}
+use Prim.Native.Nat.{ℕ, ◌-◌}
 use native.Mathlib.Omega.{arith}
 use lib.ListN.{take}
 use Rattle.rounds.specs.Links.{IsListed}
 use Rattle.rounds.proofs.ListedLaws.{listed_next}
-use borrow.Author.Rules.{rules}
 use Rattle.rounds.proofs.marks.mark.Goals as goal
 
 pub loop-j-init : goal.loop-j-init

@@ -1,12 +1,8 @@
 -- `mark`: exactly what the entries passed so far name is marked.
 -- Assumes nothing.
-use mathlib.Core.Path.{◌≡◌, subst}
-use Prim.Native.Nat.{ℕ, ◌-◌, ◌≤◌}
-use native.Mathlib.Omega.{arith}
+use Prim.Native.Nat.{◌-◌, ◌≤◌}
 use lib.ListN.{take}
 use Rattle.rounds.specs.Links.{IsListed}
-use Rattle.rounds.proofs.ListedLaws.{listed_next}
-use borrow.Author.Rules.{rules}
 use Rattle.rounds.proofs.marks.mark.Given as goal
 
 abbrev pub invariant-loop-j : goal.invariant-loop-j

@@ -1,21 +1,18 @@
 -- `net_run`: the rounds so far, before the run that is still to come, are the whole run; each round leaves a net.
 -- Assumes nothing.
 use mathlib.Core.Path.{◌≡◌, refl, sym, ◌∙◌, subst}
-use Prim.Native.Nat.{ℕ, ◌*◌, ◌≤◌, ◌-◌}
+use Prim.Native.Nat.{ℕ, ◌≤◌, ◌-◌}
 use native.Mathlib.Omega.{arith}
-use lib.ListN.{length}
 use Rattle.lists.specs.Lists.{overlay}
 use Rattle.tables.specs.Tables.{Tables, tables_of, wires_in}
-use Rattle.net.specs.Net.{net_number}
-use Rattle.simulator.specs.Calls.{round_tables, run}
+use Rattle.simulator.specs.Calls.{round_tables}
 use Rattle.rounds.specs.Round.{round_bits, round_of}
 use Rattle.rounds.specs.Links.{Ready}
 use Rattle.rounds.proofs.Sound.{net_within}
 use Rattle.rounds.proofs.LinksLaws.{linked_none, ready_follows}
 use Rattle.rounds.proofs.RoundLaws.{net_sources, net_wires, net_listed, round_stored, round_bits_lem, round_wires, calm_lists}
 use Rattle.simulator.proofs.MovedLaws.{counted_few}
-use Rattle.simulator.proofs.RunLaws.{on_top, stopped, run_by-start, round_net, run_turn, test_going, test_below, run_by-end}
-use borrow.Author.Rules.{rules}
+use Rattle.simulator.proofs.RunLaws.{run_by-start, round_net, run_turn, test_going, test_below, run_by-end}
 use Rattle.simulator.proofs.calls.net_run.Goals as goal
 use Rattle.simulator.proofs.calls.net_run.Lts as lts
 use Rattle.simulator.proofs.calls.net_run.Tie as tie

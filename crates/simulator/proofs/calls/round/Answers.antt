@@ -9,7 +9,6 @@ use Rattle.rounds.proofs.Sound.{net_within}
 use Rattle.rounds.proofs.LinksLaws.{linked_none, ready_follows}
 use Rattle.rounds.proofs.RoundLaws.{net_sources, net_wires, round_stored, round_bits_lem}
 use Rattle.simulator.proofs.CallsLaws.{round_short, round_refused, round_made}
-use borrow.Author.Rules.{rules}
 use Rattle.simulator.proofs.calls.round.Goals as goal
 use Rattle.simulator.proofs.calls.round.Lts as lts
 use Rattle.simulator.proofs.calls.round.Tie as tie

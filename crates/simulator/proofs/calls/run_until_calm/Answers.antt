@@ -3,7 +3,6 @@
 use mathlib.Core.Path.{sym, ◌∙◌}
 use Rattle.tables.specs.Tables.{Tables, tables_of}
 use Rattle.simulator.proofs.RunLaws.{run_refused, run_made}
-use borrow.Author.Rules.{rules}
 use Rattle.simulator.proofs.calls.run_until_calm.Goals as goal
 use Rattle.simulator.proofs.calls.run_until_calm.Lts as lts
 use Rattle.simulator.proofs.calls.run_until_calm.Tie as tie

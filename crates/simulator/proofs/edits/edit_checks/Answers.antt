@@ -7,7 +7,6 @@ use Rattle.net.proofs.ClausesLaws.{kinds_obeyed-fit}
 use Rattle.net.proofs.NetLaws.{passed_net, net_number-net}
 use Rattle.rounds.proofs.RoundLaws.{net_rows, net_wires}
 use Rattle.simulator.proofs.EditsLaws.{edit_refused, edit_net}
-use borrow.Author.Rules.{rules}
 use Rattle.simulator.proofs.edits.edit_checks.Goals as goal
 use Rattle.simulator.proofs.edits.edit_checks.Lts as lts
 use Rattle.simulator.proofs.edits.edit_checks.Tie as tie

@@ -2,11 +2,9 @@
 -- Assumes nothing.
 use mathlib.Core.Path.{◌≡◌, ap, ◌∙◌}
 use mathlib.Core.Bool.{cond, not}
-use mathlib.Core.Logic.{⊎_elim}
 use Rattle.value.specs.declared.Fit.{Fit}
 use Rattle.kinds.specs.Kinds.{input_width, output_width}
 use Rattle.simulator.proofs.EditsLaws.{edit_17, edit_18, edit_19, edit_0}
-use borrow.Author.Rules.{rules}
 use Rattle.simulator.proofs.edits.edit_number.Goals as goal
 use Rattle.simulator.proofs.edits.edit_number.Goals.{else-switch, then-switch}
 use Rattle.simulator.proofs.edits.edit_number.Lts as lts

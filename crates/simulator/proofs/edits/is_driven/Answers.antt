@@ -2,17 +2,13 @@
 -- Assumes nothing.
 use borrow.Author.Tests.{eq-eqb, ne_eqb}
 use mathlib.Core.Path.{◌≡◌, sym, ap, ◌∙◌}
-use mathlib.Core.Bool.{Bool}
-use mathlib.Core.List.{List}
-use Prim.Native.Nat.{ℕ, ◌-◌, ◌≤◌}
+use Prim.Native.Nat.{◌-◌}
 use native.Mathlib.Omega.{arith}
-use lib.Dec.{eqb}
-use Rattle.lists.specs.Lists.{from, any}
+use Rattle.lists.specs.Lists.{any}
 use Rattle.lists.proofs.ListsLaws.{any_here, any_next, any_none}
 use Rattle.net.proofs.LoopsLaws.{from_start}
 use Rattle.tables.specs.declared.Wire.{Wire}
 use Rattle.tables.specs.Words.{wire_in}
-use borrow.Author.Rules.{rules}
 use Rattle.simulator.proofs.edits.is_driven.Goals as goal
 use Rattle.simulator.proofs.edits.is_driven.Invariants.{enters}
 use Rattle.simulator.proofs.edits.is_driven.Lts as lts

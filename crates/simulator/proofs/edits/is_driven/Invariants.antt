@@ -1,18 +1,12 @@
 -- `is_driven`: one of the wires still to come enters the component exactly if one of all does.
 -- Assumes nothing.
-use borrow.Author.Tests.{eq-eqb, ne_eqb}
-use mathlib.Core.Path.{◌≡◌, sym, ap, ◌∙◌}
+use mathlib.Core.Path.{◌≡◌}
 use mathlib.Core.Bool.{Bool}
 use mathlib.Core.List.{List}
 use Prim.Native.Nat.{ℕ, ◌-◌, ◌≤◌}
-use native.Mathlib.Omega.{arith}
 use lib.Dec.{eqb}
 use Rattle.lists.specs.Lists.{from, any}
-use Rattle.lists.proofs.ListsLaws.{any_here, any_next, any_none}
-use Rattle.net.proofs.LoopsLaws.{from_start}
-use Rattle.tables.specs.declared.Wire.{Wire}
 use Rattle.tables.specs.Words.{wire_in}
-use borrow.Author.Rules.{rules}
 use Rattle.simulator.proofs.edits.is_driven.Given as goal
 
 abbrev pub enters : List ℕ → ℕ → ℕ → Bool

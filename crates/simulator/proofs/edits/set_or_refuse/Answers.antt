@@ -4,7 +4,6 @@ use mathlib.Core.Path.{◌≡◌, sym, ◌∙◌}
 use Rattle.tables.specs.Tables.{Tables, tables_of}
 use Rattle.simulator.specs.Calls.{edit_number}
 use Rattle.simulator.proofs.EditsLaws.{edit_row, edit_output, edit_input, after_refused}
-use borrow.Author.Rules.{rules}
 use Rattle.simulator.proofs.edits.set_or_refuse.Goals as goal
 use Rattle.simulator.proofs.edits.set_or_refuse.Lts as lts
 use Rattle.simulator.proofs.edits.set_or_refuse.Tie as tie

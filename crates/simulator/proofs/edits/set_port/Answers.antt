@@ -6,7 +6,6 @@ use native.Mathlib.Omega.{arith}
 use Rattle.kinds.specs.declared.Kind.TheVariants.{Switch}
 use Rattle.kinds.specs.Kinds.{is}
 use Rattle.tables.specs.Words.{fields_in}
-use borrow.Author.Rules.{rules}
 use Rattle.simulator.proofs.edits.set_port.Goals as goal
 
 pub is_kind-requires : goal.is_kind-requires

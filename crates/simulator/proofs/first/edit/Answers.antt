@@ -7,7 +7,6 @@ use Rattle.rounds.proofs.Sound.{current_in}
 use Rattle.simulator.specs.Edit.{goes_first}
 use Rattle.simulator.specs.Calls.{edit_number}
 use Rattle.simulator.proofs.EditsLaws.{edit_index, edit_is_net, edit_room_first, edit_kept, edit_first}
-use borrow.Author.Rules.{rules}
 use Rattle.simulator.proofs.first.edit.Goals as goal
 use Rattle.simulator.proofs.first.edit.Lts as lts
 use Rattle.simulator.proofs.first.edit.Tie as tie

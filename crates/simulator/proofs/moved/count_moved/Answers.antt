@@ -1,13 +1,12 @@
 -- `count_moved`: the bits of the words so far.
 -- Assumes nothing.
 use mathlib.Core.Path.{◌≡◌, refl, ap, ◌∙◌}
-use Prim.Native.Nat.{ℕ, ◌*◌, ◌≤◌, ◌-◌}
+use Prim.Native.Nat.{ℕ, ◌-◌}
 use native.Mathlib.Omega.{arith}
 use lib.ListN.{get_or, take}
 use Rattle.lists.specs.Lists.{total}
 use Rattle.simulator.specs.Calls.{bits_set}
 use Rattle.simulator.proofs.MovedLaws.{bits_set-le, counted_next}
-use borrow.Author.Rules.{rules}
 use Rattle.simulator.proofs.moved.count_moved.Goals as goal
 
 pub loop-k-init : goal.loop-k-init

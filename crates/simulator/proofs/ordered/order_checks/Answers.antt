@@ -7,7 +7,6 @@ use Rattle.tables.specs.Tables.{Tables, tables_of}
 use Rattle.net.proofs.NetLaws.{passed_net}
 use Rattle.rounds.proofs.Sound.{net_within}
 use Rattle.simulator.proofs.OrderedLaws.{ordered_short, ordered_unnet, ordered_repeats, ordered_passed, order_room}
-use borrow.Author.Rules.{rules}
 use Rattle.simulator.proofs.ordered.order_checks.Goals as goal
 use Rattle.simulator.proofs.ordered.order_checks.Lts as lts
 use Rattle.simulator.proofs.ordered.order_checks.Tie as tie

@@ -8,7 +8,6 @@ use Rattle.rounds.proofs.LinksLaws.{linked_none}
 use Rattle.rounds.proofs.RoundLaws.{net_sources, net_wires}
 use Rattle.simulator.specs.Ordered.{wires_by}
 use Rattle.simulator.proofs.OrderedLaws.{ordered_refused, made_room, made_net, made_each, made_long, ordered_made}
-use borrow.Author.Rules.{rules}
 use Rattle.simulator.proofs.ordered.round_ordered.Goals as goal
 use Rattle.simulator.proofs.ordered.round_ordered.Lts as lts
 use Rattle.simulator.proofs.ordered.round_ordered.Tie as tie

@@ -7,7 +7,6 @@ use Rattle.rounds.proofs.Sound.{standing_in}
 use Rattle.simulator.specs.Edit.{stands}
 use Rattle.simulator.specs.Calls.{edit_number}
 use Rattle.simulator.proofs.EditsLaws.{edit_index, edit_is_net, edit_room, edit_kept, edit_stands}
-use borrow.Author.Rules.{rules}
 use Rattle.simulator.proofs.standing.edit_standing.Goals as goal
 use Rattle.simulator.proofs.standing.edit_standing.Lts as lts
 use Rattle.simulator.proofs.standing.edit_standing.Tie as tie

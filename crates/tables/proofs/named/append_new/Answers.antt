@@ -3,7 +3,6 @@
 use mathlib.Core.Path.{sym, ◌∙◌}
 use native.Mathlib.Omega.{arith}
 use Rattle.tables.proofs.NamedLaws.{append_there, append_length, append_more}
-use borrow.Author.Rules.{rules}
 use Rattle.tables.proofs.named.append_new.Goals as goal
 
 pub returns-then-contains : goal.returns-then-contains

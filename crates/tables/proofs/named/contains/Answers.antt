@@ -2,12 +2,9 @@
 -- Assumes nothing.
 use mathlib.Core.Path.{◌≡◌, sym}
 use mathlib.Core.Bool.{false}
-use Prim.Native.Nat.{◌≤◌, ◌-◌}
+use Prim.Native.Nat.{◌-◌}
 use native.Mathlib.Omega.{arith}
-use lib.ListN.{take}
-use Rattle.lists.specs.Lists.{has}
 use Rattle.tables.proofs.NamedLaws.{has_found, has_passed}
-use borrow.Author.Rules.{rules}
 use Rattle.tables.proofs.named.contains.Goals as goal
 
 pub returns-then-x-list : goal.returns-then-x-list

@@ -1,13 +1,10 @@
 -- `contains`: x is not among the entries passed.
 -- Assumes nothing.
-use mathlib.Core.Path.{◌≡◌, sym}
+use mathlib.Core.Path.{◌≡◌}
 use mathlib.Core.Bool.{false}
 use Prim.Native.Nat.{◌≤◌, ◌-◌}
-use native.Mathlib.Omega.{arith}
 use lib.ListN.{take}
 use Rattle.lists.specs.Lists.{has}
-use Rattle.tables.proofs.NamedLaws.{has_found, has_passed}
-use borrow.Author.Rules.{rules}
 use Rattle.tables.proofs.named.contains.Given as goal
 
 abbrev pub invariant-loop-i : goal.invariant-loop-i

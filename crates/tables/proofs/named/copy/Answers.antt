@@ -1,12 +1,10 @@
 -- `copy`: the entries passed are laid over the other table.
 -- Assumes nothing.
 use mathlib.Core.Path.{◌≡◌, refl}
-use Prim.Native.Nat.{◌≤◌, ◌-◌}
+use Prim.Native.Nat.{◌-◌}
 use native.Mathlib.Omega.{arith}
-use lib.ListN.{length, take, length-set}
-use Rattle.lists.specs.Lists.{overlay}
+use lib.ListN.{length-set}
 use Rattle.tables.proofs.NamedLaws.{overlay_start, overlay_step}
-use borrow.Author.Rules.{rules}
 use Rattle.tables.proofs.named.copy.Goals as goal
 
 pub loop-i-init : goal.loop-i-init

@@ -1,12 +1,9 @@
 -- `copy`: the entries passed are laid over the other table.
 -- Assumes nothing.
-use mathlib.Core.Path.{◌≡◌, refl}
+use mathlib.Core.Path.{◌≡◌}
 use Prim.Native.Nat.{◌≤◌, ◌-◌}
-use native.Mathlib.Omega.{arith}
-use lib.ListN.{length, take, length-set}
+use lib.ListN.{length, take}
 use Rattle.lists.specs.Lists.{overlay}
-use Rattle.tables.proofs.NamedLaws.{overlay_start, overlay_step}
-use borrow.Author.Rules.{rules}
 use Rattle.tables.proofs.named.copy.Given as goal
 
 abbrev pub invariant-loop-i : goal.invariant-loop-i

@@ -1,14 +1,13 @@
 -- `strike`: the first entries are those passed without x, and the entries still to come are as they were.
 -- Assumes nothing.
 use mathlib.Core.Path.{◌≡◌, refl, sym}
-use mathlib.Core.Logic.{inl, inr, ⊎_elim}
-use Prim.Native.Nat.{ℕ, ◌≤◌, ◌<◌, ◌-◌}
+use mathlib.Core.Logic.{inl, inr}
+use Prim.Native.Nat.{◌<◌, ◌-◌}
 use native.Mathlib.Omega.{arith}
-use lib.ListN.{length, take, get_or, length-set}
+use lib.ListN.{length, take, length-set}
 use lib.Seq.{length-take-le}
 use Rattle.lists.specs.Lists.{strike}
 use Rattle.tables.proofs.NamedLaws.{cut_end, strike_left, strike_rest, strike_gone}
-use borrow.Author.Rules.{rules}
 use Rattle.tables.proofs.named.strike.Goals as goal
 use Rattle.tables.proofs.named.strike.Goals.{else-count-list, else-x-y, then-count-list, then-x-y}
 

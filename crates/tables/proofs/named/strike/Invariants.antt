@@ -1,14 +1,9 @@
 -- `strike`: the first entries are those passed without x, and the entries still to come are as they were.
 -- Assumes nothing.
-use mathlib.Core.Path.{◌≡◌, refl, sym}
-use mathlib.Core.Logic.{inl, inr, ⊎_elim}
-use Prim.Native.Nat.{ℕ, ◌≤◌, ◌<◌, ◌-◌}
-use native.Mathlib.Omega.{arith}
-use lib.ListN.{length, take, get_or, length-set}
-use lib.Seq.{length-take-le}
+use mathlib.Core.Path.{◌≡◌}
+use Prim.Native.Nat.{ℕ, ◌≤◌, ◌-◌}
+use lib.ListN.{length, take, get_or}
 use Rattle.lists.specs.Lists.{strike}
-use Rattle.tables.proofs.NamedLaws.{cut_end, strike_left, strike_rest, strike_gone}
-use borrow.Author.Rules.{rules}
 use Rattle.tables.proofs.named.strike.Given as goal
 
 abbrev pub invariant-loop-i : goal.invariant-loop-i

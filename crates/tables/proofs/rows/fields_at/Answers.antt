@@ -3,7 +3,6 @@
 use native.Mathlib.Omega.{arith}
 use Rattle.tables.specs.Words.{fields_in}
 use Rattle.tables.proofs.RowsLaws.{fields_fit-kind, fields_fit-inputs, fields_fit-outputs, fields_fit-width}
-use borrow.Author.Rules.{rules}
 use Rattle.tables.proofs.rows.fields_at.Goals as goal
 
 pub overflow_cast-result : goal.overflow_cast-result

@@ -1,7 +1,6 @@
 -- `fields_fit`: the tests are those of the definition, on the words that the callee reads.
 -- Assumes nothing.
 use Rattle.tables.specs.Words.{fields_fit}
-use borrow.Author.Rules.{rules}
 use Rattle.tables.proofs.rows.fields_fit.Goals as goal
 
 pub returns : goal.returns

@@ -1,6 +1,5 @@
 -- `has_id`: the word is compared with the id.
 -- Assumes nothing.
-use borrow.Author.Rules.{rules}
 use Rattle.tables.proofs.rows.has_id.Goals as goal
 
 pub returns : goal.returns

@@ -1,6 +1,5 @@
 -- `is_kind`: the word is compared with the kind's number.
 -- Assumes nothing.
-use borrow.Author.Rules.{rules}
 use Rattle.tables.proofs.rows.is_kind.Goals as goal
 
 pub returns : goal.returns

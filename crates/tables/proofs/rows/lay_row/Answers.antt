@@ -5,7 +5,6 @@ use Prim.Native.Nat.{◌*◌}
 use native.Mathlib.Omega.{arith}
 use lib.ListN.{length-set}
 use Rattle.tables.proofs.RowsLaws.{stores_entry}
-use borrow.Author.Rules.{rules}
 use Rattle.tables.proofs.rows.lay_row.Goals as goal
 
 pub bounds-components-at-2 : goal.bounds-components-at-2

@@ -1,6 +1,5 @@
 -- `end_at`: the two words are the component and the port.
 -- Assumes nothing.
-use borrow.Author.Rules.{rules}
 use Rattle.tables.proofs.wires.end_at.Goals as goal
 
 pub returns : goal.returns

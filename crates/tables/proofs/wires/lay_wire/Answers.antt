@@ -5,7 +5,6 @@ use Prim.Native.Nat.{◌*◌}
 use native.Mathlib.Omega.{arith}
 use lib.ListN.{length-set}
 use Rattle.tables.proofs.RowsLaws.{stores_entry}
-use borrow.Author.Rules.{rules}
 use Rattle.tables.proofs.wires.lay_wire.Goals as goal
 
 pub bounds-wires-at-2 : goal.bounds-wires-at-2

@@ -1,6 +1,5 @@
 -- `wire_at`: the four words are its two ends.
 -- Assumes nothing.
-use borrow.Author.Rules.{rules}
 use Rattle.tables.proofs.wires.wire_at.Goals as goal
 
 pub returns : goal.returns

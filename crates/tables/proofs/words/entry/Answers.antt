@@ -1,7 +1,6 @@
 -- `entry`: a word of 16 bits fits an index.
 -- Assumes nothing.
 use native.Mathlib.Omega.{arith}
-use borrow.Author.Rules.{rules}
 use Rattle.tables.proofs.words.entry.Goals as goal
 
 pub overflow_cast-result : goal.overflow_cast-result

@@ -1,6 +1,5 @@
 -- `Value::complement`: the test decides which of the definition's two cases holds; a number that fits is at most all ones.
 -- Assumes nothing.
-use borrow.Author.Rules.{rules}
 use borrow.Author.Tests.{not-true, not-false}
 use mathlib.Core.Bool.{true}
 use mathlib.Core.Path.{◌≡◌, ◌∙◌, sym, ap}

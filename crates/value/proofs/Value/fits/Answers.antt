@@ -1,6 +1,5 @@
 -- `Value::fits`: the two tests are the definition's, and `lies_below` gives its last part.
 -- Assumes nothing.
-use borrow.Author.Rules.{rules}
 use Rattle.value.proofs.Value.fits.Goals as goal
 
 pub returns : goal.returns

@@ -1,6 +1,5 @@
 -- `Value::fits_in`: the width is compared, and `fits` gives the rest.
 -- Assumes nothing.
-use borrow.Author.Rules.{rules}
 use Rattle.value.proofs.Value.fits_in.Goals as goal
 
 pub returns : goal.returns
