@@ -10,6 +10,7 @@ use Rattle.flatten.proofs.DescentLaws.{connection_at}
 use Rattle.flatten.proofs.TargetsLaws.{listed_length}
 use Rattle.flatten.proofs.ConnectionLaws.{connection_room, connection_within}
 use Rattle.slow.proofs.LeadingLaws.{but_connection, enters_refused, enters_other, entered_small, enters_here}
+use borrow.Author.Rules.{rules}
 use Rattle.slow.proofs.entering.enters.Goals as goal
 
 pub returns-in_default : goal.returns-in_default
@@ -22,7 +23,7 @@ returns-in_default c = (
 pub returns-in_default-says : goal.returns-in_default-says
 returns-in_default-says c = (
   enters_other c.args.file.now (record_count c.args.file.now) c.args.i c.args.p _ _ _ c.known_at.ensures
-      c.in-Taken.is (but_connection _ c.in_default-says.not-Connection),
+      c.in-Taken.is (but_connection _ (assumption rules)),
   c.requires.2,
 )
 
