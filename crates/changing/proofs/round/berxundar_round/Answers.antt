@@ -1,5 +1,6 @@
 -- `berxundar_round`: too few count words, or what the engine answers.
 -- Assumes nothing.
+use native.Mathlib.Omega.{arith}
 use mathlib.Core.Path.{◌∙◌}
 use Rattle.tables.specs.declared.Counts.{Counts}
 use Rattle.tables.specs.Tables.{Tables, tables_of, answer_gives}
@@ -28,7 +29,7 @@ returns-then-counts-lt7 c =
 pub keep-requires : goal.keep-requires
 keep-requires c =
     let p = rounded_plain (came c.before.before.before.before.before.before.before.before.before.before.before.before.before.before.before.before.before.before.before.before.before.before.before.before.before.before.before.before.before.before.before.before c.counts_in.result) c.args.moved.now (answer_gives c.round-answer.result) _ c.round-answer.ensures.0.0 in
-    (c.if-counts-lt7.false, plain_fits (answer_gives c.round-answer.result) p)
+    (omega arith, plain_fits (answer_gives c.round-answer.result) p)
 
 pub returns : goal.returns
 returns c =

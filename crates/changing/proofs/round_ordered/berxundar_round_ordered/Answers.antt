@@ -1,5 +1,6 @@
 -- `berxundar_round_ordered`: too few count words, or what the engine answers.
 -- Assumes nothing.
+use native.Mathlib.Omega.{arith}
 use mathlib.Core.Path.{◌∙◌}
 use Rattle.tables.specs.declared.Counts.{Counts}
 use Rattle.tables.specs.Tables.{Tables, tables_of, answer_gives}
@@ -30,7 +31,7 @@ keep-requires c =
     let p =
     ordered_plain (came c.before.before.before.before.before.before.before.before.before.before.before.before.before.before.before.before.before.before.before.before.before.before.before.before.before.before.before.before.before.before.before.before.before c.counts_in.result) c.args.order.now c.args.moved.now (answer_gives c.round_ordered-answer.result) _
     c.round_ordered-answer.ensures.0.0 in
-    (c.if-counts-lt7.false, plain_fits (answer_gives c.round_ordered-answer.result) p)
+    (omega arith, plain_fits (answer_gives c.round_ordered-answer.result) p)
 
 pub returns : goal.returns
 returns c =

@@ -1,5 +1,6 @@
 -- `berxundar_evaluate`: no word for the bits, or what the engine answers.
 -- Assumes nothing.
+use native.Mathlib.Omega.{arith}
 use mathlib.Core.Path.{refl, ◌∙◌}
 use borrow.Author.Tests.{lt-ltb, le-ltb}
 use lib.ListN.{length}
@@ -18,7 +19,7 @@ lay_evaluated-requires c =
     let a = c.args in
     let f = fields_from a.kind a.ins a.outs a.width a.parameter in
     let p = evaluate_plain f a.inputs.now a.entering.now a.outputs.now a.leaving.now (evaluated_gives e.result) _ e.ensures.0 in
-    (c.if-found-lt1.false, plain_fits (evaluated_gives e.result) p)
+    (omega arith, plain_fits (evaluated_gives e.result) p)
 
 pub returns : goal.returns
 returns c =

@@ -1,5 +1,6 @@
 -- `round`: with room for the bits the number decides; where it is 0 the tables are a net, and the round is made.
 -- Assumes nothing.
+use native.Mathlib.Omega.{arith}
 use mathlib.Core.Path.{◌≡◌, sym, ◌∙◌}
 use Prim.Native.Nat.{◌≤◌}
 use lib.ListN.{length}
@@ -32,7 +33,7 @@ came s =
 
 -- There is room for the bits.
 room : (c : ElseMovedLtWORDS) → 256 ≤ length c.args.moved.now
-room c = c.if-moved-lt-WORDS.false
+room c = omega arith
 
 -- The tables are a net.
 is-net : (c : ElseNumberNe0) →
