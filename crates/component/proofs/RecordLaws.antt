@@ -73,12 +73,24 @@ module _ (x : Says) where
   pub no_output_map : OneOf (0 ∷ 1 ∷ 2 ∷ []) (tag_of the_type x) → form_by x ≡ 4 → ⊥
   no_output_map h = not_among x 0 1 2 4 h (λ z. omega arith) (λ z. omega arith) (λ z. omega arith)
 
--- What is no component, and what is no output map, is one of the other three.
+-- What is no record of one form is of one of the other three.
 pub but_component : (x : Says) → ((i : Id) (f : Fields) → x ≡ Component i f → ⊥) → OneOf (1 ∷ 2 ∷ 3 ∷ []) (tag_of the_type x)
 but_component (Component i f) h = absurd (h i f refl)
 but_component (Connection a b c d) h = inl refl
 but_component (InputMap a c d) h = inr (inl refl)
 but_component (OutputMap a b) h = inr (inr refl)
+
+pub but_connection : (x : Says) → ((a : ChildNo) (b : ℕ) (c : ChildNo) (d : ℕ) → x ≡ Connection a b c d → ⊥) → OneOf (0 ∷ 2 ∷ 3 ∷ []) (tag_of the_type x)
+but_connection (Component i f) h = inl refl
+but_connection (Connection a b c d) h = absurd (h a b c d refl)
+but_connection (InputMap a c d) h = inr (inl refl)
+but_connection (OutputMap a b) h = inr (inr refl)
+
+pub but_input_map : (x : Says) → ((a : ℕ) (c : ChildNo) (d : ℕ) → x ≡ InputMap a c d → ⊥) → OneOf (0 ∷ 1 ∷ 3 ∷ []) (tag_of the_type x)
+but_input_map (Component i f) h = inl refl
+but_input_map (Connection a b c d) h = inr (inl refl)
+but_input_map (InputMap a c d) h = absurd (h a c d refl)
+but_input_map (OutputMap a b) h = inr (inr refl)
 
 pub but_output_map : (x : Says) → ((a : ChildNo) (b : ℕ) → x ≡ OutputMap a b → ⊥) → OneOf (0 ∷ 1 ∷ 2 ∷ []) (tag_of the_type x)
 but_output_map (Component i f) h = inl refl

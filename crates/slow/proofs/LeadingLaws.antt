@@ -18,7 +18,7 @@ use Rattle.lists.proofs.MembersLaws.{In, any_cong, map_complete, joined_complete
 use Rattle.component.specs.declared.ChildNo.{ChildNo}
 use Rattle.component.specs.declared.Record.{Record}
 use Rattle.component.specs.declared.Says.{Says}
-use Rattle.component.specs.declared.Says.TheVariants.{Component, Connection, InputMap, OutputMap}
+use Rattle.component.specs.declared.Says.TheVariants.{Connection}
 use Rattle.component.specs.declared.Reading.{Reading}
 use Rattle.component.specs.declared.Reading.TheVariants.{Taken, Refused}
 use Rattle.component.specs.Reading.{said, form_of, apart}
@@ -83,13 +83,6 @@ reach_kept T is os is' w g e =
       source = g.source;
       target = omega (arith, g.target);
     }
-
--- What a record says is another thing than a connection.
-pub but_connection : (x : Says) → ((f : ChildNo) (a : ℕ) (g : ChildNo) (b : ℕ) → x ≡ Connection f a g b → ⊥) → OneOf (0 ∷ 2 ∷ 3 ∷ []) (tag_of the_type x)
-but_connection (Component i f) h = inl refl
-but_connection (Connection f a g b) h = absurd (h f a g b refl)
-but_connection (InputMap a c d) h = inr (inl refl)
-but_connection (OutputMap a b) h = inr (inr refl)
 
 -- The wires of the record at p that leave primitive i: it is refused; no connection; a connection from another.
 module _ (s : List ℕ) (n i p : ℕ) where

@@ -1,16 +1,9 @@
 -- `yields_unlike`: a connection's source has the width that no target may differ from, and there are at most 1,024 targets.
 -- Assumes nothing.
-use mathlib.Core.Logic.{inl, inr}
-use mathlib.Core.List.{[], ◌∷◌}
-use types.Run.{OneOf}
-use denote.Enum.Declared.{tag_of}
-use Rattle.component.specs.declared.ChildNo.{ChildNo}
-use Rattle.component.specs.declared.Says.{Says}
-use Rattle.component.specs.declared.Says.TheVariants.{Component, Connection, InputMap, OutputMap}
-use Rattle.component.specs.contracts.Says.{the_type}
+use Rattle.component.proofs.RecordLaws.{but_connection}
 use Rattle.flatten.proofs.WidthsLaws.{fails15_refused, fails15_other, fails15_connection}
-use mathlib.Core.Path.{◌≡◌, refl, ◌∙◌}
-use Prim.Native.Nat.{ℕ, ◌/◌}
+use mathlib.Core.Path.{refl, ◌∙◌}
+use Prim.Native.Nat.{◌/◌}
 use native.Mathlib.Omega.{arith}
 use lib.ListN.{length}
 use borrow.Author.Rules.{rules}
@@ -20,20 +13,13 @@ use Rattle.flatten.proofs.TargetsLaws.{listed_length}
 use Rattle.flatten.proofs.ConnectionLaws.{connection_room, connection_within, connection_read}
 use Rattle.flatten.proofs.widths.yields_unlike.Goals as goal
 
--- What is no Connection is one of the other three.
-other : (x : Says) → ((f : ChildNo) (o : ℕ) (t : ChildNo) (i : ℕ) → x ≡ Connection f o t i → ⊥) → OneOf (0 ∷ 2 ∷ 3 ∷ []) (tag_of the_type x)
-other (Component i f) h = inl refl
-other (Connection f o t i) h = absurd (h f o t i refl)
-other (InputMap p t i) h = inr (inl refl)
-other (OutputMap f o) h = inr (inr refl)
-
 -- refused
 pub returns-in_default : goal.returns-in_default
 returns-in_default c = (search (fails15_refused), search rules)
 
 -- no connection
 pub returns-in_default-says : goal.returns-in_default-says
-returns-in_default-says c = let o = other c.in-Taken.says c.in_default-says.not-Connection in (search (fails15_other), search rules)
+returns-in_default-says c = let o = but_connection c.in-Taken.says c.in_default-says.not-Connection in (search (fails15_other), search rules)
 
 pub child_of-goal-requires : goal.child_of-goal-requires
 child_of-goal-requires c = c.requires.index.0

@@ -1,15 +1,8 @@
 -- `connect`: a connection's wires lead from its source to its targets; any other record has none.
 -- Assumes nothing.
-use mathlib.Core.Path.{◌≡◌, refl, ◌∙◌}
-use mathlib.Core.Logic.{inl, inr}
-use mathlib.Core.List.{[], ◌∷◌}
-use Prim.Native.Nat.{ℕ, ◌/◌}
-use types.Run.{OneOf}
-use denote.Enum.Declared.{tag_of}
-use Rattle.component.specs.declared.ChildNo.{ChildNo}
-use Rattle.component.specs.declared.Says.{Says}
-use Rattle.component.specs.declared.Says.TheVariants.{Component, Connection, InputMap, OutputMap}
-use Rattle.component.specs.contracts.Says.{the_type}
+use mathlib.Core.Path.{refl, ◌∙◌}
+use Prim.Native.Nat.{◌/◌}
+use Rattle.component.proofs.RecordLaws.{but_connection}
 use native.Mathlib.Omega.{arith}
 use lib.ListN.{length}
 use borrow.Author.Rules.{rules}
@@ -20,19 +13,12 @@ use Rattle.flatten.proofs.ConnectionLaws.{connection_room, connection_within}
 use Rattle.laying.proofs.WiresLaws.{connect_refused, connect_other, source_number, targets_small, connect_room, connect_written}
 use Rattle.laying.proofs.wires.connect.Goals as goal
 
--- What is no Connection is one of the other three.
-other : (x : Says) → ((f : ChildNo) (o : ℕ) (t : ChildNo) (i : ℕ) → x ≡ Connection f o t i → ⊥) → OneOf (0 ∷ 2 ∷ 3 ∷ []) (tag_of the_type x)
-other (Component i f) h = inl refl
-other (Connection f o t i) h = absurd (h f o t i refl)
-other (InputMap p t i) h = inr (inl refl)
-other (OutputMap f o) h = inr (inr refl)
-
 pub returns-in_default : goal.returns-in_default
 returns-in_default c = record { written = search (connect_refused); targets_len = search rules }
 
 pub returns-in_default-says : goal.returns-in_default-says
 returns-in_default-says c =
-    let o = other c.in-Taken.says c.in_default-says.not-Connection in record { written = search (connect_other); targets_len = search rules }
+    let o = but_connection c.in-Taken.says c.in_default-says.not-Connection in record { written = search (connect_other); targets_len = search rules }
 
 pub flat_pin-flat-requires : goal.flat_pin-flat-requires
 flat_pin-flat-requires c =

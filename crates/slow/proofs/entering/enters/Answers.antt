@@ -9,7 +9,8 @@ use Rattle.flatten.proofs.Accepted.{accepted_passed}
 use Rattle.flatten.proofs.DescentLaws.{connection_at}
 use Rattle.flatten.proofs.TargetsLaws.{listed_length}
 use Rattle.flatten.proofs.ConnectionLaws.{connection_room, connection_within}
-use Rattle.slow.proofs.LeadingLaws.{but_connection, enters_refused, enters_other, entered_small, enters_here}
+use Rattle.component.proofs.RecordLaws.{but_connection}
+use Rattle.slow.proofs.LeadingLaws.{enters_refused, enters_other, entered_small, enters_here}
 use borrow.Author.Rules.{rules}
 use Rattle.slow.proofs.entering.enters.Goals as goal
 

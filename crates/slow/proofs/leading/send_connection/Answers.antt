@@ -15,7 +15,8 @@ use Rattle.rounds.specs.Round.{send}
 use Rattle.rounds.specs.Steps.{state_at}
 use Rattle.slow.specs.Sending.{bare}
 use Rattle.slow.proofs.DrawingLaws.{leaving_reach}
-use Rattle.slow.proofs.LeadingLaws.{but_connection, leaves_refused, leaves_other, leaves_elsewhere, leaves_here, here_member}
+use Rattle.component.proofs.RecordLaws.{but_connection}
+use Rattle.slow.proofs.LeadingLaws.{leaves_refused, leaves_other, leaves_elsewhere, leaves_here, here_member}
 use Rattle.slow.proofs.leading.send_connection.Goals as goal
 
 pub returns-in_default : goal.returns-in_default
