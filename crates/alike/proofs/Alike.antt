@@ -9,8 +9,6 @@ use native.Mathlib.Omega.{arith}
 use borrow.Author.Tests.{le-leb}
 use lib.ListN.{length, replicate, length-replicate}
 use lib.Dec.{leb}
-use Rattle.component.specs.declared.Verdict.{Verdict}
-use Rattle.component.specs.declared.Verdict.TheVariants.{Accepted, Refused}
 use Rattle.component.specs.Record.{record_at, record_count, sized}
 use Rattle.flatten.specs.Verdict.{refused, and_then}
 use Rattle.meeting.specs.Meeting.{judgement}
@@ -29,6 +27,8 @@ use Rattle.slow.proofs.Handed.{leaving_stored as stored}
 use Rattle.alike.proofs.Drawn.{slow_full-five, led_into-driven}
 use Rattle.alike.proofs.Stood.{net_origin, right-is_net, beside-full_size}
 use Rattle.alike.proofs.SameCalls.{same_calls}
+use Rattle.kinds.specs.Given.{Verdict}
+use Rattle.std.specs.Prelude.{Ok, Err}
 
 -- What is handed in is the same.
 pub leaving_stored : LeavingStored
@@ -41,8 +41,8 @@ module _ (file : List ℕ) where
   load_verdict_lem S T e f = rw (e, f) (by_verdict (sized file) (judgement file))
     where
       by_verdict : (b : Bool) (v : Verdict) → cond b (and_then v 0) (refused 1 0) ≡ cond b v (refused 1 0)
-      by_verdict true Accepted = refl
-      by_verdict true (Refused r) = refl
+      by_verdict true (Ok _) = refl
+      by_verdict true (Err r) = refl
       by_verdict false v = refl
 
   load_same : (T : Tables) → full_size T ≡ true
@@ -54,8 +54,8 @@ module _ (file : List ℕ) where
       by_verdict : (v : Verdict)
           → slow_by v (slow_of (drawing_tables (record_at file) (record_count file) (drawn (record_at file) (record_count file) (slow_of T)))) (slow_of T)
           ≡ slow_of (tables_by v (drawing_tables (record_at file) (record_count file) T) T)
-      by_verdict Accepted = refl
-      by_verdict (Refused r) = refl
+      by_verdict (Ok _) = refl
+      by_verdict (Err r) = refl
 
 -- Five tables with components and wires beside them.
 lent_both : (S : SlowTables) → slow_full S ≡ true → (T : Tables) × (full_size T ≡ true) × (slow_of T ≡ S)
@@ -105,7 +105,7 @@ where_16_stood file ran t T r S =
 
 -- One call.
 record SameCall (file : List ℕ) (T : Tables) (c : SharedCall) : Type 0 where
-  verdict : slow_call_verdict file c (slow_of T) ≡ and_then Accepted (call_number (flat_call c) T)
+  verdict : slow_call_verdict file c (slow_of T) ≡ and_then (Ok tt) (call_number (flat_call c) T)
   tables : slow_call_tables file c (slow_of T) ≡ slow_of (call_tables (flat_call c) T)
   words : slow_call_words file c (slow_of T) ≡ call_words c T
 

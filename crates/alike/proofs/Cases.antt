@@ -6,11 +6,9 @@ use mathlib.Core.Bool.{true, false}
 use mathlib.Core.List.{List, [], ◌∷◌, ◌++◌, map}
 use lib.ListN.{take, replicate}
 use Rattle.lists.specs.Lists.{from, joined, append_new, strike, overlay}
-use Rattle.kinds.specs.Given.{Given, declined}
+use Rattle.kinds.specs.Given.{Given, declined, Verdict}
 use Rattle.kinds.specs.Kinds.{obeys}
 use Rattle.primitive.specs.Evaluate.{function_of, outputs_after, moved_outputs}
-use Rattle.component.specs.declared.Verdict.{Verdict}
-use Rattle.component.specs.declared.Verdict.TheVariants.{Accepted}
 use Rattle.component.specs.Record.{record_at, record_count}
 use Rattle.component.specs.Drawing.{deepest}
 use Rattle.component.proofs.Drawings.{component_bytes, connection_bytes, input_map_bytes, output_map_bytes, lamp, lamp_twice}
@@ -27,6 +25,7 @@ use Rattle.slow.specs.Slow.{SlowTables, slow_tables_of, slow_full, slow_of, leav
 use Rattle.slow.specs.Slow.{slow_round_verdict, slow_round_tables, slow_moved, slow_edit_verdict, slow_edit_tables, slow_run_verdict, slow_run_tables}
 use Rattle.demands.proofs.Lamp.{sevens}
 use Rattle.alike.specs.Alike.{SharedCall, rounded, edited, until_calm, Told, slow_calls_tables, slow_calls_told}
+use Rattle.std.specs.Prelude.{Ok}
 
 -- A Switch enters box 2, whose input is mapped to a Not and then, through box 3, to another Not; an Output sees what comes out of both boxes.
 -- Components: 0 root; 1 Switch; 2 box; 3 box in it; 4 Not in that; 5 Not in box 2; 6 Output. The primitives 1, 4, 5 and 6 have the flat indexes 0 to 3.
@@ -49,7 +48,7 @@ abbrev a_round : SharedCall
 a_round = rounded 0 seven_bits
 
 abbrev accepts : List ℕ → Told
-accepts ws = record { verdict = Accepted; words = ws }
+accepts ws = record { verdict = (Ok tt); words = ws }
 
 -- Its current list after calls from the load.
 abbrev current_after : List ℕ → List SharedCall → List ℕ

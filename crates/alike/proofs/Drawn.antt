@@ -13,7 +13,6 @@ use Rattle.lists.specs.Lists.{every, any, joined, distinct, overlay, refusal}
 use Rattle.lists.proofs.MembersLaws.{In, keep_sound}
 use Rattle.lists.proofs.OverlayLaws.{overlay_at, joined_width}
 use Rattle.component.specs.declared.Record.{Record}
-use Rattle.component.specs.declared.Verdict.TheVariants.{Accepted}
 use Rattle.component.specs.Record.{record_at, record_count, sized}
 use Rattle.flatten.specs.Verdict.{verdict}
 use Rattle.flatten.proofs.Accepted.{accepted_sized}
@@ -41,6 +40,7 @@ use Rattle.slow.specs.Slow.{slow_full, slow_of, drawn, leaving, led_into, slow_b
 use Rattle.slow.proofs.Handed.{leaving_stored, led_into-stored}
 use Rattle.slow.proofs.WiredLaws.{slow_full-complete}
 use Rattle.alike.proofs.SameRound.{SameWords, fields_same, round_same, moved_by-same, edited_same, only_clocks-same, every_fit, every_held}
+use Rattle.std.specs.Prelude.{Ok}
 
 -- The five tables are of full size where all seven are.
 pub slow_full-five : (T : Tables) → full_size T ≡ true → slow_full (slow_of T) ≡ true
@@ -76,14 +76,14 @@ module _ (file : List ℕ) (T : Tables) (o : Origin file T) where
   abbrev W : List ℕ
   W = joined (primitive_words at n) (primitives at n)
 
-  judged : verdict file ≡ Accepted
+  judged : verdict file ≡ Ok tt
   judged = (load_passed file o.lent o.accepted).judged
 
   -- A load's own checks pass.
   pub origin_sized : sized file ≡ true
   origin_sized = accepted_sized file judged
 
-  pub origin_judged : judgement file ≡ Accepted
+  pub origin_judged : judgement file ≡ Ok tt
   origin_judged = accepted_judgement file judged
 
   pub is_drawn : IsDrawn at n T

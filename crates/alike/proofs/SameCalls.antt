@@ -11,7 +11,6 @@ use lib.Dec.{eqb, leb, ltb}
 use Rattle.lists.specs.Lists.{total, overlay}
 use Rattle.kinds.specs.Given.{refused_by}
 use Rattle.component.specs.declared.Record.{Record}
-use Rattle.component.specs.declared.Verdict.TheVariants.{Accepted, Refused}
 use Rattle.component.specs.Record.{record_at, record_count}
 use Rattle.flatten.specs.Verdict.{and_then, list_by}
 use Rattle.tables.specs.Tables.{Tables, current_list, wires_in}
@@ -29,12 +28,13 @@ use Rattle.slow.specs.Slow.{slow_edit_verdict, slow_edit_tables, slow_run_verdic
 use Rattle.alike.specs.Alike.{SameRounds, SameEdits, SameRuns, SameCalls}
 use Rattle.alike.proofs.Drawn.{origin_on, origin_sized, origin_judged, edit_checks-same, edited_state-same, full, round_drawn, bits_drawn, calm_drawn}
 use Rattle.alike.proofs.Stood.{net_right}
+use Rattle.std.specs.Prelude.{Ok, Err}
 
 -- What a call of number k leaves, on either engine.
-left_by : (k : ℕ) (new : SlowTables) (T U : Tables) → (k ≡ 0 → new ≡ slow_of U) → slow_by (and_then Accepted k) new (slow_of T) ≡ slow_of (after k U T)
+left_by : (k : ℕ) (new : SlowTables) (T U : Tables) → (k ≡ 0 → new ≡ slow_of U) → slow_by (and_then (Ok tt) k) new (slow_of T) ≡ slow_of (after k U T)
 left_by k new T U h = by_zero (eqb k 0) (λ e. h (eqb-true k 0 e))
   where
-    by_zero : (b : Bool) → (b ≡ true → new ≡ slow_of U) → slow_by (cond b Accepted (Refused (refused_by k))) new (slow_of T) ≡ slow_of (cond b U T)
+    by_zero : (b : Bool) → (b ≡ true → new ≡ slow_of U) → slow_by (cond b (Ok tt) (Err (refused_by k))) new (slow_of T) ≡ slow_of (cond b U T)
     by_zero true u = u refl
     by_zero false u = refl
 
@@ -66,12 +66,12 @@ module _ (file : List ℕ) (T : Tables) (o : Origin file T) (z : net_number T �
       ∙ ap (λ (U : Tables). drawn at n (slow_of U)) (sym (round_tables-done T t z))
 
   -- A round: with room for its bits, and without.
-  round_verdict : (bits : List ℕ) → slow_round_verdict file (slow_of T) bits ≡ and_then Accepted (round_number T bits)
+  round_verdict : (bits : List ℕ) → slow_round_verdict file (slow_of T) bits ≡ and_then (Ok tt) (round_number T bits)
   unfolding slow_round_verdict
   round_verdict bits = rw (origin_sized file T o, full file T o z, origin_judged file T o, number, z) (by_room (ltb (length bits) 256) refl)
     where
       by_room : (b : Bool) → ltb (length bits) 256 ≡ b
-          → cond (leb 256 (length bits)) Accepted (Refused (refused_by 2)) ≡ and_then Accepted (cond b 2 0)
+          → cond (leb 256 (length bits)) (Ok tt) (Err (refused_by 2)) ≡ and_then (Ok tt) (cond b 2 0)
       by_room true e = rw (lt-leb 256 (length bits) (ltb-true (length bits) 256 e))
       by_room false e = rw (le-leb 256 (length bits) (ltb-false (length bits) 256 e))
 
@@ -83,12 +83,12 @@ module _ (file : List ℕ) (T : Tables) (o : Origin file T) (z : net_number T �
     rw (round_verdict bits) (moved (ltb (length bits) 256)),
   )
     where
-      tables : (b : Bool) → slow_by (and_then Accepted (cond b 2 (net_number T))) (slow_of (slow_round_of at n t D)) (slow_of T) ≡ slow_of (cond b T (round_tables T t))
+      tables : (b : Bool) → slow_by (and_then (Ok tt) (cond b 2 (net_number T))) (slow_of (slow_round_of at n t D)) (slow_of T) ≡ slow_of (cond b T (round_tables T t))
       tables true = refl
       tables false = rw z (ap slow_of (round_step t))
 
       moved : (b : Bool)
-          → list_by (and_then Accepted (cond b 2 (net_number T))) (slow_bits at n t D) bits
+          → list_by (and_then (Ok tt) (cond b 2 (net_number T))) (slow_bits at n t D) bits
           ≡ after (cond b 2 (net_number T)) (overlay (round_bits t T) bits) bits
       moved true = refl
       moved false = rw z (ap (λ (l : List ℕ). overlay l bits) (bits_drawn file T o z t))
@@ -98,7 +98,7 @@ module _ (file : List ℕ) (T : Tables) (o : Origin file T) (z : net_number T �
   unfolding slow_edit_number edit_number
   edit_number_lem i v = rw (net_right file T o (net_number-net T z), z) (edit_checks-same file T o i v)
 
-  edit_verdict : (i v : ℕ) → slow_edit_verdict file (slow_of T) i v ≡ and_then Accepted (edit_number T i v)
+  edit_verdict : (i v : ℕ) → slow_edit_verdict file (slow_of T) i v ≡ and_then (Ok tt) (edit_number T i v)
   unfolding slow_edit_verdict
   edit_verdict i v = rw (origin_sized file T o, full file T o z, origin_judged file T o, edit_number_lem i v)
 
@@ -157,7 +157,7 @@ run_drawn file t (suc k) T o z =
     by_calm false e = e
 
 module _ (file : List ℕ) (T : Tables) (o : Origin file T) (z : net_number T ≡ 0) where
-  run_verdict : slow_run_verdict file (slow_of T) ≡ and_then Accepted (net_number T)
+  run_verdict : slow_run_verdict file (slow_of T) ≡ and_then (Ok tt) (net_number T)
   unfolding slow_run_verdict
   run_verdict = rw (origin_sized file T o, full file T o z, origin_judged file T o, number file T o z, z)
 

@@ -10,8 +10,6 @@
 -- Assumes nothing.
 use Rattle.std.specs.Prelude.{◌≡◌, ℕ, Bool, true, List, [], ◌∷◌}
 use Rattle.component.specs.declared.Record.{Record}
-use Rattle.component.specs.declared.Verdict.{Verdict}
-use Rattle.component.specs.declared.Verdict.TheVariants.{Accepted}
 use Rattle.component.specs.Record.{record_at, record_count, IsBytes}
 use Rattle.flatten.specs.Verdict.{and_then}
 use Rattle.tables.specs.Tables.{Tables, tables_of, counts_of, full_size}
@@ -25,6 +23,8 @@ use Rattle.slow.specs.Slow.{SlowTables, slow_full, slow_of, leaving, led_into, s
 use Rattle.slow.specs.Slow.{slow_moved, slow_edit_verdict, slow_edit_tables, slow_run_verdict, slow_run, slow_run_tables}
 use Rattle.demands.specs.Reached.{Call, call_number, call_tables, Reached}
 use Rattle.demands.specs.Reached as calls
+use Rattle.kinds.specs.Given.{Verdict}
+use Rattle.std.specs.Prelude.{Ok}
 
 -- "working out each source and target through the maps when needed": for any records, what is worked out of primitive i are the wires that a load
 -- stores and that leave i, in their order.
@@ -52,7 +52,7 @@ module _ (file : List ℕ) (T : Tables) where
   abbrev pub SameRounds : Type 0
   SameRounds =
       (bits : List ℕ) (t : ℕ)
-      → (slow_round_verdict file (slow_of T) bits ≡ and_then Accepted (round_number T bits))
+      → (slow_round_verdict file (slow_of T) bits ≡ and_then (Ok tt) (round_number T bits))
       × (slow_round_tables file (slow_of T) bits t ≡ slow_of (round_call T bits t))
       × (slow_moved file (slow_of T) bits t ≡ round_moved T bits t)
 
@@ -60,7 +60,7 @@ module _ (file : List ℕ) (T : Tables) where
   abbrev pub SameEdits : Type 0
   SameEdits =
       (way : Way) (i v : ℕ)
-      → (slow_edit_verdict file (slow_of T) i v ≡ and_then Accepted (edit_number T i v))
+      → (slow_edit_verdict file (slow_of T) i v ≡ and_then (Ok tt) (edit_number T i v))
       × (slow_edit_tables file (slow_of T) way i v ≡ slow_of (edit_tables way T i v))
 
   -- Run until calm: also as many rounds, evaluations and changes of an output.
@@ -68,7 +68,7 @@ module _ (file : List ℕ) (T : Tables) where
   SameRuns =
       (t limit : ℕ)
       → let slow = slow_run file (slow_of T) t limit in let flat = run limit t T in
-      (slow_run_verdict file (slow_of T) ≡ and_then Accepted (net_number T))
+      (slow_run_verdict file (slow_of T) ≡ and_then (Ok tt) (net_number T))
       × (slow_run_tables file (slow_of T) t limit ≡ slow_of (run_tables T t limit))
       × (slow.rounds ≡ flat.rounds) × (slow.evaluations ≡ flat.evaluations) × (slow.moved ≡ flat.moved)
 
@@ -113,7 +113,7 @@ calls_tables (c ∷ cs) T = calls_tables cs (call_tables (flat_call c) T)
 abbrev pub calls_told : List SharedCall → Tables → List Told
 calls_told [] T = []
 calls_told (c ∷ cs) T =
-    record { verdict = and_then Accepted (call_number (flat_call c) T); words = call_words c T } ∷ calls_told cs (call_tables (flat_call c) T)
+    record { verdict = and_then (Ok tt) (call_number (flat_call c) T); words = call_words c T } ∷ calls_told cs (call_tables (flat_call c) T)
 
 -- The slow engine's.
 module _ (file : List ℕ) where
@@ -144,7 +144,7 @@ module _ (file : List ℕ) where
 -- engine going on from what its own last call left. Each call told the same on both, and after the last, and so after each, ports and lists are the same.
 abbrev pub SlowAlong : Type 0
 SlowAlong =
-    (file : List ℕ) (T : Tables) (cs : List SharedCall) → IsBytes file → load_verdict file T ≡ Accepted
+    (file : List ℕ) (T : Tables) (cs : List SharedCall) → IsBytes file → load_verdict file T ≡ Ok tt
     → let slow = slow_load_tables file (slow_of T) in let flat = load_tables file T in
     (slow_calls_told file cs slow ≡ calls_told cs flat) × (slow_calls_tables file cs slow ≡ slow_of (calls_tables cs flat))
 

@@ -9,10 +9,11 @@ use Rattle.lists.specs.Lists.{overlay}
 use Rattle.kinds.specs.Given.{Given, spoken}
 use Rattle.tables.specs.declared.Counts.{Counts}
 use Rattle.tables.specs.Tables.{Tables}
-use Rattle.questions.specs.declared.Listed.{Listed}
 use Rattle.questions.specs.Questions.{list_gives}
 use Rattle.words.specs.Words.{counts_in, values_in}
 use Rattle.words.specs.Said.{says_short}
+use Rattle.std.specs.Prelude.{Result}
+use Rattle.kinds.specs.declared.answers.Refusal.{Refusal}
 
 -- A question: its values are laid over fs.
 pub data CallAsks {A : Type 0} (gives : A → Given) (P : Tables → A → Type 0) (few : Bool) (ws fs fs' : List ℕ) (lent : Counts → Tables) (r : ℕ) : Type 0 where
@@ -21,7 +22,7 @@ pub data CallAsks {A : Type 0} (gives : A → Given) (P : Tables → A → Type 
       → CallAsks gives P few ws fs fs' lent r
 
 -- A question that lays a list: ls and ls' are the lent list before and after.
-pub data CallLists (P : Tables → List ℕ → Listed → List ℕ → Type 0) (few : Bool) (ws ls ls' fs fs' : List ℕ) (lent : Counts → Tables) (r : ℕ) : Type 0 where
+pub data CallLists (P : Tables → List ℕ → Result ℕ Refusal → List ℕ → Type 0) (few : Bool) (ws ls ls' fs fs' : List ℕ) (lent : Counts → Tables) (r : ℕ) : Type 0 where
   few_to_list : few ≡ true → r ≡ says_short → ls' ≡ ls → fs' ≡ fs → CallLists P few ws ls ls' fs fs' lent r
-  listed : (a : Listed) → few ≡ false → P (lent (counts_in ws)) ls a ls' → r ≡ spoken (list_gives a)
+  listed : (a : Result ℕ Refusal) → few ≡ false → P (lent (counts_in ws)) ls a ls' → r ≡ spoken (list_gives a)
       → fs' ≡ overlay (values_in (list_gives a)) fs → CallLists P few ws ls ls' fs fs' lent r

@@ -10,7 +10,6 @@ use lib.Dec.{eqb}
 use Rattle.lists.specs.Lists.{from, any}
 use Rattle.lists.proofs.MembersLaws.{length_nil}
 use Rattle.component.specs.declared.Record.{Record}
-use Rattle.component.specs.declared.Verdict.TheVariants.{Accepted}
 use Rattle.component.specs.Record.{record_at, record_count, inputs_of}
 use Rattle.component.specs.Drawing.{deepest}
 use Rattle.flatten.specs.declared.Pin.{Pin}
@@ -24,6 +23,7 @@ use Rattle.flatten.proofs.TargetsLaws.{listed_count, listed_length, listed_read}
 use Rattle.questions.specs.declared.Side.{Side}
 use Rattle.questions.specs.declared.Side.TheVariants.{Inputs, Outputs}
 use Rattle.boxes.specs.Boxes.{last_of, ports_on, behind, dangling, port_shown}
+use Rattle.std.specs.Prelude.{Ok}
 
 -- The last of what stands in a table is its last entry.
 last_entry : (f : ℕ → Pin) (z : Pin) (q m : ℕ) → last_of z (map f (from q (suc m))) ≡ f (q + m)
@@ -31,7 +31,7 @@ last_entry f z q zero = ap f (let e : q ≡ q + 0 = omega arith in e)
 last_entry f z q (suc m) = last_entry f (f q) (suc q) m ∙ ap f (let e : suc q + m ≡ q + suc m = omega arith in e)
 
 -- What is behind input i of component c, in a drawing that is accepted.
-module _ (s : List ℕ) (accepted : verdict s ≡ Accepted) (m c i : ℕ) (depth : m ≡ deepest) (there : i < inputs_of (record_at s c)) where
+module _ (s : List ℕ) (accepted : verdict s ≡ Ok tt) (m c i : ℕ) (depth : m ≡ deepest) (there : i < inputs_of (record_at s c)) where
   abbrev goals : List Pin
   goals = inputs_below (record_at s) (record_count s) m c i
 
@@ -81,5 +81,5 @@ pub shown_inputs : (r : Record) (i : ℕ) (side : Side) → side ≡ Inputs → 
 shown_inputs r i side e h = subst (λ (y : Side). i < ports_on y r) e h
 
 -- The files of an accepted drawing have at most 1,024 records.
-pub accepted_most : (s : List ℕ) → verdict s ≡ Accepted → record_count s ≤ 1024
+pub accepted_most : (s : List ℕ) → verdict s ≡ Ok tt → record_count s ≤ 1024
 accepted_most s a = sized_most s true (sym (accepted_sized s a)) refl

@@ -18,7 +18,6 @@ use Rattle.kinds.specs.declared.table.Fields.{Fields}
 use Rattle.component.specs.declared.Record.{Record}
 use Rattle.component.specs.declared.Stands.{Stands}
 use Rattle.component.specs.declared.Stands.TheVariants.{Component, Nothing}
-use Rattle.component.specs.declared.Verdict.TheVariants.{Accepted}
 use Rattle.component.specs.Record.{record_at, record_count, owned_as}
 use Rattle.component.specs.Reading.{StandsAs}
 use Rattle.component.proofs.RecordLaws.{unseen_test, seen_is}
@@ -27,6 +26,7 @@ use Rattle.flatten.proofs.Accepted.{Passed, accepted_passed}
 use Rattle.flatten.proofs.Components.{component_below, owner_before}
 use Rattle.boxes.specs.Boxes.{child_named}
 use Rattle.boxes.specs.Naming.{named}
+use Rattle.std.specs.Prelude.{Ok}
 
 -- A record that is no component is no child, and a component is one where owner and id are those asked for.
 module _ (at : ℕ → Record) (c id q : ℕ) (g : Stands) (e : StandsAs g (at q)) where
@@ -67,7 +67,7 @@ module _ (at : ℕ → Record) (n c k x : ℕ) (path : List ℕ) (inv : foldl (c
   pub place_end : length path ≤ k → c ≡ x
   place_end h = ap (foldl (child_named at n) c) (sym (drop_of_length-le path h)) ∙ inv
 
-pub place_missed : (s path : List ℕ) (c k b x : ℕ) → verdict s ≡ Accepted
+pub place_missed : (s path : List ℕ) (c k b x : ℕ) → verdict s ≡ Ok tt
     → foldl (child_named (record_at s) (record_count s)) c (drop k path) ≡ x → k < length path
     → b ≡ child_named (record_at s) (record_count s) c (get_or path k 0) → b ≡ record_count s → record_count s ≡ x
 place_missed s path c k b x a inv h e z =

@@ -2,7 +2,6 @@
 ghost use Rattle.std.specs.Prelude.{◌≡◌, ◌≤◌, ◌*◌, [], length, take};
 ghost use Rattle.lists.specs.Lists.{joined};
 ghost use Rattle.component.specs.Record.{record_at, record_count};
-ghost use Rattle.component.specs.declared.Verdict.TheVariants.{Accepted};
 ghost use Rattle.index.specs.Index.{IsIndex};
 ghost use Rattle.flatten.specs.Verdict.{verdict};
 ghost use Rattle.tables.specs.Tables.{wire_words};
@@ -45,7 +44,7 @@ fn same_shorts(a: &[u16], b: &[u16], count: usize) -> bool
 
 // Whether the first `count` components of a table are those that a load of the file gives.
 fn components_match(file: &[u8], components: &[u64], count: usize) -> bool
-    requires { (verdict file.now ≡ Accepted) × (8 * count ≤ length components.now) }
+    requires { (verdict file.now ≡ Ok tt) × (8 * count ≤ length components.now) }
     ensures { result ≡ same (take (8 * count) components.now)
         (joined (primitive_words (record_at file.now) (record_count file.now))
         (primitives (record_at file.now) (record_count file.now))) }
@@ -60,7 +59,7 @@ fn components_match(file: &[u8], components: &[u64], count: usize) -> bool
 
 // Whether the first `count` wires of a table are those that a load of the file gives.
 fn wires_match(file: &[u8], index: &[u16], wires: &[u16], count: usize) -> bool
-    requires { (verdict file.now ≡ Accepted) × IsIndex file.now index.now × (4 * count ≤ length wires.now) }
+    requires { (verdict file.now ≡ Ok tt) × IsIndex file.now index.now × (4 * count ≤ length wires.now) }
     ensures { result ≡ same (take (4 * count) wires.now)
         (joined wire_words (flat_wires (record_at file.now) (record_count file.now))) }
 {
@@ -80,7 +79,7 @@ pub fn is_matched(
     wires: &[u16],
     counts: Counts,
 ) -> bool
-    requires { (verdict file.now ≡ Accepted) × IsIndex file.now index.now × (8 * counts.components ≤ length components.now)
+    requires { (verdict file.now ≡ Ok tt) × IsIndex file.now index.now × (8 * counts.components ≤ length components.now)
         × (4 * counts.wires ≤ length wires.now) }
     ensures { result ≡ matched (record_at file.now) (record_count file.now)
         (lent components.now [] [] wires.now counts) }

@@ -2,7 +2,6 @@
 ghost use Rattle.std.specs.Prelude.{◌≡◌};
 ghost use Rattle.component.specs.Record.{record_at, record_count};
 ghost use Rattle.component.specs.Reading.{Readable};
-ghost use Rattle.component.specs.declared.Verdict.TheVariants.{Accepted};
 ghost use Rattle.flatten.specs.Verdict.{verdict};
 ghost use Rattle.boxes.specs.Boxes.{child_named, place_of};
 ghost use Rattle.boxes.specs.Naming.{named};
@@ -40,7 +39,7 @@ fn child_named(file: &[u8], c: usize, id: Id) -> usize
 // The component that a path names, from the root down; the number of records where there is none. Behind the first id that names none
 // the path is not looked at. Crate look calls it for an accepted file.
 pub fn place_of(file: &[u8], path: &[u32]) -> usize
-    requires { verdict file.now ≡ Accepted }
+    requires { verdict file.now ≡ Ok tt }
     ensures { result ≡ place_of (record_at file.now) (record_count file.now) path.now }
 {
     let n = file.len() / 24;

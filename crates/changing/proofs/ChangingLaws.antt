@@ -15,11 +15,9 @@ use Rattle.kinds.specs.declared.Kind.TheVariants.{Switch, Input}
 use Rattle.kinds.specs.Kinds.{is, input_width, output_width}
 use Rattle.kinds.specs.Given.{Given, giving, spoken}
 use Rattle.tables.specs.declared.Counts.{Counts}
-use Rattle.tables.specs.declared.Answer.{Answer}
 use Rattle.tables.specs.Tables.{Tables, fields_at, answer_gives, counts_after}
 use Rattle.net.specs.Net.{net_number}
 use Rattle.simulator.specs.declared.Ran.{Ran}
-use Rattle.simulator.specs.declared.Ran.TheVariants.{Done as RanOut, Refused as NotRun}
 use Rattle.simulator.specs.Calls.{round_number, driven, edit_number, ran_gives, counts_after_run}
 use Rattle.rounds.specs.Round.{is_order}
 use Rattle.simulator.specs.Ordered.{ordered_number}
@@ -28,33 +26,35 @@ use Rattle.words.specs.Said.{short}
 use Rattle.words.proofs.PlainLaws.{chosen_small, refusal_small, net_small, on_net_small, Plain, giving_plain, plain_as}
 use Rattle.words.proofs.SaidLaws.{change_short, change_made}
 use Rattle.changing.specs.Changing.{CallMoves, CallRuns, few_to_run, ran}
+use Rattle.std.specs.Prelude.{Result, Ok, Err}
+use Rattle.kinds.specs.declared.answers.Refusal.{Refusal}
 
 -- The count words after a run.
-counts_after_run_lem : (a : Ran) (ws : List ℕ) → counts_in (overlay (drop 3 (values_in (ran_gives a))) ws) ≡ counts_after_run a (counts_in ws)
+counts_after_run_lem : (a : Result Ran Refusal) (ws : List ℕ) → counts_in (overlay (drop 3 (values_in (ran_gives a))) ws) ≡ counts_after_run a (counts_in ws)
 unfolding counts_in overlay
-counts_after_run_lem (RanOut m k e n) ws = refl
-counts_after_run_lem (NotRun x) ws = refl
+counts_after_run_lem (Ok a) ws = refl
+counts_after_run_lem (Err x) ws = refl
 
 -- A round, in stored order or in one that is handed in.
-module _ (P : List ℕ → Tables → Answer → Tables → Type 0) (ws bs : List ℕ) (lent : Counts → Tables) where
+module _ (P : List ℕ → Tables → Result Counts Refusal → Tables → Type 0) (ws bs : List ℕ) (lent : Counts → Tables) where
   pub round_short : length ws < 7 → CallMoves (P bs) (short ws 7) ws ws bs bs lent lent 131072
   round_short h = (change_short _ ws lent h, λ e. refl)
 
-  pub round_answered : (a : Answer) (m : Counts) (ws' bs' : List ℕ) (left : Counts → Tables) (r : ℕ) → 7 ≤ length ws → m ≡ counts_in ws
+  pub round_answered : (a : Result Counts Refusal) (m : Counts) (ws' bs' : List ℕ) (left : Counts → Tables) (r : ℕ) → 7 ≤ length ws → m ≡ counts_in ws
       → P bs' (lent m) a (left (counts_after a m)) → r ≡ spoken (answer_gives a) → ws' ≡ overlay (values_in (answer_gives a)) ws
       → CallMoves (P bs') (short ws 7) ws ws' bs bs' lent left r
   round_answered a m ws' bs' left r h q p n w =
       (change_made _ ws lent a m ws' left r h q p n w, λ e. absurd (true≢false (sym e ∙ le-ltb (length ws) 7 h)))
 
 -- Run until calm.
-module _ (P : Tables → Ran → Tables → Type 0) (ws fs : List ℕ) (lent : Counts → Tables) where
+module _ (P : Tables → Result Ran Refusal → Tables → Type 0) (ws fs : List ℕ) (lent : Counts → Tables) where
   abbrev few_words : Bool
   few_words = short ws 7 || short fs 3
 
   pub run_short : few_words ≡ true → CallRuns P few_words ws ws fs fs lent lent 131072
   run_short h = few_to_run h refl refl refl refl
 
-  pub run_made : (a : Ran) (m : Counts) (ws' fs' : List ℕ) (left : Counts → Tables) (r : ℕ) → few_words ≡ false → m ≡ counts_in ws
+  pub run_made : (a : Result Ran Refusal) (m : Counts) (ws' fs' : List ℕ) (left : Counts → Tables) (r : ℕ) → few_words ≡ false → m ≡ counts_in ws
       → P (lent m) a (left (counts_after_run a m)) → r ≡ spoken (ran_gives a) → ws' ≡ overlay (drop 3 (values_in (ran_gives a))) ws
       → fs' ≡ overlay (take 3 (values_in (ran_gives a))) fs
       → CallRuns P few_words ws ws' fs fs' lent left r

@@ -10,7 +10,6 @@
 use Rattle.std.specs.Prelude.{ℕ, ◌≡◌, Bool, true, false, List, take, drop}
 use Rattle.lists.specs.Lists.{overlay}
 use Rattle.kinds.specs.Given.{spoken}
-use Rattle.tables.specs.declared.Answer.{Answer}
 use Rattle.tables.specs.declared.Counts.{Counts}
 use Rattle.tables.specs.Tables.{Tables}
 use Rattle.simulator.specs.declared.Ran.{Ran}
@@ -18,9 +17,11 @@ use Rattle.simulator.specs.Calls.{Rounds, ran_gives}
 use Rattle.simulator.specs.Ordered.{RoundsOrdered}
 use Rattle.words.specs.Words.{counts_in, values_in}
 use Rattle.words.specs.Said.{says_short, CallChanges}
+use Rattle.std.specs.Prelude.{Result}
+use Rattle.kinds.specs.declared.answers.Refusal.{Refusal}
 
 -- A round is lent a table of bits besides: bs before, bs' after. Too few words leave it as it was.
-abbrev pub CallMoves : (Tables → Answer → Tables → Type 0) → Bool → List ℕ → List ℕ → List ℕ → List ℕ → (Counts → Tables) → (Counts → Tables) → ℕ → Type 0
+abbrev pub CallMoves : (Tables → Result Counts Refusal → Tables → Type 0) → Bool → List ℕ → List ℕ → List ℕ → List ℕ → (Counts → Tables) → (Counts → Tables) → ℕ → Type 0
 CallMoves P few ws ws' bs bs' lent left r = CallChanges P few ws ws' lent left r × (few ≡ true → bs' ≡ bs)
 
 -- A round at time t.
@@ -32,8 +33,8 @@ abbrev pub CallRoundsOrdered : ℕ → List ℕ → Bool → List ℕ → List �
 CallRoundsOrdered t order few ws ws' bs bs' = CallMoves (λ T a U. RoundsOrdered t order bs T a U bs') few ws ws' bs bs'
 
 -- Run until calm: rounds, evaluations and bits set, the first three values, are laid over fs, the counts over the count words.
-pub data CallRuns (P : Tables → Ran → Tables → Type 0) (few : Bool) (ws ws' fs fs' : List ℕ) (lent left : Counts → Tables) (r : ℕ) : Type 0 where
+pub data CallRuns (P : Tables → Result Ran Refusal → Tables → Type 0) (few : Bool) (ws ws' fs fs' : List ℕ) (lent left : Counts → Tables) (r : ℕ) : Type 0 where
   few_to_run : few ≡ true → r ≡ says_short → ws' ≡ ws → fs' ≡ fs → left (counts_in ws) ≡ lent (counts_in ws) → CallRuns P few ws ws' fs fs' lent left r
-  ran : (a : Ran) → few ≡ false → P (lent (counts_in ws)) a (left (counts_in ws')) → r ≡ spoken (ran_gives a)
+  ran : (a : Result Ran Refusal) → few ≡ false → P (lent (counts_in ws)) a (left (counts_in ws')) → r ≡ spoken (ran_gives a)
       → ws' ≡ overlay (drop 3 (values_in (ran_gives a))) ws → fs' ≡ overlay (take 3 (values_in (ran_gives a))) fs
       → CallRuns P few ws ws' fs fs' lent left r

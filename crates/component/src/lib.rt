@@ -4,7 +4,7 @@
 
 mod reader;
 
-use kinds::{Fields, Id, Refusal};
+use kinds::{Fields, Id};
 pub use reader::{
     component_at, deepest, fields_at, given, is_primitive_at, is_sized, known_at, loose_at,
     record_at,
@@ -66,9 +66,3 @@ pub enum Stands {
     Nothing,
 }
 
-// What a file's bytes are judged to be.
-#[derive(Clone, Copy)]
-pub enum Verdict {
-    Accepted,
-    Refused(Refusal),
-}

@@ -10,7 +10,6 @@ use Prim.Native.Nat.{ℕ}
 use lib.ListN.{length}
 use borrow.Author.Tests.{eq-eqb}
 use lib.Dec.{eqb, ltb}
-use Rattle.component.specs.declared.Verdict.TheVariants.{Accepted}
 use Rattle.component.specs.Record.{IsBytes}
 use Rattle.tables.specs.Tables.{Tables}
 use Rattle.tables.proofs.SameLaws.{SameWiring, same_wiring-none, same_wiring-more}
@@ -24,6 +23,7 @@ use Rattle.quiet.proofs.Since.{Fresh, Unbroken, fresh_unbroken, round_tables-unb
 use Rattle.quiet.proofs.Runs.{run_tables-net, run_tables-wiring, run_tables-unbroken}
 use Rattle.demands.specs.Reached.{Call, call_number, call_tables, is_round, call_time, Reached, loaded, called}
 use Rattle.demands.specs.Reached as calls
+use Rattle.std.specs.Prelude.{Ok}
 
 -- A call on these tables has run a round.
 abbrev pub runs : Call → Tables → Bool
@@ -75,11 +75,11 @@ call_kept (calls.ordered u order bits) T ran t z a =
 pub record Origin (file : List ℕ) (T : Tables) : Type 0 where
   pub lent : Tables
   pub bytes : IsBytes file
-  pub accepted : load_verdict file lent ≡ Accepted
+  pub accepted : load_verdict file lent ≡ Ok tt
   pub wiring : SameWiring (load_tables file lent) T
 
 -- The load that reached tables started from; and, where a load leaves a net in which every call starts afresh, what holds of them.
-module _ (file : List ℕ) (fresh : (T : Tables) → IsBytes file → load_verdict file T ≡ Accepted → Fresh (load_tables file T)) where
+module _ (file : List ℕ) (fresh : (T : Tables) → IsBytes file → load_verdict file T ≡ Ok tt → Fresh (load_tables file T)) where
   pub reached_kept : {ran : Bool} {t : ℕ} {T : Tables} → Reached file ran t T → Origin file T × Kept ran t T T
   reached_kept (loaded T b a) =
       let f = fresh T b a in (

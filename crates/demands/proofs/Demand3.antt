@@ -13,7 +13,6 @@ use Rattle.kinds.specs.declared.table.Fields.{Fields}
 use Rattle.kinds.specs.Kinds.{is}
 use Rattle.primitive.specs.Evaluate.{function_of}
 use Rattle.component.specs.declared.Record.{Record}
-use Rattle.component.specs.declared.Verdict.TheVariants.{Accepted}
 use Rattle.component.specs.Record.{IsBytes, record_at, record_count, fields_of, is_primitive}
 use Rattle.component.specs.Drawing.{primitives_before}
 use Rattle.flatten.specs.declared.Pin.{Pin}
@@ -32,6 +31,7 @@ use Rattle.quiet.proofs.Since.{Fresh}
 use Rattle.quiet.proofs.Obeyed.{Equal as EqualAt, Follows as FollowsAt, ObeyedAt, SatisfiedAt, unbroken_obeyed}
 use Rattle.demands.proofs.Called.{reached_kept}
 use Rattle.demands.specs.Demand.{Equal, Follows, Satisfied, Obeyed, Demand3}
+use Rattle.std.specs.Prelude.{Ok}
 
 -- What the drawing leads from and to are ports of primitives.
 module _ (at : ℕ → Record) (n : ℕ) where
@@ -44,7 +44,7 @@ module _ (at : ℕ → Record) (n : ℕ) where
   into_primitive (maps q l e m r) = into_primitive r
 
 -- A load leaves a net in which every call starts afresh: all components current, every Clock standing.
-module _ (file : List ℕ) (T : Tables) (bytes : IsBytes file) (a : load_verdict file T ≡ Accepted) where
+module _ (file : List ℕ) (T : Tables) (bytes : IsBytes file) (a : load_verdict file T ≡ Ok tt) where
   abbrev L : Tables
   L = load_tables file T
 
@@ -75,7 +75,7 @@ module _ (file : List ℕ) (T : Tables) (bytes : IsBytes file) (a : load_verdict
       }
 
 -- What holds of the tables' wires and components holds of the drawing that was loaded.
-module _ (file : List ℕ) (T₀ : Tables) (a : load_verdict file T₀ ≡ Accepted) (T : Tables) (same : SameWiring (load_tables file T₀) T) where
+module _ (file : List ℕ) (T₀ : Tables) (a : load_verdict file T₀ ≡ Ok tt) (T : Tables) (same : SameWiring (load_tables file T₀) T) where
   abbrev at : ℕ → Record
   at = record_at file
 

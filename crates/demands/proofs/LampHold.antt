@@ -6,7 +6,6 @@ use mathlib.Core.List.{[], ◌∷◌, map}
 use Rattle.lists.specs.Lists.{from, append_new, strike, overlay}
 use Rattle.kinds.specs.Kinds.{obeys}
 use Rattle.primitive.specs.Evaluate.{function_of, outputs_after, moved_outputs}
-use Rattle.component.specs.declared.Verdict.TheVariants.{Accepted}
 use Rattle.component.specs.Drawing.{deepest}
 use Rattle.flatten.specs.Descent.{output_below, inputs_below, comes_from, goes_to}
 use Rattle.flatten.specs.Verdict.{verdict}
@@ -21,9 +20,10 @@ use Rattle.judging.specs.Judged.{judged_named}
 use Rattle.simulator.specs.Calls.{round_tables, edit_number, edit_tables, bits_set, run_by, run}
 use Rattle.component.proofs.Drawings.{lamp}
 use Rattle.demands.proofs.Lamp.{lamp_loaded, lamp_set}
+use Rattle.std.specs.Prelude.{Ok}
 
 -- What the listing prints of it: the verdict, the wires, rounds until calm.
-pub lamp_accepted : verdict lamp ≡ Accepted
+pub lamp_accepted : verdict lamp ≡ Ok tt
 unfolding verdict deepest obeys output_below inputs_below comes_from goes_to
 lamp_accepted = refl
 

@@ -12,7 +12,6 @@ use Rattle.lists.specs.Lists.{every, append_new, strike, overlay}
 use Rattle.lists.proofs.TestsLaws.{and_left, and_right}
 use Rattle.kinds.specs.Kinds.{obeys}
 use Rattle.primitive.specs.Evaluate.{function_of, outputs_after}
-use Rattle.component.specs.declared.Verdict.TheVariants.{Accepted}
 use Rattle.component.specs.Record.{IsBytes, record_at, record_count}
 use Rattle.component.specs.Drawing.{deepest}
 use Rattle.flatten.specs.Descent.{output_below, inputs_below, comes_from, goes_to}
@@ -30,8 +29,9 @@ use Rattle.demands.specs.Reached as reached
 use Rattle.demands.specs.Demand.{Satisfied}
 use Rattle.demands.proofs.Demand3.{demand3}
 use Rattle.demands.proofs.Calm.{calm_satisfied}
+use Rattle.std.specs.Prelude.{Ok}
 
-lamp_load : load_verdict lamp sevens ≡ Accepted
+lamp_load : load_verdict lamp sevens ≡ Ok tt
 unfolding load_verdict judgement verdict full_size deepest obeys output_below inputs_below comes_from goes_to
 lamp_load = refl
 

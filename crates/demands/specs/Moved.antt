@@ -9,18 +9,18 @@ use Rattle.std.specs.Prelude.{◌≡◌, ℕ, zero, suc, ◌≤◌, ◌<◌, Boo
 use Rattle.lists.specs.Lists.{from, has, total}
 use Rattle.value.specs.Value.{level, bit_of}
 use Rattle.kinds.specs.declared.table.Fields.{Fields}
-use Rattle.primitive.specs.declared.Evaluated.TheVariants.{Done}
 use Rattle.primitive.specs.Evaluate.{Evaluates}
 use Rattle.tables.specs.Tables.{Tables, fields_at, end_at, output_place, current_list}
 use Rattle.net.specs.Net.{net_number}
 use Rattle.rounds.specs.Round.{bits_by, round_bits}
 use Rattle.simulator.specs.Calls.{round_tables, round_number, round_call, round_moved, bits_set, run}
 use Rattle.simulator.specs.Ordered.{wires_by, ordered_number, ordered_tables}
+use Rattle.std.specs.Prelude.{Ok}
 
 -- Evaluating a component, not refused, which finds the outputs ys and leaves zs: bit j tells of the component's output j and of nothing else.
 abbrev pub EvaluatedRight : Type 0
 EvaluatedRight =
-    (f : Fields) (xs vs ys ws : List ℕ) (t bits : ℕ) (zs : List ℕ) → Evaluates f xs vs ys ws t (Done bits) zs
+    (f : Fields) (xs vs ys ws : List ℕ) (t bits : ℕ) (zs : List ℕ) → Evaluates f xs vs ys ws t (Ok bits) zs
     → (j : ℕ) → bit_of bits j ≡ level (ltb j f.outputs && not (eqb (get_or ys j 0) (get_or zs j 0)))
 
 -- Output j of component i, of T, holds another number in U than in T.

@@ -9,7 +9,6 @@ use Rattle.primitive.specs.Evaluate.{moved_outputs, evaluate_number, evaluated_g
 use Rattle.primitive.proofs.EvaluateLaws.{evaluated_gives-is}
 use Rattle.flatten.specs.Verdict.{verdict_gives}
 use Rattle.meeting.proofs.MeetingLaws.{judges_judgement}
-use Rattle.tables.specs.declared.Answer.{Answer}
 use Rattle.tables.specs.Tables.{Tables, answer_gives, Changes, sources, targets}
 use Rattle.tables.proofs.AnswerLaws.{answer_gives-is, changes_determined}
 use Rattle.load.specs.Load.{load_verdict}
@@ -22,6 +21,9 @@ use Rattle.questions.proofs.AnswersLaws.{whether_gives-is, index_gives_is, value
 use Rattle.look.proofs.AnswerLaws.{look_gives-is}
 use Rattle.mend.proofs.AnswerLaws.{mend_gives-is}
 use Rattle.determinacy.specs.Determined.{Determinacy, Determined, DeterminedAnswer}
+use Rattle.std.specs.Prelude.{Result}
+use Rattle.tables.specs.declared.Counts.{Counts}
+use Rattle.kinds.specs.declared.answers.Refusal.{Refusal}
 
 -- What was written is `new`, and the answer gives what `said` says of it.
 module _ {A : Type 0} (gives : A → Given) (is : (a b : A) → gives a ≡ gives b → a ≡ b) where
@@ -38,7 +40,7 @@ equation x a a' p q = p ∙ sym q
 
 -- A call of number k that leaves the tables `new` and the bits `told`.
 moves : (k : ℕ) (new : Tables) (told : List ℕ)
-    → Determined (λ (r : Answer) (b : Tables × List ℕ). Changes answer_gives (giving k) new r b.0 × (b.1 ≡ told))
+    → Determined (λ (r : Result Counts Refusal) (b : Tables × List ℕ). Changes answer_gives (giving k) new r b.0 × (b.1 ≡ told))
 moves k new told a a' b b' p q =
     let d = changes_determined answer_gives answer_gives-is (giving k) new a a' b.0 b'.0 p.0 q.0 in
     let left = d.1 in

@@ -8,14 +8,11 @@ use lib.ListN.{take, drop}
 use Rattle.lists.specs.Lists.{within, overlay}
 use Rattle.component.specs.Record.{record_count}
 use Rattle.kinds.specs.declared.table.Fields.{Fields}
-use Rattle.primitive.specs.declared.Evaluated.{Evaluated}
 use Rattle.kinds.specs.Given.{Given, giving, spoken}
 use Rattle.primitive.specs.Evaluate.{evaluated_gives}
 use Rattle.tables.specs.declared.Counts.{Counts}
-use Rattle.tables.specs.declared.Answer.{Answer}
 use Rattle.tables.specs.Tables.{Tables, answer_gives}
 use Rattle.simulator.specs.declared.Ran.{Ran}
-use Rattle.questions.specs.declared.Listed.{Listed}
 use Rattle.simulator.specs.Calls.{ran_gives, Runs}
 use Rattle.questions.specs.Questions.{whether_gives, index_gives, value_gives, list_gives}
 use Rattle.look.specs.declared.Looked.{Looked}
@@ -30,6 +27,8 @@ use Rattle.host.specs.Host.{CallEvaluates, few_to_evaluate, evaluated, few_to_lo
 use Rattle.determinacy.specs.Determined.{Determined, DeterminedAnswer}
 use Rattle.determinacy.specs.HostDetermined.{ChangesDetermined, MovesDetermined, AsksDetermined, ListsDetermined, LooksDetermined, HostDeterminacy}
 use Rattle.determinacy.proofs.Determinacy.{determinacy}
+use Rattle.std.specs.Prelude.{Result}
+use Rattle.kinds.specs.declared.answers.Refusal.{Refusal}
 
 -- No call is lent both too few words and enough.
 neither : {A : Type 0} (b : Bool) → b ≡ true → b ≡ false → A
@@ -42,20 +41,20 @@ module _ (few : Bool) (ws fs : List ℕ) (lent : Counts → Tables) where
   same_left a b f g w v l m =
       ap (λ (x : List ℕ). f (counts_in x)) w ∙ l ∙ sym m ∙ sym (ap (λ (x : List ℕ). g (counts_in x)) v)
 
-  changes : (P : Tables → Answer → Tables → Type 0) → ((T : Tables) → Determined (P T)) → ChangesDetermined few ws fs lent P
+  changes : (P : Tables → Result Counts Refusal → Tables → Type 0) → ((T : Tables) → Determined (P T)) → ChangesDetermined few ws fs lent P
   changes P det r s a b f g (few_counts e n w l) (few_counts e' n' w' l') =
       (n ∙ sym n', w ∙ sym w', same_left a b f g w w' l l')
   changes P det r s a b f g (few_counts e n w l) (changed x e' p' n' w') = neither few e e'
   changes P det r s a b f g (changed x e p n w) (few_counts e' n' w' l') = neither few e' e
   changes P det r s a b f g (changed x e p n w) (changed y e' p' n' w') =
       let d = det (lent (counts_in ws)) x y (f (counts_in a)) (g (counts_in b)) p p' in (
-        n ∙ ap (λ (z : Answer). spoken (answer_gives z)) d.0 ∙ sym n',
-        w ∙ ap (λ (z : Answer). overlay (values_in (answer_gives z)) ws) d.0 ∙ sym w',
+        n ∙ ap (λ (z : Result Counts Refusal). spoken (answer_gives z)) d.0 ∙ sym n',
+        w ∙ ap (λ (z : Result Counts Refusal). overlay (values_in (answer_gives z)) ws) d.0 ∙ sym w',
         d.1,
       )
 
-  moves : (P : List ℕ → Tables → Answer → Tables → Type 0) (bs : List ℕ)
-      → ((T : Tables) → Determined (λ (r : Answer) (u : Tables × List ℕ). P u.1 T r u.0)) → MovesDetermined few ws fs lent P bs
+  moves : (P : List ℕ → Tables → Result Counts Refusal → Tables → Type 0) (bs : List ℕ)
+      → ((T : Tables) → Determined (λ (r : Result Counts Refusal) (u : Tables × List ℕ). P u.1 T r u.0)) → MovesDetermined few ws fs lent P bs
   moves P bs det r s a b c d f g p q = by_call p.0 q.0
     where
       by_call : CallChanges (P c) few ws a lent f r → CallChanges (P d) few ws b lent g s
@@ -67,13 +66,13 @@ module _ (few : Bool) (ws fs : List ℕ) (lent : Counts → Tables) where
       by_call (changed x e o n w) (changed y e' o' n' w') =
           let z = det (lent (counts_in ws)) x y (f (counts_in a), c) (g (counts_in b), d) o o' in
           let left = z.1 in (
-            n ∙ ap (λ (v : Answer). spoken (answer_gives v)) z.0 ∙ sym n',
-            w ∙ ap (λ (v : Answer). overlay (values_in (answer_gives v)) ws) z.0 ∙ sym w',
+            n ∙ ap (λ (v : Result Counts Refusal). spoken (answer_gives v)) z.0 ∙ sym n',
+            w ∙ ap (λ (v : Result Counts Refusal). overlay (values_in (answer_gives v)) ws) z.0 ∙ sym w',
             λ i. (left i).1,
             λ i. (left i).0,
           )
 
-  runs : (P : Tables → Ran → Tables → Type 0) → ((T : Tables) → Determined (P T)) → (r s : ℕ) (a b c d : List ℕ) (f g : Counts → Tables)
+  runs : (P : Tables → Result Ran Refusal → Tables → Type 0) → ((T : Tables) → Determined (P T)) → (r s : ℕ) (a b c d : List ℕ) (f g : Counts → Tables)
       → CallRuns P few ws a fs c lent f r → CallRuns P few ws b fs d lent g s
       → (r ≡ s) × (a ≡ b) × (c ≡ d) × (f (counts_in a) ≡ g (counts_in b))
   runs P det r s a b c d f g (few_to_run e n w u l) (few_to_run e' n' w' u' l') =
@@ -82,9 +81,9 @@ module _ (few : Bool) (ws fs : List ℕ) (lent : Counts → Tables) where
   runs P det r s a b c d f g (ran x e p n w u) (few_to_run e' n' w' u' l') = neither few e' e
   runs P det r s a b c d f g (ran x e p n w u) (ran y e' p' n' w' u') =
       let q = det (lent (counts_in ws)) x y (f (counts_in a)) (g (counts_in b)) p p' in (
-        n ∙ ap (λ (z : Ran). spoken (ran_gives z)) q.0 ∙ sym n',
-        w ∙ ap (λ (z : Ran). overlay (drop 3 (values_in (ran_gives z))) ws) q.0 ∙ sym w',
-        u ∙ ap (λ (z : Ran). overlay (take 3 (values_in (ran_gives z))) fs) q.0 ∙ sym u',
+        n ∙ ap (λ (z : Result Ran Refusal). spoken (ran_gives z)) q.0 ∙ sym n',
+        w ∙ ap (λ (z : Result Ran Refusal). overlay (drop 3 (values_in (ran_gives z))) ws) q.0 ∙ sym w',
+        u ∙ ap (λ (z : Result Ran Refusal). overlay (take 3 (values_in (ran_gives z))) fs) q.0 ∙ sym u',
         q.1,
       )
 
@@ -98,7 +97,7 @@ module _ (few : Bool) (ws fs : List ℕ) (lent : Counts → Tables) where
         u ∙ ap (λ (z : A). overlay (values_in (gives z)) fs) q ∙ sym u',
       )
 
-  lists : (P : Tables → List ℕ → Listed → List ℕ → Type 0) → ((T : Tables) (ls : List ℕ) → Determined (P T ls)) → ListsDetermined few ws fs lent P
+  lists : (P : Tables → List ℕ → Result ℕ Refusal → List ℕ → Type 0) → ((T : Tables) (ls : List ℕ) → Determined (P T ls)) → ListsDetermined few ws fs lent P
   lists P det ls r s c d (few_to_list e n l u) (few_to_list e' n' l' u') =
       let m = l ∙ sym l' in
       let v = u ∙ sym u' in (n ∙ sym n', λ i. (m i, v i))
@@ -107,13 +106,13 @@ module _ (few : Bool) (ws fs : List ℕ) (lent : Counts → Tables) where
   lists P det ls r s c d (listed x e p n u) (listed y e' p' n' u') =
       let q = det (lent (counts_in ws)) ls x y c.0 d.0 p p' in
       let m = q.1 in
-      let v = u ∙ ap (λ (z : Listed). overlay (values_in (list_gives z)) fs) q.0 ∙ sym u' in (
-        n ∙ ap (λ (z : Listed). spoken (list_gives z)) q.0 ∙ sym n',
+      let v = u ∙ ap (λ (z : Result ℕ Refusal). overlay (values_in (list_gives z)) fs) q.0 ∙ sym u' in (
+        n ∙ ap (λ (z : Result ℕ Refusal). spoken (list_gives z)) q.0 ∙ sym n',
         λ i. (m i, v i),
       )
 
-  looks : (P : Tables → List ℕ → List ℕ → Looked → List ℕ → List ℕ → Type 0)
-      → ((T : Tables) (ns wd : List ℕ) → Determined (λ (a : Looked) (b : List ℕ × List ℕ). P T ns wd a b.0 b.1)) → LooksDetermined few ws fs lent P
+  looks : (P : Tables → List ℕ → List ℕ → Result Looked Refusal → List ℕ → List ℕ → Type 0)
+      → ((T : Tables) (ns wd : List ℕ) → Determined (λ (a : Result Looked Refusal) (b : List ℕ × List ℕ). P T ns wd a b.0 b.1)) → LooksDetermined few ws fs lent P
   looks P det ns wd r s c d (few_to_look e n k w u) (few_to_look e' n' k' w' u') =
       let l = k ∙ sym k' in
       let m = w ∙ sym w' in
@@ -123,8 +122,8 @@ module _ (few : Bool) (ws fs : List ℕ) (lent : Counts → Tables) where
   looks P det ns wd r s c d (looked x e p n u) (looked y e' p' n' u') =
       let q = det (lent (counts_in ws)) ns wd x y (c.0, c.1) (d.0, d.1) p p' in
       let b = q.1 in
-      let v = u ∙ ap (λ (z : Looked). overlay (values_in (look_gives z)) fs) q.0 ∙ sym u' in (
-        n ∙ ap (λ (z : Looked). spoken (look_gives z)) q.0 ∙ sym n',
+      let v = u ∙ ap (λ (z : Result Looked Refusal). overlay (values_in (look_gives z)) fs) q.0 ∙ sym u' in (
+        n ∙ ap (λ (z : Result Looked Refusal). spoken (look_gives z)) q.0 ∙ sym n',
         λ i. ((b i).0, (b i).1, v i),
       )
 
@@ -138,8 +137,8 @@ module _ (few : Bool) (ws fs : List ℕ) (lent : Counts → Tables) where
   mends file out ds r s c d (mended_by x e p n u) (mended_by y e' p' n' u') =
       let q = determinacy.9 file out ds x y (c.0, c.1) (d.0, d.1) p p' in
       let b = q.1 in
-      let v = u ∙ ap (λ (z : Mended). overlay (values_in (mend_gives z)) fs) q.0 ∙ sym u' in (
-        n ∙ ap (λ (z : Mended). spoken (mend_gives z)) q.0 ∙ sym n',
+      let v = u ∙ ap (λ (z : Result Mended Refusal). overlay (values_in (mend_gives z)) fs) q.0 ∙ sym u' in (
+        n ∙ ap (λ (z : Result Mended Refusal). spoken (mend_gives z)) q.0 ∙ sym n',
         λ i. ((b i).0, (b i).1, v i),
       )
 
@@ -153,8 +152,8 @@ module _ (few : Bool) (ws fs : List ℕ) (lent : Counts → Tables) where
   evaluates f xs vs ys us t r s c d (evaluated x e p n u) (evaluated y e' p' n' u') =
       let q = determinacy.0 f xs vs ys us t x y c.0 d.0 p p' in
       let b = q.1 in
-      let v = u ∙ ap (λ (z : Evaluated). overlay (values_in (evaluated_gives z)) fs) q.0 ∙ sym u' in (
-        n ∙ ap (λ (z : Evaluated). spoken (evaluated_gives z)) q.0 ∙ sym n',
+      let v = u ∙ ap (λ (z : Result ℕ Refusal). overlay (values_in (evaluated_gives z)) fs) q.0 ∙ sym u' in (
+        n ∙ ap (λ (z : Result ℕ Refusal). spoken (evaluated_gives z)) q.0 ∙ sym n',
         λ i. (b i, v i),
       )
 

@@ -11,7 +11,6 @@ use Rattle.kinds.specs.Given.{spoken}
 use Rattle.flatten.specs.Verdict.{verdict_gives}
 use Rattle.words.specs.Words.{values_in}
 use Rattle.slow.specs.declared.SlowCounts.{SlowCounts}
-use Rattle.slow.specs.declared.SlowAnswer.{SlowAnswer}
 use Rattle.slow.specs.declared.SlowRan.{SlowRan}
 use Rattle.slow.specs.Slow.{SlowTables, slow_words, slow_gives, slow_ran_gives, slow_load_verdict, slow_round_verdict, slow_edit_verdict, slow_run_verdict, slow_run, SlowRounds}
 use Rattle.slow.proofs.AnswersLaws.{slow_gives-is, slow_ran_gives-is}
@@ -19,6 +18,8 @@ use Rattle.slowly.specs.Slowly.{slow_counts_in, few_slow, CallSlow, few_slow_cou
 use Rattle.determinacy.specs.Determined.{Determined}
 use Rattle.determinacy.specs.SlowDetermined.{SlowDeterminacy, SlowChangesDetermined, SlowlyDeterminacy}
 use Rattle.determinacy.proofs.Determinacy.{outcome}
+use Rattle.std.specs.Prelude.{Result}
+use Rattle.kinds.specs.declared.answers.Refusal.{Refusal}
 
 -- The engine's.
 pub slow_determinacy : SlowDeterminacy
@@ -48,15 +49,15 @@ module _ (few : Bool) (ws fs : List ℕ) (lent : SlowCounts → SlowTables) wher
   same_left a b f g w v l m =
       ap (λ (x : List ℕ). f (slow_counts_in x)) w ∙ l ∙ sym m ∙ sym (ap (λ (x : List ℕ). g (slow_counts_in x)) v)
 
-  changes : (P : SlowTables → SlowAnswer → SlowTables → Type 0) → ((S : SlowTables) → Determined (P S)) → SlowChangesDetermined few ws fs lent P
+  changes : (P : SlowTables → Result SlowCounts Refusal → SlowTables → Type 0) → ((S : SlowTables) → Determined (P S)) → SlowChangesDetermined few ws fs lent P
   changes P det r s a b f g (few_slow_counts e n w l) (few_slow_counts e' n' w' l') =
       (n ∙ sym n', w ∙ sym w', same_left a b f g w w' l l')
   changes P det r s a b f g (few_slow_counts e n w l) (slow_changed x e' p' n' w') = neither few e e'
   changes P det r s a b f g (slow_changed x e p n w) (few_slow_counts e' n' w' l') = neither few e' e
   changes P det r s a b f g (slow_changed x e p n w) (slow_changed y e' p' n' w') =
       let d = det (lent (slow_counts_in ws)) x y (f (slow_counts_in a)) (g (slow_counts_in b)) p p' in (
-        n ∙ ap (λ (z : SlowAnswer). spoken (slow_gives z)) d.0 ∙ sym n',
-        w ∙ ap (λ (z : SlowAnswer). overlay (values_in (slow_gives z)) ws) d.0 ∙ sym w',
+        n ∙ ap (λ (z : Result SlowCounts Refusal). spoken (slow_gives z)) d.0 ∙ sym n',
+        w ∙ ap (λ (z : Result SlowCounts Refusal). overlay (values_in (slow_gives z)) ws) d.0 ∙ sym w',
         d.1,
       )
 
@@ -72,13 +73,13 @@ module _ (few : Bool) (ws fs : List ℕ) (lent : SlowCounts → SlowTables) wher
   rounds file bs t r s a b c d f g (slow_changed x e o n w) (slow_changed y e' o' n' w') k k' =
       let z = slow_determinacy.1 file t bs (lent (slow_counts_in ws)) x y (f (slow_counts_in a), c) (g (slow_counts_in b), d) o o' in
       let left = z.1 in (
-        n ∙ ap (λ (v : SlowAnswer). spoken (slow_gives v)) z.0 ∙ sym n',
-        w ∙ ap (λ (v : SlowAnswer). overlay (values_in (slow_gives v)) ws) z.0 ∙ sym w',
+        n ∙ ap (λ (v : Result SlowCounts Refusal). spoken (slow_gives v)) z.0 ∙ sym n',
+        w ∙ ap (λ (v : Result SlowCounts Refusal). overlay (values_in (slow_gives v)) ws) z.0 ∙ sym w',
         λ i. (left i).1,
         λ i. (left i).0,
       )
 
-  runs : (P : SlowTables → SlowRan → SlowTables → Type 0) → ((S : SlowTables) → Determined (P S)) → (r s : ℕ) (a b c d : List ℕ)
+  runs : (P : SlowTables → Result SlowRan Refusal → SlowTables → Type 0) → ((S : SlowTables) → Determined (P S)) → (r s : ℕ) (a b c d : List ℕ)
       (f g : SlowCounts → SlowTables) → CallSlowRuns P few ws a fs c lent f r → CallSlowRuns P few ws b fs d lent g s
       → (r ≡ s) × (a ≡ b) × (c ≡ d) × (f (slow_counts_in a) ≡ g (slow_counts_in b))
   runs P det r s a b c d f g (few_to_run_slowly e n w u l) (few_to_run_slowly e' n' w' u' l') =
@@ -87,9 +88,9 @@ module _ (few : Bool) (ws fs : List ℕ) (lent : SlowCounts → SlowTables) wher
   runs P det r s a b c d f g (ran_slowly x e p n w u) (few_to_run_slowly e' n' w' u' l') = neither few e' e
   runs P det r s a b c d f g (ran_slowly x e p n w u) (ran_slowly y e' p' n' w' u') =
       let q = det (lent (slow_counts_in ws)) x y (f (slow_counts_in a)) (g (slow_counts_in b)) p p' in (
-        n ∙ ap (λ (z : SlowRan). spoken (slow_ran_gives z)) q.0 ∙ sym n',
-        w ∙ ap (λ (z : SlowRan). overlay (drop 3 (values_in (slow_ran_gives z))) ws) q.0 ∙ sym w',
-        u ∙ ap (λ (z : SlowRan). overlay (take 3 (values_in (slow_ran_gives z))) fs) q.0 ∙ sym u',
+        n ∙ ap (λ (z : Result SlowRan Refusal). spoken (slow_ran_gives z)) q.0 ∙ sym n',
+        w ∙ ap (λ (z : Result SlowRan Refusal). overlay (drop 3 (values_in (slow_ran_gives z))) ws) q.0 ∙ sym w',
+        u ∙ ap (λ (z : Result SlowRan Refusal). overlay (take 3 (values_in (slow_ran_gives z))) fs) q.0 ∙ sym u',
         q.1,
       )
 

@@ -7,7 +7,6 @@ use Rattle.kinds.specs.declared.table.Fields.{Fields}
 use Rattle.primitive.specs.Evaluate.{Evaluates}
 use Rattle.flatten.specs.Verdict.{Speaks}
 use Rattle.meeting.specs.Meeting.{Judges, SpeaksPair}
-use Rattle.tables.specs.declared.Answer.{Answer}
 use Rattle.tables.specs.Tables.{Tables}
 use Rattle.load.specs.Load.{Loads}
 use Rattle.net.specs.Net.{Checks}
@@ -20,6 +19,9 @@ use Rattle.look.specs.Look.{Looks}
 use Rattle.mend.specs.declared.Mended.{Mended}
 use Rattle.mend.specs.Mend.{Mends}
 use Rattle.questions.specs.Questions.{AsksCalm, AsksSatisfied, AsksIndex, AsksValue, AsksSources, AsksTargets}
+use Rattle.std.specs.Prelude.{Result}
+use Rattle.tables.specs.declared.Counts.{Counts}
+use Rattle.kinds.specs.declared.answers.Refusal.{Refusal}
 
 -- Two outcomes that P allows, answer and what was written, are equal.
 abbrev pub Determined : {A B : Type 0} → (A → B → Type 0) → Type 0
@@ -35,15 +37,15 @@ abbrev pub Determinacy : Type 0
 Determinacy =
     ((f : Fields) (xs vs ys ws : List ℕ) (t : ℕ) → Determined (Evaluates f xs vs ys ws t))
     × ((file : List ℕ) (T : Tables) → Determined (Loads file T))
-    × ((t : ℕ) (bits : List ℕ) (T : Tables) → Determined (λ (r : Answer) (b : Tables × List ℕ). Rounds t bits T r b.0 b.1))
-    × ((t : ℕ) (order bits : List ℕ) (T : Tables) → Determined (λ (r : Answer) (b : Tables × List ℕ). RoundsOrdered t order bits T r b.0 b.1))
+    × ((t : ℕ) (bits : List ℕ) (T : Tables) → Determined (λ (r : Result Counts Refusal) (b : Tables × List ℕ). Rounds t bits T r b.0 b.1))
+    × ((t : ℕ) (order bits : List ℕ) (T : Tables) → Determined (λ (r : Result Counts Refusal) (b : Tables × List ℕ). RoundsOrdered t order bits T r b.0 b.1))
     × ((way : Way) (i v : ℕ) (T : Tables) → Determined (Edits way i v T))
     × ((t limit : ℕ) (T : Tables) → Determined (Runs t limit T))
     × ((T : Tables) (i : ℕ) (lent : List ℕ) → Determined (AsksSources T i lent))
     × ((T : Tables) (i : ℕ) (lent : List ℕ) → Determined (AsksTargets T i lent))
     × ((file : List ℕ) (T : Tables) (path ns ws : List ℕ)
-    → Determined (λ (r : Looked) (b : List ℕ × List ℕ). Looks file T path ns ws r b.0 b.1))
-    × ((file out list : List ℕ) → Determined (λ (r : Mended) (b : List ℕ × List ℕ). Mends file out list r b.0 b.1))
+    → Determined (λ (r : Result Looked Refusal) (b : List ℕ × List ℕ). Looks file T path ns ws r b.0 b.1))
+    × ((file out list : List ℕ) → Determined (λ (r : Result Mended Refusal) (b : List ℕ × List ℕ). Mends file out list r b.0 b.1))
     × ((file : List ℕ) → DeterminedAnswer (Judges file))
     × ((file : List ℕ) → DeterminedAnswer (Speaks file))
     × ((file : List ℕ) → DeterminedAnswer (SpeaksPair file))

@@ -6,12 +6,10 @@ use Rattle.std.specs.Prelude.{ℕ, ◌≡◌, Bool, List, []}
 use Rattle.kinds.specs.declared.table.Fields.{Fields}
 use Rattle.kinds.specs.Given.{Given, giving}
 use Rattle.tables.specs.declared.Counts.{Counts}
-use Rattle.tables.specs.declared.Answer.{Answer}
 use Rattle.tables.specs.Tables.{Tables}
 use Rattle.load.specs.Load.{Loads}
 use Rattle.net.specs.Net.{Checks}
 use Rattle.questions.specs.declared.Side.{Side}
-use Rattle.questions.specs.declared.Listed.{Listed}
 use Rattle.simulator.specs.Edit.{Way}
 use Rattle.simulator.specs.Calls.{Rounds, Edits, Runs}
 use Rattle.simulator.specs.Ordered.{RoundsOrdered}
@@ -24,16 +22,18 @@ use Rattle.changing.specs.Changing.{CallMoves, CallRuns}
 use Rattle.asking.specs.Asking.{CallAsks, CallLists}
 use Rattle.host.specs.Host.{CallEvaluates, CallLooks, CallMends}
 use Rattle.determinacy.specs.Determined.{Determined}
+use Rattle.std.specs.Prelude.{Result}
+use Rattle.kinds.specs.declared.answers.Refusal.{Refusal}
 
 module _ (few : Bool) (ws fs : List ℕ) (lent : Counts → Tables) where
   -- A call that changes the tables by the engine's promise P.
-  abbrev pub ChangesDetermined : (Tables → Answer → Tables → Type 0) → Type 0
+  abbrev pub ChangesDetermined : (Tables → Result Counts Refusal → Tables → Type 0) → Type 0
   ChangesDetermined P =
       (r s : ℕ) (a b : List ℕ) (f g : Counts → Tables) → CallChanges P few ws a lent f r → CallChanges P few ws b lent g s
       → (r ≡ s) × (a ≡ b) × (f (counts_in a) ≡ g (counts_in b))
 
   -- A round by the promise P, which is lent the bits bs.
-  abbrev pub MovesDetermined : (List ℕ → Tables → Answer → Tables → Type 0) → List ℕ → Type 0
+  abbrev pub MovesDetermined : (List ℕ → Tables → Result Counts Refusal → Tables → Type 0) → List ℕ → Type 0
   MovesDetermined P bs =
       (r s : ℕ) (a b c d : List ℕ) (f g : Counts → Tables) → CallMoves (P c) few ws a bs c lent f r → CallMoves (P d) few ws b bs d lent g s
       → (r ≡ s) × (a ≡ b) × (c ≡ d) × (f (counts_in a) ≡ g (counts_in b))
@@ -43,12 +43,12 @@ module _ (few : Bool) (ws fs : List ℕ) (lent : Counts → Tables) where
   AsksDetermined gives P = Determined (λ (r : ℕ) (c : List ℕ). CallAsks gives P few ws fs c lent r)
 
   -- A question by the promise P that lays a list.
-  abbrev pub ListsDetermined : (Tables → List ℕ → Listed → List ℕ → Type 0) → Type 0
+  abbrev pub ListsDetermined : (Tables → List ℕ → Result ℕ Refusal → List ℕ → Type 0) → Type 0
   ListsDetermined P =
       (ls : List ℕ) → Determined (λ (r : ℕ) (c : List ℕ × List ℕ). CallLists P few ws ls c.0 fs c.1 lent r)
 
   -- A look by the promise P.
-  abbrev pub LooksDetermined : (Tables → List ℕ → List ℕ → Looked → List ℕ → List ℕ → Type 0) → Type 0
+  abbrev pub LooksDetermined : (Tables → List ℕ → List ℕ → Result Looked Refusal → List ℕ → List ℕ → Type 0) → Type 0
   LooksDetermined P =
       (ns wd : List ℕ) → Determined (λ (r : ℕ) (c : List ℕ × List ℕ × List ℕ). CallLooks P few ws ns c.0 wd c.1 fs c.2 lent r)
 

@@ -14,7 +14,6 @@ use Rattle.lists.proofs.TestsLaws.{and_right_false, or_second}
 use Rattle.kinds.specs.declared.table.Fields.{Fields}
 use Rattle.kinds.specs.Kinds.{primitive}
 use Rattle.component.specs.declared.Record.{Record}
-use Rattle.component.specs.declared.Verdict.TheVariants.{Accepted}
 use Rattle.component.specs.Record.{record_count, record_at, loose_at, fields_of, is_primitive}
 use Rattle.component.proofs.RecordLaws.{fields_cases}
 use Rattle.component.proofs.LooseLaws.{loose_strict}
@@ -29,6 +28,7 @@ use Rattle.demands.proofs.Called.{Origin, reached_kept}
 use Rattle.demands.proofs.Demand3.{load_fresh}
 use Rattle.earlier.specs.Reader.{file_taken, tables_taken, ChecksNewer, LoadsAlike, RunsAlike}
 use Rattle.earlier.proofs.TakenLaws.{is_newer, taken_by, record_taken, Takes, taken_count, record_at-taken, file_same, tables_same}
+use Rattle.std.specs.Prelude.{Ok}
 
 -- The check of a number tests each record by itself, and refuses a newer component, as the reader takes it.
 pub record Refuses (newer : Fields → Bool) (k c : ℕ → ℕ) (number : ℕ) (test : Record → Bool) : Type 0 where
@@ -49,7 +49,7 @@ module _ (places : ℕ → Bool) (newer : Fields → Bool) (k c : ℕ → ℕ) (
           ∙ sym (or_second (test (record_at file p)) true refl)
       by_test false e = sym (or-false (test (record_at file p)))
 
-  module _ (file : List ℕ) (accepted : judgement (file_taken places newer file) ≡ Accepted) where
+  module _ (file : List ℕ) (accepted : judgement (file_taken places newer file) ≡ Ok tt) where
     abbrev taken : List ℕ
     taken = file_taken places newer file
 

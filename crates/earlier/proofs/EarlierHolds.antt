@@ -14,7 +14,6 @@ use Rattle.lists.proofs.TestsLaws.{and_right}
 use Rattle.kinds.specs.declared.Kind.TheVariants.{Majority}
 use Rattle.kinds.specs.Kinds.{for_custom, unknown, is}
 use Rattle.component.specs.declared.Record.{Record}
-use Rattle.component.specs.declared.Verdict.TheVariants.{Accepted}
 use Rattle.component.specs.Record.{numbers_in, record_count, record_at, fields_of}
 use Rattle.component.specs.Drawing.{fails7, fails8}
 use Rattle.flatten.specs.Verdict.{refused, verdict}
@@ -25,6 +24,7 @@ use Rattle.earlier.specs.Earlier.{later, file_to, EarlierChecks, EarlierLoads, E
 use Rattle.earlier.proofs.TakenLaws.{numbers_by, place_by, is_newer, taken_by, itself, records_taken, Takes, newer_form}
 use Rattle.earlier.proofs.AlikeHolds.{Refuses, checks_newer, loads_alike, runs_alike}
 use Rattle.earlier.proofs.FirstHolds.{passing, judged_from7, found, judged_taken, answers_first}
+use Rattle.std.specs.Prelude.{Ok}
 
 -- The place of the kind in a record; what the reader makes of a later kind. C it leaves as it is.
 abbrev at_kind : ℕ → Bool
@@ -62,7 +62,7 @@ module _ (last : ℕ) where
       let g : ltb last r.kind ≡ true = rw f at h in
       sym (ne_eqb r.kind 0 (λ z. omega (arith, ltb-true last r.kind g)))
 
-  module _ (file : List ℕ) (accepted : verdict file ≡ Accepted) where
+  module _ (file : List ℕ) (accepted : verdict file ≡ Ok tt) where
     abbrev at : ℕ → Record
     at = record_at file
 

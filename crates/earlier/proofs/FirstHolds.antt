@@ -13,7 +13,6 @@ use Rattle.lists.specs.Lists.{from, first}
 use Rattle.lists.proofs.MembersLaws.{first_none, first_nothing, first_cong, from0_sound, from0_complete}
 use Rattle.kinds.specs.declared.table.Fields.{Fields}
 use Rattle.component.specs.declared.Record.{Record}
-use Rattle.component.specs.declared.Verdict.TheVariants.{Accepted}
 use Rattle.component.specs.Record.{record_count, record_at, fields_of, composite}
 use Rattle.component.specs.Drawing.{deepest, holds, deeper, fails3, fails4, fails5, fails6}
 use Rattle.component.proofs.LooseLaws.{loose_strict}
@@ -24,6 +23,7 @@ use Rattle.meeting.proofs.MeetingLaws.{judgement_accepted}
 use Rattle.earlier.specs.Reader.{file_taken, AnswersFirst}
 use Rattle.earlier.proofs.TakenLaws.{is_newer, taken_by, records_taken, Takes, taken_count, taken_sized, records_taken_lem, file_same}
 use Rattle.earlier.proofs.AlikeHolds.{Refuses}
+use Rattle.std.specs.Prelude.{Ok}
 
 -- A record is a composite exactly if it is so taken, where its kind is not changed to or from a composite's.
 composite_by : (k c : ℕ → ℕ) (r : Record) (t : Bool) → (t ≡ true → eqb (k r.kind) 0 ≡ eqb r.kind 0)
@@ -63,7 +63,7 @@ module _ (newer : Fields → Bool) (k c : ℕ → ℕ) (boxes : (r : Record) →
   taken6 : (p : ℕ) → fails6 taken p ≡ fails6 at p
   taken6 p = rw (deeper_taken deepest p)
 
-module _ (file : List ℕ) (accepted : verdict file ≡ Accepted) where
+module _ (file : List ℕ) (accepted : verdict file ≡ Ok tt) where
   abbrev at : ℕ → Record
   at = record_at file
 
@@ -119,13 +119,13 @@ module _ (file : List ℕ) (accepted : verdict file ≡ Accepted) where
 
 -- So it answers the number of its check, if the check is its judgement wherever there is a newer component.
 pub answers_first : (places : ℕ → Bool) (newer : Fields → Bool) (k c : ℕ → ℕ) → Takes places newer k c → (number : ℕ) (sort : Fields → Bool)
-    → ((file : List ℕ) → verdict file ≡ Accepted → (q : ℕ) → q < record_count file
+    → ((file : List ℕ) → verdict file ≡ Ok tt → (q : ℕ) → q < record_count file
     → is_newer newer (record_at file q) ≡ sort (fields_of (record_at file q)))
-    → ((file : List ℕ) → verdict file ≡ Accepted → (p : ℕ) → first (λ q. is_newer newer (record_at file q)) (from 0 (record_count file)) ≡ some p
+    → ((file : List ℕ) → verdict file ≡ Ok tt → (p : ℕ) → first (λ q. is_newer newer (record_at file q)) (from 0 (record_count file)) ≡ some p
     → judgement (file_taken places newer file) ≡ refused number p) → AnswersFirst (file_taken places newer) number sort
 answers_first places newer k c takes number sort sorted decided file a not = by_first (first (λ q. is_newer newer (at q)) (from 0 n)) refl
   where
-    accepted : verdict file ≡ Accepted
+    accepted : verdict file ≡ Ok tt
     accepted = judgement_accepted file a
 
     at : ℕ → Record

@@ -13,7 +13,6 @@ use Rattle.kinds.specs.declared.Kind.{Kind}
 use Rattle.kinds.specs.declared.Kind.TheVariants.{Input, Output, Splitter, Joiner, Const}
 use Rattle.kinds.specs.Kinds.{number_of, obeys}
 use Rattle.primitive.specs.Evaluate.{function_of, outputs_after, fitting, evaluate_number, evaluate_outputs}
-use Rattle.component.specs.declared.Verdict.TheVariants.{Accepted}
 use Rattle.component.specs.Drawing.{deepest}
 use Rattle.component.proofs.Drawings.{record_bytes, component_bytes, connection_bytes, lamp}
 use Rattle.flatten.specs.Descent.{output_below, inputs_below, comes_from, goes_to}
@@ -27,6 +26,7 @@ use Rattle.simulator.specs.Calls.{round_tables, run_by, run}
 use Rattle.demands.proofs.Lamp.{sevens}
 use Rattle.demands.proofs.Marked.{evaluating}
 use Rattle.earlier.specs.Wider.{file_within}
+use Rattle.std.specs.Prelude.{Ok}
 
 abbrev pub snow : ℕ → ℕ → List ℕ
 snow w x =
@@ -36,7 +36,7 @@ snow w x =
 pub snow_judged :
     judgement (snow 48 (ones 48)) ∷ judgement (snow 63 (ones 63)) ∷ judgement (snow 63 (2 ^ 63)) ∷ judgement (snow 64 (ones 64))
     ∷ judgement (snow 65 0) ∷ []
-    ≡ Accepted ∷ Accepted ∷ refused 9 1 ∷ Accepted ∷ refused 9 1 ∷ []
+    ≡ Ok tt ∷ (Ok tt) ∷ refused 9 1 ∷ (Ok tt) ∷ refused 9 1 ∷ []
 unfolding judgement verdict deepest obeys output_below inputs_below comes_from goes_to
 snow_judged = refl
 
@@ -48,7 +48,7 @@ alone k i o = component_bytes 0 0 0 0 100 0 ++ component_bytes (number_of k) 0 i
 pub snow_earlier :
     judgement (file_within 32 (snow 32 (ones 32))) ∷ judgement (file_within 32 (snow 33 0)) ∷ judgement (file_within 32 (snow 48 5))
     ∷ judgement (file_within 48 (snow 48 5)) ∷ judgement (file_within 63 (snow 64 5)) ∷ judgement (file_within 32 lamp) ∷ []
-    ≡ Accepted ∷ refused 9 1 ∷ refused 9 1 ∷ Accepted ∷ refused 9 1 ∷ Accepted ∷ []
+    ≡ Ok tt ∷ refused 9 1 ∷ refused 9 1 ∷ (Ok tt) ∷ refused 9 1 ∷ (Ok tt) ∷ []
 unfolding judgement verdict deepest obeys output_below inputs_below comes_from goes_to
 snow_earlier = refl
 

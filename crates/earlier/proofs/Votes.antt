@@ -6,7 +6,6 @@ use Prim.Native.Nat.{ℕ}
 use Rattle.kinds.specs.declared.Kind.TheVariants.{Majority}
 use Rattle.kinds.specs.Kinds.{obeys}
 use Rattle.primitive.specs.Evaluate.{function_of, outputs_after, fitting, evaluate_number, evaluate_outputs}
-use Rattle.component.specs.declared.Verdict.TheVariants.{Accepted}
 use Rattle.component.specs.Drawing.{deepest}
 use Rattle.component.proofs.Drawings.{component_bytes, connection_bytes, lamp}
 use Rattle.flatten.specs.Descent.{output_below, inputs_below, comes_from, goes_to}
@@ -14,6 +13,7 @@ use Rattle.flatten.specs.Verdict.{refused, verdict}
 use Rattle.meeting.specs.Meeting.{judgement}
 use Rattle.demands.proofs.Marked.{evaluating}
 use Rattle.earlier.specs.Earlier.{file_to}
+use Rattle.std.specs.Prelude.{Ok}
 
 -- Three masts: the Switches 1 to 3 vote through a Majority, component 4, on an Output.
 abbrev pub masts : List ℕ
@@ -24,7 +24,7 @@ masts =
 
 -- They are accepted, and 8 at 4 where the kinds end at 14, or at any number before 15; the lamp drawing is accepted by both.
 pub masts_judged : judgement masts ∷ judgement (file_to 14 masts) ∷ judgement (file_to 13 masts) ∷ judgement lamp ∷ judgement (file_to 14 lamp) ∷ []
-    ≡ Accepted ∷ refused 8 4 ∷ refused 8 4 ∷ Accepted ∷ Accepted ∷ []
+    ≡ Ok tt ∷ refused 8 4 ∷ refused 8 4 ∷ (Ok tt) ∷ (Ok tt) ∷ []
 unfolding judgement verdict deepest obeys output_below inputs_below comes_from goes_to
 masts_judged = refl
 

@@ -13,7 +13,6 @@ use Rattle.kinds.specs.declared.table.Fields.{Fields}
 use Rattle.kinds.specs.Kinds.{for_custom, unknown, kind_of, obeys}
 use Rattle.kinds.proofs.ObeysLaws.{obeys_row, row_width}
 use Rattle.component.specs.declared.Record.{Record}
-use Rattle.component.specs.declared.Verdict.TheVariants.{Accepted}
 use Rattle.component.specs.Record.{numbers_in, record_count, record_at, fields_of}
 use Rattle.component.specs.Drawing.{fails7, fails8, fails9}
 use Rattle.flatten.specs.Verdict.{refused, verdict}
@@ -22,6 +21,7 @@ use Rattle.earlier.specs.Wider.{wider, file_within, NarrowChecks, NarrowLoads, N
 use Rattle.earlier.proofs.TakenLaws.{numbers_by, place_by, is_newer, taken_by, itself, records_taken, Takes, newer_form}
 use Rattle.earlier.proofs.AlikeHolds.{Refuses, checks_newer, loads_alike, runs_alike}
 use Rattle.earlier.proofs.FirstHolds.{passing, judged_from7, found, judged_taken, answers_first}
+use Rattle.std.specs.Prelude.{Ok}
 
 -- The places of C in a record; what the reader makes of the C of a wider component. Its kind it leaves as it is.
 abbrev at_c : ℕ → Bool
@@ -72,7 +72,7 @@ module _ (w : ℕ) where
   boxes : (r : Record) → is_newer (wider w) r ≡ true → eqb (itself r.kind) 0 ≡ eqb r.kind 0
   boxes r e = refl
 
-  module _ (file : List ℕ) (accepted : verdict file ≡ Accepted) where
+  module _ (file : List ℕ) (accepted : verdict file ≡ Ok tt) where
     abbrev at : ℕ → Record
     at = record_at file
 

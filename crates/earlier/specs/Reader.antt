@@ -11,7 +11,6 @@ use Rattle.std.proofs.Math.Option.{some}
 use Rattle.lists.specs.Lists.{from, first}
 use Rattle.kinds.specs.declared.table.Fields.{Fields}
 use Rattle.component.specs.declared.Record.{Record}
-use Rattle.component.specs.declared.Verdict.TheVariants.{Accepted}
 use Rattle.component.specs.Record.{record_at, loose_at, record_count, fields_of}
 use Rattle.component.specs.Drawing.{is_component}
 use Rattle.flatten.specs.Verdict.{refused}
@@ -19,6 +18,7 @@ use Rattle.meeting.specs.Meeting.{judgement}
 use Rattle.tables.specs.Tables.{Tables, tables_of, fields_at}
 use Rattle.load.specs.Load.{load_verdict, load_tables}
 use Rattle.demands.specs.Reached.{Reached}
+use Rattle.std.specs.Prelude.{Ok}
 
 -- A number that is no kind and no C, and stays none.
 abbrev pub unheard : ℕ
@@ -54,19 +54,19 @@ ChecksNewer taken fails newer =
 -- Every file that the reader accepts is accepted, and loads to the same tables.
 abbrev pub LoadsAlike : (List ℕ → List ℕ) → Type 0
 LoadsAlike taken =
-    (file : List ℕ) → judgement (taken file) ≡ Accepted
-    → (judgement file ≡ Accepted)
+    (file : List ℕ) → judgement (taken file) ≡ Ok tt
+    → (judgement file ≡ Ok tt)
     × ((T : Tables) → (load_verdict file T ≡ load_verdict (taken file) T) × (load_tables file T ≡ load_tables (taken file) T))
 
 -- It runs alike: whatever is reached from it the reader reaches, and takes for what it is, so that each further call does the same there.
 abbrev pub RunsAlike : (List ℕ → List ℕ) → (Tables → Tables) → Type 0
 RunsAlike taken seen =
-    (file : List ℕ) (ran : Bool) (t : ℕ) (T : Tables) → judgement (taken file) ≡ Accepted → Reached file ran t T
+    (file : List ℕ) (ran : Bool) (t : ℕ) (T : Tables) → judgement (taken file) ≡ Ok tt → Reached file ran t T
     → Reached (taken file) ran t T × (seen T ≡ T)
 
 -- Any other file that is accepted gets number k from it, at its first component of a sort.
 abbrev pub AnswersFirst : (List ℕ → List ℕ) → ℕ → (Fields → Bool) → Type 0
 AnswersFirst taken k sort =
-    (file : List ℕ) → judgement file ≡ Accepted → (judgement (taken file) ≡ Accepted → ⊥)
+    (file : List ℕ) → judgement file ≡ Ok tt → (judgement (taken file) ≡ Ok tt → ⊥)
     → (p : ℕ) × (first (λ q. sort (fields_of (record_at file q))) (from 0 (record_count file)) ≡ some p)
     × (judgement (taken file) ≡ refused k p)

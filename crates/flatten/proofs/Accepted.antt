@@ -19,33 +19,33 @@ use Rattle.lists.specs.Lists.{from, first}
 use Rattle.lists.proofs.MembersLaws.{In, first_none, from0_complete, get_or-cases}
 use Rattle.kinds.specs.declared.answers.Refusal.{Refusal}
 use Rattle.component.specs.declared.Record.{Record}
-use Rattle.component.specs.declared.Verdict.TheVariants.{Accepted, Refused}
 use Rattle.component.specs.Record.{no_record, record_at, record_count, sized}
 use Rattle.component.specs.Reading.{Readable}
 use Rattle.flatten.specs.Verdict.{checks, refused, or_later, judged, verdict}
 use Rattle.flatten.specs.Searches.{PassedBefore}
+use Rattle.std.specs.Prelude.{Ok, Err}
 
 -- A check: its number, and the positions that fail it.
 abbrev pub Check : Type 0
 Check = ℕ × (ℕ → Bool)
 
 -- A refusal is no acceptance.
-pub not_accepted : (r : Refusal) → Refused r ≡ Accepted → ⊥
+pub not_accepted : (r : Refusal) → Err r ≡ Ok (tt {0}) → ⊥
 not_accepted r e = let z : ◌≡◌ {A = ℕ} 0 1 = cc in omega arith
 
-pub refused_not : (k p : ℕ) → refused k p ≡ Accepted → ⊥
+pub refused_not : (k p : ℕ) → refused k p ≡ Ok tt → ⊥
 refused_not k p e = not_accepted _ e
 
 -- Where the judgement is "accepted", no record fails any of the checks.
-pub judged_passes : (n : ℕ) (ks : List Check) → judged n ks ≡ Accepted
+pub judged_passes : (n : ℕ) (ks : List Check) → judged n ks ≡ Ok tt
     → (k : Check) → In k ks → (p : ℕ) → p < n → k.1 p ≡ false
 judged_passes n [] e k h p l = absurd h
 judged_passes n (j ∷ ks) e k h p l =
     by_found (λ z u. judged_passes n ks z k u p l) (first j.1 (from 0 n)) refl e h
   where
-    by_found : (judged n ks ≡ Accepted → In k ks → k.1 p ≡ false)
+    by_found : (judged n ks ≡ Ok tt → In k ks → k.1 p ≡ false)
         → (found : Option ℕ) → first j.1 (from 0 n) ≡ found
-        → or_later j.0 found (judged n ks) ≡ Accepted → In k (j ∷ ks) → k.1 p ≡ false
+        → or_later j.0 found (judged n ks) ≡ Ok tt → In k (j ∷ ks) → k.1 p ≡ false
     by_found later (some q) z e h = absurd (refused_not j.0 q e)
     by_found later none z e (inl u) =
         ap (λ (c : Check). c.1 p) u
@@ -57,7 +57,7 @@ abbrev pub no_check : Check
 no_check = (0, λ p. false)
 
 -- No record fails the check at a place of the list; past its end there is none.
-judged_place : (n : ℕ) (ks : List Check) → judged n ks ≡ Accepted → (j p : ℕ) → p < n → (get_or ks j no_check).1 p ≡ false
+judged_place : (n : ℕ) (ks : List Check) → judged n ks ≡ Ok tt → (j p : ℕ) → p < n → (get_or ks j no_check).1 p ≡ false
 judged_place n ks e j p l = by_place (get_or-cases ks j no_check)
   where
     by_place : (get_or ks j no_check ≡ no_check) ⊎ ((j < length ks) × In (get_or ks j no_check) ks) → (get_or ks j no_check).1 p ≡ false
@@ -92,18 +92,18 @@ passed_before file e =
     }
 
 -- An accepted file has a size that check 1 passes.
-pub accepted_sized : (file : List ℕ) → verdict file ≡ Accepted → sized file ≡ true
+pub accepted_sized : (file : List ℕ) → verdict file ≡ Ok tt → sized file ≡ true
 unfolding verdict
 accepted_sized file accepted = by_size (sized file) accepted
   where
     by_size : (b : Bool)
-        → cond b (judged (record_count file) (checks (record_at file) (record_count file))) (refused 1 0) ≡ Accepted
+        → cond b (judged (record_count file) (checks (record_at file) (record_count file))) (refused 1 0) ≡ Ok tt
         → b ≡ true
     by_size true e = refl
     by_size false e = absurd (refused_not 1 0 e)
 
-module _ (file : List ℕ) (accepted : verdict file ≡ Accepted) where
-  judged_all_lem : judged (record_count file) (checks (record_at file) (record_count file)) ≡ Accepted
+module _ (file : List ℕ) (accepted : verdict file ≡ Ok tt) where
+  judged_all_lem : judged (record_count file) (checks (record_at file) (record_count file)) ≡ Ok tt
   unfolding verdict
   judged_all_lem = rw (accepted_sized file accepted) at accepted
 

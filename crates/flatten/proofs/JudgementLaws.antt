@@ -17,8 +17,6 @@ use Rattle.lists.proofs.TestsLaws.{and_left, and_right}
 use Rattle.lists.proofs.MembersLaws.{first_nothing, from0_sound}
 use Rattle.kinds.specs.declared.answers.Refusal.{Refusal}
 use Rattle.kinds.proofs.GivenLaws.{done_declined, declined_refusal}
-use Rattle.component.specs.declared.Verdict.{Verdict}
-use Rattle.component.specs.declared.Verdict.TheVariants.{Accepted, Refused}
 use Rattle.component.specs.Record.{record_at, sized}
 use Rattle.component.specs.declared.Record.{Record}
 use Rattle.component.specs.Reading.{given, Readable}
@@ -27,6 +25,8 @@ use Rattle.checks.specs.Checks.{fails_by, IsFirst}
 use Rattle.flatten.specs.Verdict.{checks, refused, or_later, judged, verdict, verdict_gives}
 use Rattle.flatten.specs.Searches.{fails_at, PassedBefore, Judged}
 use Rattle.flatten.proofs.Accepted.{Check, not_accepted, refused_not, no_check, passed_check}
+use Rattle.kinds.specs.Given.{Verdict}
+use Rattle.std.specs.Prelude.{Ok, Err}
 
 -- What is found is one of the positions looked at.
 first_below : (f : ℕ → Bool) (q k p : ℕ) → first f (from q k) ≡ some p → p < q + k
@@ -49,13 +49,13 @@ first_from f q (suc k) r a b h e = by_place (dec_lt q r) (λ l. first_from f (su
 
 -- What check k says where p is the first record that fails it; where none does.
 module _ (f : ℕ → Bool) (n k p : ℕ) (h : IsFirst f n p) where
-  pub refused_first : p < n → refused k p ≡ or_later k (first f (from 0 n)) Accepted
+  pub refused_first : p < n → refused k p ≡ or_later k (first f (from 0 n)) (Ok tt)
   refused_first l =
-      ap (λ (x : Option ℕ). or_later k x Accepted) (sym (first_from f 0 n p (omega arith) (omega arith) h.before (h.here l)))
+      ap (λ (x : Option ℕ). or_later k x (Ok tt)) (sym (first_from f 0 n p (omega arith) (omega arith) h.before (h.here l)))
 
-  pub accepted_first : n ≤ p → Accepted ≡ or_later k (first f (from 0 n)) Accepted
+  pub accepted_first : n ≤ p → (Ok tt) ≡ or_later k (first f (from 0 n)) (Ok tt)
   accepted_first l =
-      ap (λ (x : Option ℕ). or_later k x Accepted) (sym (first_nothing f (from 0 n) (λ j m. h.before j (omega (arith, from0_sound n j m)))))
+      ap (λ (x : Option ℕ). or_later k x (Ok tt)) (sym (first_nothing f (from 0 n) (λ j m. h.before j (omega (arith, from0_sound n j m)))))
 
 -- What the number that a check of one record gives says of it, where it is not 15: it fails; it passes.
 module _ (at : ℕ → Record) (n k p r : ℕ) (e : r ≡ given k (fails_by at n k p)) (h : 3 ≤ k) (h15 : k < 15) where
@@ -87,17 +87,17 @@ fails_at_lem F (c ∷ cs) (suc j) e h =
     fails_at_lem F cs j z (omega arith)
 
 -- What a check says that finds a record, or none, before the later ones.
-later_refused : (k : ℕ) (x : Option ℕ) (v : Verdict) (r : Refusal) → or_later k x Accepted ≡ Refused r → or_later k x v ≡ Refused r
+later_refused : (k : ℕ) (x : Option ℕ) (v : Verdict) (r : Refusal) → or_later k x (Ok tt) ≡ Err r → or_later k x v ≡ Err r
 later_refused k (some p) v r e = e
 later_refused k none v r e = let z : ◌≡◌ {A = ℕ} 0 1 = cc in absurd (omega arith)
 
 -- Checks that accept leave the judgement to those behind them.
-pub judged_append : (n : ℕ) (xs ys : List Check) → judged n xs ≡ Accepted → judged n (xs ++ ys) ≡ judged n ys
+pub judged_append : (n : ℕ) (xs ys : List Check) → judged n xs ≡ Ok tt → judged n (xs ++ ys) ≡ judged n ys
 judged_append n [] ys e = refl
 judged_append n (x ∷ xs) ys e = by_found (judged_append n xs ys) (first x.1 (from 0 n)) e
   where
-    by_found : (judged n xs ≡ Accepted → judged n (xs ++ ys) ≡ judged n ys) → (found : Option ℕ)
-        → or_later x.0 found (judged n xs) ≡ Accepted → or_later x.0 found (judged n (xs ++ ys)) ≡ judged n ys
+    by_found : (judged n xs ≡ Ok tt → judged n (xs ++ ys) ≡ judged n ys) → (found : Option ℕ)
+        → or_later x.0 found (judged n xs) ≡ Ok tt → or_later x.0 found (judged n (xs ++ ys)) ≡ judged n ys
     by_found later (some q) e = absurd (refused_not x.0 q e)
     by_found later none e = later e
 
@@ -115,8 +115,8 @@ module _ (s : List ℕ) (n k : ℕ) (passed : PassedBefore (record_at s) n k) wh
       λ j. (z j, f j)
 
   -- a record fails check k; none does; all checks are made
-  module _ (g : Verdict) (e : g ≡ or_later k (first (fails_at (record_at s) n k) (from 0 n)) Accepted) where
-    pub judged_here : (r : Refusal) → 3 ≤ k → k < 16 → g ≡ Refused r → Refused r ≡ judged n (checks (record_at s) n)
+  module _ (g : Verdict) (e : g ≡ or_later k (first (fails_at (record_at s) n k) (from 0 n)) (Ok tt)) where
+    pub judged_here : (r : Refusal) → 3 ≤ k → k < 16 → g ≡ Err r → Err r ≡ judged n (checks (record_at s) n)
     judged_here r h l d =
         let later = drop (suc (k - 3)) all in
         sym (later_refused k (first (fails_at (record_at s) n k) (from 0 n)) (judged n later) r (sym e ∙ d))
@@ -125,7 +125,7 @@ module _ (s : List ℕ) (n k : ℕ) (passed : PassedBefore (record_at s) n k) wh
         ∙ sym (judged_append n (take (k - 3) all) (drop (k - 3) all) passed)
         ∙ ap (judged n) (take-append-drop (k - 3) all)
 
-    pub passed_next : 3 ≤ k → k < 16 → g ≡ Accepted → PassedBefore (record_at s) n (k + 1)
+    pub passed_next : 3 ≤ k → k < 16 → g ≡ Ok tt → PassedBefore (record_at s) n (k + 1)
     passed_next h l d =
         let y : k + 1 - 3 ≡ suc (k - 3) = omega arith in
         ap (λ (m : ℕ). judged n (take m all)) y
@@ -133,17 +133,17 @@ module _ (s : List ℕ) (n k : ℕ) (passed : PassedBefore (record_at s) n k) wh
         ∙ judged_append n (take (k - 3) all) (get_or all (k - 3) no_check ∷ []) passed
         ∙ ap (λ (c : Check). judged n (c ∷ [])) (check_at h l) ∙ sym e ∙ d
 
-  pub judged_all_lem : k ≤ 16 → 16 ≤ k → Accepted ≡ judged n (checks (record_at s) n)
+  pub judged_all_lem : k ≤ 16 → 16 ≤ k → (Ok tt) ≡ judged n (checks (record_at s) n)
   judged_all_lem h l =
       let z : k - 3 ≡ 13 = omega arith in
       sym (ap (λ (m : ℕ). judged n (take m (checks (record_at s) n))) (sym z) ∙ passed)
 
 -- The checks up to some number: one has refused; all have passed.
 module _ (at : ℕ → Record) (n m : ℕ) where
-  pub judged_refused : (r : Refusal) → Refused r ≡ judged n (checks at n) → Judged m at n (Refused r)
+  pub judged_refused : (r : Refusal) → Err r ≡ judged n (checks at n) → Judged m at n (Err r)
   judged_refused r e = record { passed = λ z. absurd (not_accepted r z); refused = λ q z. sym z ∙ e }
 
-  pub judged_passed : (k : ℕ) → PassedBefore at n k → k ≤ m → m ≤ k → Judged m at n Accepted
+  pub judged_passed : (k : ℕ) → PassedBefore at n k → k ≤ m → m ≤ k → Judged m at n (Ok tt)
   judged_passed k h a b =
       let z : k ≡ m = omega arith in
       record { passed = λ y. subst (PassedBefore at n) z h; refused = λ r y. absurd (not_accepted r (sym y)) }
@@ -171,31 +171,31 @@ module _ (s : List ℕ) (b : Bool) (e : b ≡ sized s) where
   verdict_judged v h d = d ∙ rw (← e, not-false b h)
 
   -- the checks before 12 refuse; those from 12 on refuse or accept
-  pub verdict_early : (v : Verdict) (r : Refusal) → not b ≡ false → Judged 12 (record_at s) (length s / 24) v → v ≡ Refused r → Refused r ≡ verdict s
-  verdict_early v r h d z = verdict_judged (Refused r) h (d.refused r z)
+  pub verdict_early : (v : Verdict) (r : Refusal) → not b ≡ false → Judged 12 (record_at s) (length s / 24) v → v ≡ Err r → Err r ≡ verdict s
+  verdict_early v r h d z = verdict_judged (Err r) h (d.refused r z)
 
   pub verdict_late : (v : Verdict) → not b ≡ false → Judged 16 (record_at s) (length s / 24) v → v ≡ verdict s
-  verdict_late Accepted h d =
-      verdict_judged Accepted h (judged_all_lem s (length s / 24) 16 (d.passed refl) (omega arith) (omega arith))
-  verdict_late (Refused r) h d = verdict_judged (Refused r) h (d.refused r refl)
+  verdict_late (Ok _) h d =
+      verdict_judged (Ok tt) h (judged_all_lem s (length s / 24) 16 (d.passed refl) (omega arith) (omega arith))
+  verdict_late (Err r) h d = verdict_judged (Err r) h (d.refused r refl)
 
 -- Verdicts that give the same are the same.
 pub verdict_gives-is : (a b : Verdict) → verdict_gives a [] ≡ verdict_gives b [] → a ≡ b
-verdict_gives-is Accepted Accepted e = refl
-verdict_gives-is Accepted (Refused r) e = absurd (done_declined [] r e)
-verdict_gives-is (Refused r) Accepted e = absurd (done_declined [] r (sym e))
-verdict_gives-is (Refused r) (Refused s) e = ap Refused (declined_refusal r s e)
+verdict_gives-is (Ok _) (Ok _) e = refl
+verdict_gives-is (Ok _) (Err r) e = absurd (done_declined [] r e)
+verdict_gives-is (Err r) (Ok _) e = absurd (done_declined [] r (sym e))
+verdict_gives-is (Err r) (Err s) e = ap Err (declined_refusal r s e)
 
 -- A refusal's number is at most 15, its position is below 1,024, and it names no earlier record.
-judged_bound : (n : ℕ) (cs : List Check) (r : Refusal) → every (λ (c : Check). ltb c.0 16) cs ≡ true → judged n cs ≡ Refused r
+judged_bound : (n : ℕ) (cs : List Check) (r : Refusal) → every (λ (c : Check). ltb c.0 16) cs ≡ true → judged n cs ≡ Err r
     → (r.number < 16) × (r.position < n) × (r.earlier ≡ 0)
 judged_bound n [] r h e = let z : ◌≡◌ {A = ℕ} 0 1 = cc in absurd (omega arith)
 judged_bound n (c ∷ cs) r h e =
     by_find (first c.1 (from 0 n)) refl e
     (judged_bound n cs r (and_right (ltb c.0 16) (every (λ (x : Check). ltb x.0 16) cs) h))
   where
-    by_find : (x : Option ℕ) → first c.1 (from 0 n) ≡ x → or_later c.0 x (judged n cs) ≡ Refused r
-        → (judged n cs ≡ Refused r → (r.number < 16) × (r.position < n) × (r.earlier ≡ 0))
+    by_find : (x : Option ℕ) → first c.1 (from 0 n) ≡ x → or_later c.0 x (judged n cs) ≡ Err r
+        → (judged n cs ≡ Err r → (r.number < 16) × (r.position < n) × (r.earlier ≡ 0))
         → (r.number < 16) × (r.position < n) × (r.earlier ≡ 0)
     by_find (some p) u d later =
         let z : record { number = c.0; position = p; earlier = 0 } ≡ r = cc in
@@ -205,12 +205,12 @@ judged_bound n (c ∷ cs) r h e =
         (omega arith, omega (arith, first_below c.1 0 n p u), sym (ap (λ (x : Refusal). x.earlier) z))
     by_find none u d later = later d
 
-pub verdict_bound : (s : List ℕ) (r : Refusal) → verdict s ≡ Refused r → (r.number < 16) × (r.position < 1024) × (r.earlier ≡ 0)
+pub verdict_bound : (s : List ℕ) (r : Refusal) → verdict s ≡ Err r → (r.number < 16) × (r.position < 1024) × (r.earlier ≡ 0)
 unfolding verdict
 verdict_bound s r e = by_size (sized s) refl e
   where
     by_size : (b : Bool) → b ≡ sized s
-        → cond b (judged (length s / 24) (checks (record_at s) (length s / 24))) (refused 1 0) ≡ Refused r
+        → cond b (judged (length s / 24) (checks (record_at s) (length s / 24))) (refused 1 0) ≡ Err r
         → (r.number < 16) × (r.position < 1024) × (r.earlier ≡ 0)
     by_size true h d =
         let z = judged_bound (length s / 24) (checks (record_at s) (length s / 24)) r refl d in

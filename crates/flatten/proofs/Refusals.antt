@@ -17,23 +17,23 @@ use lib.ListN.{length, get_or, take}
 use Rattle.lists.specs.Lists.{from, first}
 use Rattle.lists.proofs.TestsLaws.{or_left}
 use Rattle.component.specs.declared.Record.{Record}
-use Rattle.component.specs.declared.Verdict.{Verdict}
-use Rattle.component.specs.declared.Verdict.TheVariants.{Accepted, Refused}
 use Rattle.component.specs.Record.{record_at, record_count, sized}
 use Rattle.component.specs.Reading.{form_of}
 use Rattle.flatten.specs.Verdict.{or_later, judged, checks, refused, verdict}
 use Rattle.flatten.specs.Searches.{PassedBefore}
 use Rattle.flatten.proofs.Accepted.{Check, no_check, check_numbered, not_accepted, passed_check}
 use Rattle.flatten.proofs.JudgementLaws.{number_at}
+use Rattle.kinds.specs.Given.{Verdict}
+use Rattle.std.specs.Prelude.{Ok, Err}
 
 -- What a verdict tells.
 abbrev pub number_in : Verdict → ℕ
-number_in Accepted = 0
-number_in (Refused r) = r.number
+number_in (Ok _) = 0
+number_in (Err r) = r.number
 
 abbrev pub position_in : Verdict → ℕ
-position_in Accepted = 0
-position_in (Refused r) = r.position
+position_in (Ok _) = 0
+position_in (Err r) = r.position
 
 -- What a search that finds p says.
 pub record FirstAt (f : ℕ → Bool) (q k p : ℕ) : Type 0 where
@@ -83,7 +83,7 @@ record Finds (n : ℕ) (cs : List Check) (k p : ℕ) : Type 0 where
   there : place < length cs
   numbered : (get_or cs place no_check).0 ≡ k
   found : first (get_or cs place no_check).1 (from 0 n) ≡ some p
-  passed : judged n (take place cs) ≡ Accepted
+  passed : judged n (take place cs) ≡ Ok tt
 
 judged_finds : (n : ℕ) (cs : List Check) (k p : ℕ) → judged n cs ≡ refused k p → Finds n cs k p
 judged_finds n [] k p e = absurd (not_accepted _ (sym e))

@@ -17,8 +17,6 @@ use lib.Dec.{eqb}
 use Rattle.lists.specs.Lists.{from, any, first}
 use Rattle.lists.proofs.MembersLaws.{In, from0_sound}
 use Rattle.component.specs.declared.Record.{Record}
-use Rattle.component.specs.declared.Verdict.{Verdict}
-use Rattle.component.specs.declared.Verdict.TheVariants.{Accepted}
 use Rattle.component.specs.Record.{record_at, record_count, sized}
 use Rattle.component.specs.Reading.{form_of}
 use Rattle.component.specs.Drawing.{is_component, fails3, fails4, fails5}
@@ -29,6 +27,8 @@ use Rattle.flatten.proofs.JudgementLaws.{judged_append}
 use Rattle.flatten.proofs.Components.{primitive_component}
 use Rattle.flatten.proofs.Ends.{source_there}
 use Rattle.flatten.proofs.WidthsLaws.{differing}
+use Rattle.kinds.specs.Given.{Verdict}
+use Rattle.std.specs.Prelude.{Ok}
 
 module _ (n : ℕ) where
   -- Two checks say the same of each record.
@@ -39,7 +39,7 @@ module _ (n : ℕ) where
   Same done [] [] = Unit
   Same done [] (d ∷ ds) = ⊥
   Same done (c ∷ cs) [] = ⊥
-  Same done (c ∷ cs) (d ∷ ds) = (judged n done ≡ Accepted → Agree c d) × Same (done ++ (d ∷ [])) cs ds
+  Same done (c ∷ cs) (d ∷ ds) = (judged n done ≡ Ok tt → Agree c d) × Same (done ++ (d ∷ [])) cs ds
 
   -- Checks that are the same in both, in front.
   same_append : (done ks cs ds : List Check) → Same (done ++ ks) cs ds → Same done (ks ++ cs) (ks ++ ds)
@@ -56,7 +56,7 @@ module _ (n : ℕ) where
       let later = first_members f g xs (λ y u. h y (inr u)) in
       λ j. cond (here j) (some x) (later j)
 
-  judged_same : (done cs ds : List Check) → judged n done ≡ Accepted → Same done cs ds → judged n cs ≡ judged n ds
+  judged_same : (done cs ds : List Check) → judged n done ≡ Ok tt → Same done cs ds → judged n cs ≡ judged n ds
   judged_same done [] [] e s = refl
   judged_same done [] (d ∷ ds) e s = absurd s
   judged_same done (c ∷ cs) [] e s = absurd s
@@ -66,8 +66,8 @@ module _ (n : ℕ) where
       (λ j. or_later (agree.0 j) (found j) (judged n cs))
       ∙ by_found (λ z. judged_same (done ++ (d ∷ [])) cs ds z s.1) (first d.1 (from 0 n)) (judged_append n done (d ∷ []) e)
     where
-      by_found : (judged n (done ++ (d ∷ [])) ≡ Accepted → judged n cs ≡ judged n ds) → (found : Option ℕ)
-          → judged n (done ++ (d ∷ [])) ≡ or_later d.0 found Accepted
+      by_found : (judged n (done ++ (d ∷ [])) ≡ Ok tt → judged n cs ≡ judged n ds) → (found : Option ℕ)
+          → judged n (done ++ (d ∷ [])) ≡ or_later d.0 found (Ok tt)
           → or_later d.0 found (judged n cs) ≡ or_later d.0 found (judged n ds)
       by_found later (some p) z = refl
       by_found later none z = later z
@@ -97,7 +97,7 @@ module _ (file : List ℕ) where
   n = record_count file
 
   -- After the checks 3 to 14 a connection's source is a component.
-  asked15_same : judged n (take 12 (checks at n)) ≡ Accepted → (p : ℕ) → p < n → asked15 at n p ≡ fails15 at n p
+  asked15_same : judged n (take 12 (checks at n)) ≡ Ok tt → (p : ℕ) → p < n → asked15 at n p ≡ fails15 at n p
   asked15_same e p l = by_form (eqb (form_of (at p)) 2) refl
     where
       by_form : (b : Bool) → eqb (form_of (at p)) 2 ≡ b
@@ -108,7 +108,7 @@ module _ (file : List ℕ) where
           rw (eq-eqb _ 1 (primitive_component (at (comes_from at n p).comp) source.of_primitive))
 
   -- Before 4 and 5, check 3 has passed.
-  asked3_passed : (f : ℕ → Bool) (ks : List Check) → judged n ((3, fails3 at) ∷ ks) ≡ Accepted → (p : ℕ) → p < n → asked3 at f p ≡ f p
+  asked3_passed : (f : ℕ → Bool) (ks : List Check) → judged n ((3, fails3 at) ∷ ks) ≡ Ok tt → (p : ℕ) → p < n → asked3 at f p ≡ f p
   asked3_passed f ks e p l =
       asked3_same at f p (judged_passes n ((3, fails3 at) ∷ ks) e (3, fails3 at) (inl refl) p l)
 

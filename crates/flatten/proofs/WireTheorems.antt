@@ -8,7 +8,6 @@ use Prim.Native.Nat.{ℕ, ◌≤◌}
 use lib.ListN.{length}
 use Rattle.lists.proofs.MembersLaws.{In, Distinct}
 use Rattle.component.specs.declared.Record.{Record}
-use Rattle.component.specs.declared.Verdict.TheVariants.{Accepted}
 use Rattle.component.specs.Record.{record_at, record_count}
 use Rattle.component.specs.Drawing.{primitives_before, inputs_before, outputs_before}
 use Rattle.flatten.specs.declared.Pin.{Pin}
@@ -21,6 +20,7 @@ use Rattle.flatten.proofs.Wires.{lead, wires_lead, leads_wires}
 use Rattle.flatten.proofs.Ends.{IsOutput, IsInput, SameWidths, wires_leave, wires_enter, wires_width}
 use Rattle.flatten.proofs.Bound.{entered, wires_distinct, wires_bound}
 use Rattle.flatten.proofs.Primitives.{primitives_bound, inputs_bound, outputs_bound}
+use Rattle.std.specs.Prelude.{Ok}
 
 module _ (file : List ℕ) where
   abbrev at : ℕ → Record
@@ -29,7 +29,7 @@ module _ (file : List ℕ) where
   abbrev n : ℕ
   n = record_count file
 
-  module _ (accepted : verdict file ≡ Accepted) where
+  module _ (accepted : verdict file ≡ Ok tt) where
     passed : Passed at n
     passed = accepted_passed file accepted
 

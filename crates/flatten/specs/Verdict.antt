@@ -3,13 +3,12 @@
 use Rattle.std.specs.Prelude.{◌≡◌, ℕ, Bool, cond, List, [], ◌∷◌, eqb}
 use Rattle.std.proofs.Math.Option.{Option, none, some}
 use Rattle.lists.specs.Lists.{from, first, overlay}
-use Rattle.kinds.specs.Given.{Given, done, declined, refused_by, spoken}
+use Rattle.kinds.specs.Given.{Given, done, declined, refused_by, spoken, Verdict}
 use Rattle.component.specs.declared.Record.{Record}
-use Rattle.component.specs.declared.Verdict.{Verdict}
-use Rattle.component.specs.declared.Verdict.TheVariants.{Accepted, Refused}
 use Rattle.component.specs.Record.{record_at, record_count, sized}
 use Rattle.component.specs.Drawing.{fails3, fails4, fails5, fails6, fails7, fails8, fails9, fails10, fails11, fails12, fails13, fails14}
 use Rattle.flatten.specs.Descent.{fails15}
+use Rattle.std.specs.Prelude.{Ok, Err}
 
 -- The checks of a drawing, in number order: each its number, and the positions that fail it.
 abbrev pub checks : (ℕ → Record) → ℕ → List (ℕ × (ℕ → Bool))
@@ -19,7 +18,7 @@ checks at n =
 
 -- Refused with number k at position p.
 abbrev pub refused : ℕ → ℕ → Verdict
-refused k p = Refused (record { number = k; position = p; earlier = 0 })
+refused k p = Err (record { number = k; position = p; earlier = 0 })
 
 -- Refused by check k at the position found, or else what the later checks say.
 abbrev pub or_later : ℕ → Option ℕ → Verdict → Verdict
@@ -28,7 +27,7 @@ or_later k none later = later
 
 -- Each check over all n records in file order before the next begins; the first that fails decides.
 abbrev pub judged : ℕ → List (ℕ × (ℕ → Bool)) → Verdict
-judged n [] = Accepted
+judged n [] = Ok tt
 judged n (k ∷ ks) = or_later k.0 (first k.1 (from 0 n)) (judged n ks)
 
 -- The verdict on a file's bytes; check 2 is not made.
@@ -37,18 +36,18 @@ verdict file = cond (sized file) (judged (record_count file) (checks (record_at 
 
 -- What each verdict gives; where it is accepted, these values.
 abbrev pub verdict_gives : Verdict → List ℕ → Given
-verdict_gives Accepted xs = done xs
-verdict_gives (Refused r) xs = declined r
+verdict_gives (Ok _) xs = done xs
+verdict_gives (Err r) xs = declined r
 
 -- A load's own refusal, or else, at position 0, the call's number k.
 abbrev pub and_then : Verdict → ℕ → Verdict
-and_then (Refused r) k = Refused r
-and_then Accepted k = cond (eqb k 0) Accepted (Refused (refused_by k))
+and_then (Err r) k = Err r
+and_then (Ok _) k = cond (eqb k 0) (Ok tt) (Err (refused_by k))
 
 -- A lent list after a call of that verdict: xs at its front; a refusal changes none of it.
 abbrev pub list_by : Verdict → List ℕ → List ℕ → List ℕ
-list_by Accepted xs lent = overlay xs lent
-list_by (Refused r) xs lent = lent
+list_by (Ok _) xs lent = overlay xs lent
+list_by (Err r) xs lent = lent
 
 -- The promise of the host's first call, which "goes on answering 13".
 abbrev pub Speaks : List ℕ → ℕ → Type 0

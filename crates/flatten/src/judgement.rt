@@ -4,13 +4,12 @@ ghost use Rattle.lists.specs.Lists.{from, first};
 ghost use Rattle.component.specs.Record.{record_at, record_count};
 ghost use Rattle.index.specs.Index.{IsIndex};
 ghost use Rattle.checks.specs.Checks.{IsFirst};
-ghost use Rattle.component.specs.declared.Verdict.TheVariants.{Accepted};
 ghost use Rattle.flatten.specs.Verdict.{or_later, verdict};
 ghost use Rattle.flatten.specs.Searches.{fails_at, PassedBefore, Judged};
 
 use crate::widths::first15;
 use checks::{check_alone, check_indexed, first10, first11, first13};
-use component::{Verdict, is_sized};
+use component::is_sized;
 use index::fill_index;
 use kinds::{Refusal, refused_by};
 
@@ -69,70 +68,64 @@ fn first_late(file: &[u8], index: &[u16], k: u32) -> usize
 }
 
 // Check k over all records: refused at the first record, in file order, that fails it, p being that record.
-fn refused_at(file: &[u8], k: u32, p: usize) -> Verdict
+fn refused_at(file: &[u8], k: u32, p: usize) -> Result<(), Refusal>
     requires { (record_count file.now ≤ 1024) × IsFirst (fails_at (record_at file.now) (record_count file.now) k) (record_count file.now) p }
     ensures { result ≡ or_later k (first (fails_at (record_at file.now) (record_count file.now) k)
-        (from 0 (record_count file.now))) Accepted }
+        (from 0 (record_count file.now))) (Ok tt) }
 {
     if p < file.len() / 24 {
-        return Verdict::Refused(Refusal {
+        return Err(Refusal {
             number: k,
             position: p as u32,
             earlier: 0,
         });
     }
-    Verdict::Accepted
+    Ok(())
 }
 
 // The checks 3 to 11 in number order, each over all records before the next begins: accepted where they have passed.
-fn judge_early(file: &[u8]) -> Verdict
+fn judge_early(file: &[u8]) -> Result<(), Refusal>
     requires { record_count file.now ≤ 1024 }
     ensures { Judged 12 (record_at file.now) (record_count file.now) result }
 {
     let mut k: u32 = 3;
     while k < 12 {
-        if let Verdict::Refused(refusal) = refused_at(file, k, first_early(file, k)) {
-            return Verdict::Refused(refusal);
-        }
+        refused_at(file, k, first_early(file, k))?;
         k += 1;
     }
-    Verdict::Accepted
+    Ok(())
 }
 
 // The checks 12 to 15 likewise, where those before have passed and the index is filled.
-fn judge_late(file: &[u8], index: &[u16]) -> Verdict
+fn judge_late(file: &[u8], index: &[u16]) -> Result<(), Refusal>
     requires { IsIndex file.now index.now × PassedBefore (record_at file.now) (record_count file.now) 12 }
     ensures { Judged 16 (record_at file.now) (record_count file.now) result }
 {
     let mut k: u32 = 12;
     while k < 16 {
-        if let Verdict::Refused(refusal) = refused_at(file, k, first_late(file, index, k)) {
-            return Verdict::Refused(refusal);
-        }
+        refused_at(file, k, first_late(file, index, k))?;
         k += 1;
     }
-    Verdict::Accepted
+    Ok(())
 }
 
 // The verdict on a file's bytes, 13 for any two records that meet; the lent index, of 3,072 words, is filled where the file is accepted. `verdict` calls
 // it, and crate meeting, which says of two records that meet what they are.
-pub fn verdict_indexed(file: &[u8], index: &mut [u16]) -> Verdict
+pub fn verdict_indexed(file: &[u8], index: &mut [u16]) -> Result<(), Refusal>
     requires { length index.old ≡ 3072 }
     ensures value { result ≡ verdict file.now }
-    ensures index { result ≡ Accepted → IsIndex file.now index.new }
+    ensures index { result ≡ Ok tt → IsIndex file.now index.new }
 {
     if !is_sized(file) {
-        return Verdict::Refused(refused_by(1));
+        return Err(refused_by(1));
     }
-    if let Verdict::Refused(refusal) = judge_early(file) {
-        return Verdict::Refused(refusal);
-    }
+    judge_early(file)?;
     fill_index(file, index);
     judge_late(file, index)
 }
 
 // The verdict on a file's bytes, for the host's first call.
-pub fn verdict(file: &[u8]) -> Verdict
+pub fn verdict(file: &[u8]) -> Result<(), Refusal>
     ensures { result ≡ verdict file.now }
 {
     let mut index = [0u16; 3072];

@@ -14,7 +14,6 @@ use Rattle.component.specs.Record.{record_count}
 use Rattle.flatten.specs.Verdict.{refused, verdict_gives}
 use Rattle.meeting.specs.Meeting.{judgement}
 use Rattle.mend.specs.declared.Mended.{Mended}
-use Rattle.mend.specs.declared.Mended.TheVariants.{Refused as NotMended}
 use Rattle.mend.specs.Mend.{mended, mend_verdict, mend_gives, Mends}
 use Rattle.mend.proofs.MendLaws.{outside, inside, mends_size}
 use Rattle.words.specs.Words.{values_in}
@@ -22,6 +21,8 @@ use Rattle.words.specs.Said.{short}
 use Rattle.words.proofs.WordsLaws.{none_laid}
 use Rattle.host.specs.Host.{CallMends, few_to_mend, mended_by}
 use Rattle.meeting.proofs.SpokenLaws.{spoken_of, judged_small, cond_small, by_verdict}
+use Rattle.std.specs.Prelude.{Result, Err}
+use Rattle.kinds.specs.declared.answers.Refusal.{Refusal}
 
 verdict_small : (file out ds : List ℕ) → spoken_of (mend_verdict file out ds) < 4294967296
 unfolding mend_verdict
@@ -38,13 +39,13 @@ mend_small file out ds g xs e =
 module _ (file out ds fs : List ℕ) where
   pub mend_unsized : (ltb (record_count file) 1 || ltb 1024 (record_count file)) ≡ true → CallMends file out out ds ds fs fs 65536
   mend_unsized h =
-      mended_by (NotMended (refused_by 1)) (ap (λ (b : Bool). b && short fs 2) (outside 1 1024 (record_count file) h))
+      mended_by (Err (refused_by 1)) (ap (λ (b : Bool). b && short fs 2) (outside 1 1024 (record_count file) h))
       (mends_size file out ds (refused_by 1) h refl) refl (none_laid fs)
 
   module _ (h : (ltb (record_count file) 1 || ltb 1024 (record_count file)) ≡ false) where
     pub mend_short : length fs < 2 → CallMends file out out ds ds fs fs 131072
     mend_short s = few_to_mend (rw (inside 1 1024 (record_count file) h, lt-ltb (length fs) 2 s)) refl refl refl refl
 
-    pub mend_made : 2 ≤ length fs → (a : Mended) (out' ds' fs' : List ℕ) (r : ℕ) → Mends file out ds a out' ds' → r ≡ spoken (mend_gives a)
+    pub mend_made : 2 ≤ length fs → (a : Result Mended Refusal) (out' ds' fs' : List ℕ) (r : ℕ) → Mends file out ds a out' ds' → r ≡ spoken (mend_gives a)
         → fs' ≡ overlay (values_in (mend_gives a)) fs → CallMends file out out' ds ds' fs fs' r
     mend_made s a out' ds' fs' r p n f = mended_by a (rw (inside 1 1024 (record_count file) h, le-ltb (length fs) 2 s)) p n f

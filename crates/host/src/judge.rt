@@ -2,15 +2,13 @@
 ghost use Rattle.flatten.specs.Verdict.{Speaks};
 ghost use Rattle.meeting.specs.Meeting.{SpeaksPair};
 
-use component::Verdict;
-
 // Judges a file's bytes: number times 65,536 plus position, check 2 not made; 13 for any two records that meet.
 pub fn berxundar_judge(file: &[u8]) -> u32
     ensures { Speaks file.now result }
 {
     match flatten::verdict(file) {
-        Verdict::Accepted => 0,
-        Verdict::Refused(refusal) => 65536 * refusal.number + refusal.position,
+        Ok(()) => 0,
+        Err(refusal) => 65536 * refusal.number + refusal.position,
     }
 }
 
@@ -19,8 +17,8 @@ pub fn berxundar_judge_pair(file: &[u8]) -> u64
     ensures { SpeaksPair file.now result }
 {
     match meeting::judge(file) {
-        Verdict::Accepted => 0,
-        Verdict::Refused(refusal) => {
+        Ok(()) => 0,
+        Err(refusal) => {
             let number = refusal.number as u64;
             let position = refusal.position as u64;
             let earlier = refusal.earlier as u64;

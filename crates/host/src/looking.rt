@@ -9,21 +9,22 @@ ghost use Rattle.words.specs.Words.{values_in};
 ghost use Rattle.words.specs.Said.{short};
 ghost use Rattle.host.specs.Host.{CallLooks};
 
+use kinds::Refusal;
 use look::Looked;
 use words::counts_in;
 
 // The words of an answer: how many inputs and how many outputs are shown. A refusal lays nothing.
-fn lay_looked(found: &mut [u64], answer: Looked) -> u32
+fn lay_looked(found: &mut [u64], answer: Result<Looked, Refusal>) -> u32
     requires { (2 ≤ length found.old) × (spoken (look_gives answer) < 4294967296) }
     ensures { (result ≡ spoken (look_gives answer)) × (found.new ≡ overlay (values_in (look_gives answer)) found.old) }
 {
     match answer {
-        Looked::Shown { inputs, outputs } => {
+        Ok(Looked { inputs, outputs }) => {
             found[0] = inputs as u64;
             found[1] = outputs as u64;
             0
         }
-        Looked::Refused(refusal) => 65536 * refusal.number + refusal.position,
+        Err(refusal) => 65536 * refusal.number + refusal.position,
     }
 }
 

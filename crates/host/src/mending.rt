@@ -6,20 +6,21 @@ ghost use Rattle.mend.specs.Mend.{mend_gives};
 ghost use Rattle.words.specs.Words.{values_in};
 ghost use Rattle.host.specs.Host.{CallMends};
 
+use kinds::Refusal;
 use mend::Mended;
 
 // The words of an answer: how many bytes and how many positions are written. A refusal lays nothing.
-fn lay_mended(found: &mut [u64], answer: Mended) -> u32
+fn lay_mended(found: &mut [u64], answer: Result<Mended, Refusal>) -> u32
     requires { (2 ≤ length found.old) × (spoken (mend_gives answer) < 4294967296) }
     ensures { (result ≡ spoken (mend_gives answer)) × (found.new ≡ overlay (values_in (mend_gives answer)) found.old) }
 {
     match answer {
-        Mended::Done { bytes, positions } => {
+        Ok(Mended { bytes, positions }) => {
             found[0] = bytes as u64;
             found[1] = positions as u64;
             0
         }
-        Mended::Refused(refusal) => 65536 * refusal.number + refusal.position,
+        Err(refusal) => 65536 * refusal.number + refusal.position,
     }
 }
 

@@ -1,6 +1,6 @@
 -- What is given back says what was answered: laws by which answers that give the same are the same.
 -- Assumes nothing.
-use mathlib.Core.Path.{◌≡◌, refl, ap}
+use mathlib.Core.Path.{◌≡◌, ◌∙◌, refl, ap}
 use mathlib.Core.Bool.{Bool, true, false, cond}
 use mathlib.Core.List.{List, []}
 use mathlib.Core.Option.{Option, none, some}
@@ -8,6 +8,9 @@ use Prim.Native.Nat.{ℕ}
 use native.Mathlib.Omega.{arith}
 use borrow.Author.Tests.{eqb-true}
 use lib.Dec.{eqb}
+use Rattle.std.specs.Prelude.{Result, Err}
+use Rattle.std.specs.Result.{IsErrAnd}
+use Rattle.std.proofs.lemmas.Result.{err_from_is_err_and}
 use Rattle.kinds.specs.declared.answers.Refusal.{Refusal}
 use Rattle.kinds.specs.Given.{Given, done, declined, refused_by, giving}
 
@@ -40,3 +43,7 @@ refusal_of g = record { number = g.number; position = g.position; earlier = g.ea
 pub declined_refusal : (r s : Refusal) → declined r ≡ declined s → r ≡ s
 unfolding refusal_of
 declined_refusal r s e = ap refusal_of e
+
+-- A refusal that `?` hands on is the refusal.
+pub handed_on : {A : Type 0} (v : Result A Refusal) (r : Refusal) → IsErrAnd v (λ e. e ≡ r) → v ≡ Err r
+handed_on v r h = let p = err_from_is_err_and v h in p.1 ∙ ap Err p.2

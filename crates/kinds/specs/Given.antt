@@ -2,12 +2,14 @@
 -- beside the enum's call says what each of its cases gives, and the promises speak of that.
 --   done xs      number 0, with these values
 --   declined r   a refusal's number, position and earlier record, no values
+--   Verdict      accepted, or the refusal
 --   giving k xs  a call of number k: its values at 0, else refused "at position 0"
 --   spoken g     the host's number
 --   spoken_pair g the host's number with the earlier record
 -- Assumes nothing.
 use Rattle.std.specs.Prelude.{ℕ, ◌+◌, ◌*◌, Bool, cond, List, [], ◌∷◌, eqb}
 use Rattle.std.proofs.Math.Option.{Option, none, some}
+use Rattle.std.specs.Prelude.{Result}
 use Rattle.lists.specs.Lists.{has}
 use Rattle.kinds.specs.declared.answers.Refusal.{Refusal}
 
@@ -29,6 +31,10 @@ declined r = record { number = r.number; position = r.position; earlier = r.earl
 -- A refusal "at position 0", which names no earlier record.
 abbrev pub refused_by : ℕ → Refusal
 refused_by k = record { number = k; position = 0; earlier = 0 }
+
+-- Accepted, or refused.
+abbrev pub Verdict : Type 0
+Verdict = Result (Unit {0}) Refusal
 
 -- A number that tells of two records that meet, and so of the earlier of them.
 abbrev pub tells_of_two : ℕ → Bool

@@ -19,7 +19,6 @@ use Rattle.component.specs.declared.Record.{Record}
 use Rattle.component.specs.declared.Stands.{Stands}
 use Rattle.component.specs.declared.Stands.TheVariants.{Component as SeenComponent, Nothing}
 use Rattle.component.specs.Reading.{StandsAs}
-use Rattle.component.specs.declared.Verdict.TheVariants.{Accepted}
 use Rattle.component.specs.Record.{record_at, record_count, inputs_of, outputs_of, is_primitive}
 use Rattle.component.specs.Drawing.{primitives_before}
 use Rattle.component.proofs.RecordLaws.{unseen_primitive, seen_is}
@@ -34,6 +33,7 @@ use Rattle.laying.specs.Laid.{primitives, primitive_words}
 use Rattle.laying.specs.Laying.{seen_if, seen, component_by, row_by, before_by, before_at, row_at}
 use Rattle.lists.proofs.LayingLaws.{joined_keep, Laid, laid_room, laid_step, laid_end}
 use Rattle.tables.specs.Words.{row_place}
+use Rattle.std.specs.Prelude.{Ok}
 
 -- What a record is drawn as: no component; a primitive; a component that is none.
 module _ (s : List ℕ) (p : ℕ) (g : Stands) (e : StandsAs g (record_at s p)) where
@@ -113,7 +113,7 @@ module _ (id : Id) (f : Fields) (b : Before) (drawn : Drawn) (e : drawn ≡ Prim
   row_laid u x y h i o = rw (e, i, o) (h, refl)
 
 -- Laying the entries of the records of an accepted file, in a table t of full size.
-module _ (s : List ℕ) (accepted : verdict s ≡ Accepted) (t : List ℕ) (full : 2048 ≤ length t) where
+module _ (s : List ℕ) (accepted : verdict s ≡ Ok tt) (t : List ℕ) (full : 2048 ≤ length t) where
   rows_all : length (joined (row_at (record_at s) (record_count s)) (from 0 (record_count s))) ≤ length t
   rows_all =
       omega (

@@ -18,7 +18,6 @@ use Rattle.primitive.specs.Evaluate.{starting}
 use Rattle.kinds.proofs.ObeysLaws.{obeyed_row}
 use Rattle.kinds.specs.declared.Id.{Id}
 use Rattle.component.specs.declared.Record.{Record}
-use Rattle.component.specs.declared.Verdict.TheVariants.{Accepted}
 use Rattle.component.specs.Record.{record_at, record_count, fields_of, outputs_of, is_primitive}
 use Rattle.component.specs.Drawing.{primitives_before, outputs_before}
 use Rattle.flatten.specs.Verdict.{verdict}
@@ -30,6 +29,7 @@ use Rattle.laying.specs.declared.rows.Drawn.TheVariants.{Primitive, Other}
 use Rattle.laying.specs.Laid.{primitives}
 use Rattle.laying.specs.Laying.{seen_if, seen, outputs_by, starting_of, outputs_laid}
 use Rattle.lists.proofs.LayingLaws.{joined_keep, Laid, laid_room, laid_step, laid_end}
+use Rattle.std.specs.Prelude.{Ok}
 
 -- Laying the outputs of one record: it has none; a Const's; any other primitive's.
 pub outputs_none : (drawn : Drawn) → drawn ≡ Other → (t : List ℕ) (k : ℕ)
@@ -98,7 +98,7 @@ starting_before at n d p =
     (λ q u. starting_length (fields_of (at q)) (primitive_obeyed at n d q (primitives_before-sound at n q p u).0))
 
 -- Laying the outputs of an accepted file, in a table t of full size.
-module _ (s : List ℕ) (accepted : verdict s ≡ Accepted) where
+module _ (s : List ℕ) (accepted : verdict s ≡ Ok tt) where
   module _ (t : List ℕ) (full : 1024 ≤ length t) where
     outputs_all : length (joined (outputs_laid (record_at s)) (from 0 (record_count s))) ≤ length t
     outputs_all =

@@ -18,7 +18,6 @@ use Rattle.kinds.specs.declared.table.Fields.{Fields}
 use Rattle.kinds.specs.Kinds.{is}
 use Rattle.kinds.specs.declared.Id.{Id}
 use Rattle.component.specs.declared.Record.{Record}
-use Rattle.component.specs.declared.Verdict.TheVariants.{Accepted}
 use Rattle.component.specs.Record.{record_at, record_count, fields_of, is_primitive}
 use Rattle.component.specs.Drawing.{primitives_before}
 use Rattle.flatten.specs.Descent.{flat}
@@ -33,6 +32,7 @@ use Rattle.laying.specs.Laid.{primitives, standing_at_load}
 use Rattle.laying.specs.Laying.{seen_if, seen, standing_if, standing_by, stood_by, standing_at}
 use Rattle.lists.proofs.LayingLaws.{joined_keep, Laid, laid_room, laid_step, laid_end, laid_count}
 use Rattle.laying.proofs.PassesLaws.{primitives_before-few}
+use Rattle.std.specs.Prelude.{Ok}
 
 -- Laying one record into the standing list: a primitive that does not stand; one that does.
 module _ (id : Id) (f : Fields) (s : Stood) (drawn : Drawn) (e : drawn ≡ Primitive id f) (b : Bool)
@@ -122,7 +122,7 @@ standing_bound at n d =
     omega (arith, length-map (keep test all) (flat at n), keep_length test all, primitives_bound at n d)
 
 -- Laying the standing list of an accepted file, in a table t of full size.
-module _ (s : List ℕ) (accepted : verdict s ≡ Accepted) where
+module _ (s : List ℕ) (accepted : verdict s ≡ Ok tt) where
   module _ (t : List ℕ) (full : 256 ≤ length t) where
     standing_all : length (joined (standing_at (record_at s) (record_count s)) (from 0 (record_count s))) ≤ length t
     standing_all =

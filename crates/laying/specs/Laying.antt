@@ -15,7 +15,6 @@ use Rattle.component.specs.Record.{record_at, record_count, fields_of, is_primit
 use Rattle.component.specs.Reading.{id_of, form_of}
 use Rattle.component.specs.Drawing.{primitives_before, inputs_before, outputs_before}
 use Rattle.index.specs.Index.{IsIndex}
-use Rattle.component.specs.declared.Verdict.TheVariants.{Accepted}
 use Rattle.flatten.specs.declared.Pin.{Pin}
 use Rattle.flatten.specs.Descent.{comes_from, goes_to, flat}
 use Rattle.flatten.specs.Verdict.{verdict}
@@ -26,6 +25,7 @@ use Rattle.laying.specs.declared.rows.Drawn.{Drawn}
 use Rattle.laying.specs.declared.rows.Drawn.TheVariants.{Primitive, Other}
 use Rattle.laying.specs.declared.rows.Before.{Before}
 use Rattle.laying.specs.Laid.{flat_pin}
+use Rattle.std.specs.Prelude.{Ok}
 
 pub record Written (t : List ℕ) (k : ℕ) (xs : List ℕ) (u : List ℕ) (m : ℕ) : Type 0 where
   pub table : u ≡ sets t k xs
@@ -102,6 +102,6 @@ module _ (at : ℕ → Record) (n : ℕ) where
       cond (eqb (form_of (at p)) 2) (joined (lead_words (flat_pin at n (comes_from at n p))) (goes_to at n p)) []
 
 pub record Ready (s index fs : List ℕ) : Type 0 where
-  pub accepted : verdict s ≡ Accepted
+  pub accepted : verdict s ≡ Ok tt
   pub indexed : IsIndex s index
   pub indexes : IsFlat (record_at s) (record_count s) fs

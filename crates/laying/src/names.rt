@@ -7,7 +7,6 @@ ghost use Rattle.kinds.specs.declared.Kind.TheVariants.{Clock, Const};
 ghost use Rattle.kinds.specs.Kinds.{is};
 ghost use Rattle.component.specs.Record.{record_at, record_count};
 ghost use Rattle.component.specs.Reading.{Readable};
-ghost use Rattle.component.specs.declared.Verdict.TheVariants.{Accepted};
 ghost use Rattle.flatten.specs.Verdict.{verdict};
 ghost use Rattle.laying.specs.Laid.{standing_at_load};
 ghost use Rattle.laying.specs.Laying.{standing_by, stood_by, IsFlat};
@@ -68,7 +67,7 @@ fn stand(standing: &mut [u16], drawn: Drawn, stood: Stood) -> Stood
 
 // Lays the standing list. The answer is how many it names. Crates load and slow call it for an accepted file, with a list of full size.
 pub fn lay_standing(file: &[u8], standing: &mut [u16]) -> usize
-    requires { (verdict file.now ≡ Accepted) × (256 ≤ length standing.old) }
+    requires { (verdict file.now ≡ Ok tt) × (256 ≤ length standing.old) }
     ensures standing_after { standing.new ≡ overlay (standing_at_load (record_at file.now) (record_count file.now))
         standing.old }
     ensures value { result ≡ length (standing_at_load (record_at file.now) (record_count file.now)) }

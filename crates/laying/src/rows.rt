@@ -5,7 +5,6 @@ ghost use Rattle.std.proofs.lemmas.List.Edits.{sets};
 ghost use Rattle.lists.specs.Lists.{joined, overlay};
 ghost use Rattle.component.specs.Record.{record_at, record_count};
 ghost use Rattle.component.specs.Reading.{Readable};
-ghost use Rattle.component.specs.declared.Verdict.TheVariants.{Accepted};
 ghost use Rattle.flatten.specs.Verdict.{verdict};
 ghost use Rattle.laying.specs.Laid.{primitives, primitive_words};
 ghost use Rattle.laying.specs.Laying.{seen, row_by, before_by, before_at, outputs_by, starting_of};
@@ -77,7 +76,7 @@ fn lay_component(components: &mut [u64], drawn: Drawn, before: Before) -> Before
 // Lays the entries of all primitives, in file order. The answer is how many there are, and their inputs and outputs. Crates load, boxes and slow call it for
 // an accepted file, with a table of full size.
 pub fn lay_components(file: &[u8], components: &mut [u64]) -> Before
-    requires { (verdict file.now ≡ Accepted) × (2048 ≤ length components.old) }
+    requires { (verdict file.now ≡ Ok tt) × (2048 ≤ length components.old) }
     ensures components_after { components.new ≡ overlay (joined (primitive_words (record_at file.now) (record_count file.now))
         (primitives (record_at file.now) (record_count file.now))) components.old }
     ensures value { result ≡ before_at (record_at file.now) (record_count file.now) (record_count file.now) }
@@ -128,7 +127,7 @@ fn lay_output(outputs: &mut [u64], at: usize, drawn: Drawn) -> usize
 
 // Lays the outputs of all primitives, in file order. Crates load and slow call it for an accepted file, with a table of full size.
 pub fn lay_outputs(file: &[u8], outputs: &mut [u64])
-    requires { (verdict file.now ≡ Accepted) × (1024 ≤ length outputs.old) }
+    requires { (verdict file.now ≡ Ok tt) × (1024 ≤ length outputs.old) }
     ensures { outputs.new ≡ overlay (joined (starting_of (record_at file.now))
         (primitives (record_at file.now) (record_count file.now))) outputs.old }
 {

@@ -5,7 +5,6 @@ ghost use Rattle.std.proofs.lemmas.List.Edits.{sets};
 ghost use Rattle.lists.specs.Lists.{joined, overlay};
 ghost use Rattle.component.specs.Record.{record_at, record_count};
 ghost use Rattle.index.specs.Index.{IsIndex};
-ghost use Rattle.component.specs.declared.Verdict.TheVariants.{Accepted};
 ghost use Rattle.flatten.specs.Verdict.{verdict};
 ghost use Rattle.flatten.specs.Targets.{target_place, target_in, targets_in};
 ghost use Rattle.laying.specs.Laid.{flat_wires};
@@ -119,7 +118,7 @@ fn connect_all(file: &[u8], index: &[u16], indexes: &[u16], wires: &mut [u16]) -
 
 // Lays the wires of an accepted drawing, with its index filled. The answer is how many there are. Crates load and boxes call it with a table of full size.
 pub fn lay_wires(file: &[u8], index: &[u16], wires: &mut [u16]) -> usize
-    requires { (verdict file.now ≡ Accepted) × IsIndex file.now index.now × (4096 ≤ length wires.old) }
+    requires { (verdict file.now ≡ Ok tt) × IsIndex file.now index.now × (4096 ≤ length wires.old) }
     ensures wires_after { wires.new ≡ overlay (joined wire_words (flat_wires (record_at file.now) (record_count file.now)))
         wires.old }
     ensures value { result ≡ length (flat_wires (record_at file.now) (record_count file.now)) }

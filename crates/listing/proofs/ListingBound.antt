@@ -19,11 +19,9 @@ use Rattle.value.proofs.ValueLaws.{below_lt}
 use Rattle.kinds.specs.declared.Kind.{Kind}
 use Rattle.kinds.specs.declared.Kind.TheVariants.{Composite, And, Or, Not, Nand, Nor, Xor, Switch, Input, Output, Splitter, Joiner, Clock, Const, Majority}
 use Rattle.kinds.specs.declared.answers.Refusal.{Refusal}
-use Rattle.kinds.specs.Given.{tells_of_two}
+use Rattle.kinds.specs.Given.{tells_of_two, Verdict}
 use Rattle.kinds.specs.Kinds.{kind_of}
 use Rattle.component.specs.Record.{IsBytes}
-use Rattle.component.specs.declared.Verdict.{Verdict}
-use Rattle.component.specs.declared.Verdict.TheVariants.{Accepted, Refused}
 use Rattle.tables.specs.declared.Wire.{Wire}
 use Rattle.tables.specs.Tables.{Tables, id_at, fields_at, wire_at, current_list}
 use Rattle.load.specs.Load.{load_tables, load_verdict}
@@ -40,6 +38,7 @@ use Rattle.lines.specs.Lines.{component_line, wire_line, components_text, wires_
 use Rattle.running.specs.Running.{ending, round_lines}
 use Rattle.listing.specs.Listing.{fresh, listed_text, listing}
 use Rattle.listing.proofs.LoadedLaws.{loaded_number}
+use Rattle.std.specs.Prelude.{Ok, Err}
 
 -- A number below 10^k has at most k digits; none has more than 20.
 numeral_of-few : (most k n : ℕ) → n < 10 ^ suc k → length (numeral_of most n) ≤ suc k
@@ -211,12 +210,12 @@ listing_few file bytes = by_verdict (load_verdict file fresh) refl
     all xs ys zs a b d = simp length-append (omega arith)
 
     by_verdict : (v : Verdict) → load_verdict file fresh ≡ v → length (listed_text v (load_tables file fresh)) ≤ 65536
-    by_verdict Accepted e =
+    by_verdict (Ok _) e =
         let z = loaded_number file bytes e in
         let T = load_tables file fresh in
         all (components_text T) (wires_text T) (round_lines 16 1 T)
         (components_few T z) (wires_few T z) (rounds_few 16 1 T z (omega arith))
-    by_verdict (Refused x) e =
+    by_verdict (Err x) e =
         let a = numeral_most x.number in
         let b = numeral_most x.position in
         let d = against_few x in

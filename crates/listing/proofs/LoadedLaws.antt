@@ -7,14 +7,10 @@ use native.Mathlib.Omega.{arith}
 use lib.ListN.{length}
 use lib.Seq.{length-sets}
 use Rattle.kinds.specs.declared.answers.Refusal.{Refusal}
-use Rattle.kinds.specs.Given.{done, declined}
+use Rattle.kinds.specs.Given.{done, declined, Verdict}
 use Rattle.kinds.proofs.GivenLaws.{done_declined, declined_refusal}
-use Rattle.component.specs.declared.Verdict.{Verdict}
-use Rattle.component.specs.declared.Verdict.TheVariants.{Accepted, Refused as NotAccepted}
 use Rattle.component.specs.Record.{IsBytes}
 use Rattle.tables.specs.declared.Counts.{Counts}
-use Rattle.tables.specs.declared.Answer.{Answer}
-use Rattle.tables.specs.declared.Answer.TheVariants.{Done, Refused}
 use Rattle.flatten.specs.Verdict.{verdict_gives}
 use Rattle.tables.specs.Tables.{Tables, count_words, answer_gives, counts_after}
 use Rattle.load.specs.Load.{load_verdict, load_tables, Loads}
@@ -26,6 +22,7 @@ use Rattle.text.specs.Text.{Puts}
 use Rattle.lines.specs.Lines.{components_text, wires_text, refused_line}
 use Rattle.running.specs.Running.{round_lines}
 use Rattle.listing.specs.Listing.{fresh, listed_text, listing}
+use Rattle.std.specs.Prelude.{Result, Ok, Err}
 
 -- A part ends inside the buffer.
 pub inside : {t bs u : List ℕ} {at m : ℕ} → Puts t at bs u m → m ≤ length u
@@ -34,35 +31,35 @@ inside {t} {bs} {u} {at} p =
     omega (arith, p.place)
 
 -- An answer that gives counts is that of an accepted file, one that gives a refusal of a file so refused.
-gives_done : (w : Verdict) (xs ys : List ℕ) → done xs ≡ verdict_gives w ys → w ≡ Accepted
-gives_done Accepted xs ys e = refl
-gives_done (NotAccepted x) xs ys e = absurd (done_declined xs x e)
+gives_done : (w : Verdict) (xs ys : List ℕ) → done xs ≡ verdict_gives w ys → w ≡ Ok tt
+gives_done (Ok _) xs ys e = refl
+gives_done (Err x) xs ys e = absurd (done_declined xs x e)
 
-gives_declined : (w : Verdict) (x : Refusal) (ys : List ℕ) → declined x ≡ verdict_gives w ys → w ≡ NotAccepted x
-gives_declined Accepted x ys e = absurd (done_declined ys x (sym e))
-gives_declined (NotAccepted y) x ys e = ap NotAccepted (sym (declined_refusal x y e))
+gives_declined : (w : Verdict) (x : Refusal) (ys : List ℕ) → declined x ≡ verdict_gives w ys → w ≡ Err x
+gives_declined (Ok _) x ys e = absurd (done_declined ys x (sym e))
+gives_declined (Err y) x ys e = ap Err (sym (declined_refusal x y e))
 
 -- An accepted file leaves a net.
-pub loaded_number : (file : List ℕ) → IsBytes file → load_verdict file fresh ≡ Accepted → net_number (load_tables file fresh) ≡ 0
+pub loaded_number : (file : List ℕ) → IsBytes file → load_verdict file fresh ≡ Ok tt → net_number (load_tables file fresh) ≡ 0
 loaded_number file bytes e = sym (net_number-0 (load_tables file fresh) (accepted-full_size file fresh e) (accepted_net file fresh e bytes))
 
-module _ (file : List ℕ) (a : Answer) (U : Tables) (loads : Loads file fresh a (counted U (counts_after a fresh.counts))) where
+module _ (file : List ℕ) (a : Result Counts Refusal) (U : Tables) (loads : Loads file fresh a (counted U (counts_after a fresh.counts))) where
   -- A refused file.
-  pub listed_refused : (x : Refusal) → a ≡ Refused x → refused_line x ≡ listing file
+  pub listed_refused : (x : Refusal) → a ≡ Err x → refused_line x ≡ listing file
   unfolding listing
   listed_refused x e =
-      let w : load_verdict file fresh ≡ NotAccepted x =
+      let w : load_verdict file fresh ≡ Err x =
       gives_declined (load_verdict file fresh) x (count_words (counts_after a fresh.counts)) (ap answer_gives (sym e) ∙ loads.0) in
       ap (λ (v : Verdict). listed_text v (load_tables file fresh)) (sym w)
 
   -- An accepted file: its tables, with the counts of the answer.
-  module _ (m : Counts) (e : a ≡ Done m) where
-    accepted : load_verdict file fresh ≡ Accepted
+  module _ (m : Counts) (e : a ≡ Ok m) where
+    accepted : load_verdict file fresh ≡ Ok tt
     accepted =
         gives_done (load_verdict file fresh) (count_words m) (count_words (counts_after a fresh.counts)) (ap answer_gives (sym e) ∙ loads.0)
 
     made : counted U m ≡ load_tables file fresh
-    made = ap (λ (b : Answer). counted U (counts_after b fresh.counts)) (sym e) ∙ loads.1
+    made = ap (λ (b : Result Counts Refusal). counted U (counts_after b fresh.counts)) (sym e) ∙ loads.1
 
     pub listed_net : IsBytes file → net_number (counted U m) ≡ 0
     listed_net bytes = ap net_number made ∙ loaded_number file bytes accepted
@@ -70,4 +67,4 @@ module _ (file : List ℕ) (a : Answer) (U : Tables) (loads : Loads file fresh a
     pub listed_done :
         components_text (counted U m) ++ wires_text (counted U m) ++ round_lines 16 1 (counted U m) ≡ listing file
     unfolding listing
-    listed_done = ap (listed_text Accepted) made ∙ ap (λ (v : Verdict). listed_text v (load_tables file fresh)) (sym accepted)
+    listed_done = ap (listed_text (Ok tt)) made ∙ ap (λ (v : Verdict). listed_text v (load_tables file fresh)) (sym accepted)

@@ -2,12 +2,12 @@
 --   listing file   the whole text
 -- Assumes nothing.
 use Rattle.std.specs.Prelude.{ℕ, List, ◌++◌, replicate}
-use Rattle.component.specs.declared.Verdict.{Verdict}
-use Rattle.component.specs.declared.Verdict.TheVariants.{Accepted, Refused}
 use Rattle.tables.specs.Tables.{Tables, tables_of, counts_of}
 use Rattle.load.specs.Load.{load_verdict, load_tables}
 use Rattle.lines.specs.Lines.{components_text, wires_text, refused_line}
 use Rattle.running.specs.Running.{round_lines}
+use Rattle.kinds.specs.Given.{Verdict}
+use Rattle.std.specs.Prelude.{Ok, Err}
 
 -- Tables of full size, every word and every count 0.
 abbrev pub fresh : Tables
@@ -17,9 +17,9 @@ fresh =
 
 -- The components and wires of a loaded drawing, and its rounds, at most 16; or the line of a refused file.
 abbrev pub listed_text : Verdict → Tables → List ℕ
-listed_text Accepted T =
+listed_text (Ok _) T =
     components_text T ++ wires_text T ++ round_lines 16 1 T
-listed_text (Refused x) T = refused_line x
+listed_text (Err x) T = refused_line x
 
 -- The listing of a file.
 unfoldable pub listing : List ℕ → List ℕ

@@ -8,7 +8,6 @@ ghost use Rattle.listing.specs.Listing.{listing};
 // The descriptor of standard input.
 const STDIN: i32 = 0;
 
-use tables::Answer;
 
 // Lists a drawing in a lent buffer, and answers how many bytes that is.
 fn list(file: &[u8], out: &mut [u8]) -> usize
@@ -32,7 +31,7 @@ fn list(file: &[u8], out: &mut [u8]) -> usize
         &mut standing,
     );
     match answer {
-        Answer::Done(counts) => {
+        Ok(counts) => {
             let wired = lines::put_net(out, 0, &components, &wires, counts);
             running::put_rounds(
                 &components,
@@ -47,7 +46,7 @@ fn list(file: &[u8], out: &mut [u8]) -> usize
                 wired,
             )
         }
-        Answer::Refused(refusal) => lines::put_refused(out, 0, refusal),
+        Err(refusal) => lines::put_refused(out, 0, refusal),
     }
 }
 

@@ -12,16 +12,13 @@ use Rattle.lists.specs.Lists.{from, joined, overlay}
 use Rattle.lists.proofs.MembersLaws.{from_length}
 use Rattle.lists.proofs.OverlayLaws.{sets_overlay}
 use Rattle.kinds.specs.declared.answers.Refusal.{Refusal}
-use Rattle.kinds.specs.Given.{refused_by}
-use Rattle.component.specs.declared.Verdict.{Verdict}
-use Rattle.component.specs.declared.Verdict.TheVariants.{Accepted, Refused}
+use Rattle.kinds.specs.Given.{refused_by, Verdict}
 use Rattle.component.specs.Record.{record_at, record_count, sized}
 use Rattle.flatten.specs.Verdict.{refused, verdict}
 use Rattle.flatten.proofs.Accepted.{refused_not, accepted_passed}
 use Rattle.flatten.proofs.WireTheorems.{accepted_primitives_bound, accepted_inputs_bound}
 use Rattle.meeting.specs.Meeting.{judgement}
 use Rattle.meeting.proofs.MeetingLaws.{judgement_accepted}
-use Rattle.tables.specs.declared.Answer.TheVariants.{Done, Refused as Declined}
 use Rattle.tables.specs.declared.Counts.{Counts}
 use Rattle.tables.specs.Tables.{Tables, tables_of, full_size, wire_words}
 use Rattle.tables.proofs.SizesLaws.{full_size-sound}
@@ -31,9 +28,10 @@ use Rattle.laying.specs.Laid.{primitives, primitive_words, flat_wires, standing_
 use Rattle.laying.specs.Laying.{before_at, starting_of}
 use Rattle.laying.proofs.StandingLaws.{standing_bound}
 use Rattle.load.specs.Load.{drawing_tables, load_verdict, load_tables, Loads}
+use Rattle.std.specs.Prelude.{Ok, Err}
 
 -- There is room for what the passes write.
-module _ (s : List ℕ) (accepted : verdict s ≡ Accepted) (t : List ℕ) where
+module _ (s : List ℕ) (accepted : verdict s ≡ Ok tt) (t : List ℕ) where
   pub inputs_room : (b : Before) → b ≡ before_at (record_at s) (record_count s) (record_count s) → 1024 ≤ length t
       → 0 + b.inputs ≤ length t
   inputs_room b e full = omega (arith, ap (λ (x : Before). x.inputs) e, accepted_inputs_bound s accepted)
@@ -52,7 +50,7 @@ module _ (s : List ℕ) (accepted : verdict s ≡ Accepted) (t : List ℕ) where
       (rw e long, omega (arith, standing_bound (record_at s) (record_count s) (accepted_passed s accepted)))
 
 -- What the passes leave of the tables T, whose inputs and current list are of full size, for an accepted file.
-module _ (s : List ℕ) (accepted : verdict s ≡ Accepted) (T : Tables) (is : 1024 ≤ length T.inputs)
+module _ (s : List ℕ) (accepted : verdict s ≡ Ok tt) (T : Tables) (is : 1024 ≤ length T.inputs)
     (cur : 256 ≤ length T.current)
     (b : Before) (eb : b ≡ before_at (record_at s) (record_count s) (record_count s)) where
   filled_inputs : (u : List ℕ) → u ≡ sets T.inputs 0 (replicate b.inputs 0)
@@ -115,13 +113,13 @@ module _ (s : List ℕ) (accepted : verdict s ≡ Accepted) (T : Tables) (is : 1
 -- What an accepted load has passed: check 2, and the judgement of the file.
 pub record IsLoad (file : List ℕ) (T : Tables) : Type 0 where
   pub full : full_size T ≡ true
-  pub judged : verdict file ≡ Accepted
+  pub judged : verdict file ≡ Ok tt
 
-pub load_passed : (file : List ℕ) (T : Tables) → load_verdict file T ≡ Accepted → IsLoad file T
+pub load_passed : (file : List ℕ) (T : Tables) → load_verdict file T ≡ Ok tt → IsLoad file T
 unfolding load_verdict
 load_passed file T accepted = by_size (sized file) (full_size T) refl accepted
   where
-    by_size : (b c : Bool) → full_size T ≡ c → cond b (cond c (judgement file) (refused 2 0)) (refused 1 0) ≡ Accepted
+    by_size : (b c : Bool) → full_size T ≡ c → cond b (cond c (judgement file) (refused 2 0)) (refused 1 0) ≡ Ok tt
         → IsLoad file T
     by_size true true s e = record { full = s; judged = judgement_accepted file e }
     by_size true false s e = absurd (refused_not 2 0 e)
@@ -132,12 +130,12 @@ module _ (s cs is os ws cur fol std : List ℕ) where
   lent = tables_of cs is os ws cur fol std
 
   -- The ways out of the judgement, whatever the counts: 1; 2; and 0 or 3 to 15.
-  pub judge_unsized : sized s ≡ false → (r : Refusal) → r ≡ refused_by 1 → (m : Counts) → Refused r ≡ load_verdict s (lent m)
+  pub judge_unsized : sized s ≡ false → (r : Refusal) → r ≡ refused_by 1 → (m : Counts) → Err r ≡ load_verdict s (lent m)
   unfolding load_verdict
   judge_unsized e r d m = rw (e, d)
 
   module _ (sz : sized s ≡ true) where
-    pub judge_short : ((m : Counts) → full_size (lent m) ≡ false) → (r : Refusal) → r ≡ refused_by 2 → (m : Counts) → Refused r ≡ load_verdict s (lent m)
+    pub judge_short : ((m : Counts) → full_size (lent m) ≡ false) → (r : Refusal) → r ≡ refused_by 2 → (m : Counts) → Err r ≡ load_verdict s (lent m)
     unfolding load_verdict
     judge_short e r d m = rw (sz, e m, d)
 
@@ -148,13 +146,13 @@ module _ (s cs is os ws cur fol std : List ℕ) where
 
   -- The ways out of a load whose verdict is v.
   module _ (v : Verdict) (h : (m : Counts) → v ≡ load_verdict s (lent m)) where
-    pub load_refused : (r : Refusal) → v ≡ Refused r → (m : Counts) → Loads s (lent m) (Declined r) (lent m)
+    pub load_refused : (r : Refusal) → v ≡ Err r → (m : Counts) → Loads s (lent m) (Err r) (lent m)
     unfolding load_tables
     load_refused r e m = rw (sym (h m) ∙ e) (refl, refl)
 
-    module _ (e : v ≡ Accepted) where
+    module _ (e : v ≡ Ok tt) where
       -- The file is accepted, and each table is of full size.
-      pub load_ready : (verdict s ≡ Accepted) × (2048 ≤ length cs) × (1024 ≤ length is) × (1024 ≤ length os)
+      pub load_ready : (verdict s ≡ Ok tt) × (2048 ≤ length cs) × (1024 ≤ length is) × (1024 ≤ length os)
           × (4096 ≤ length ws)
           × (256 ≤ length cur) × (256 ≤ length fol) × (256 ≤ length std)
       load_ready =
@@ -166,6 +164,6 @@ module _ (s cs is os ws cur fol std : List ℕ) where
 
       pub load_done : (cs' is' os' ws' cur' fol' std' : List ℕ) (c : Counts)
           → tables_of cs' is' os' ws' cur' fol' std' c ≡ drawing_tables (record_at s) (record_count s) (lent c)
-          → (m : Counts) → Loads s (lent m) (Done c) (tables_of cs' is' os' ws' cur' fol' std' c)
+          → (m : Counts) → Loads s (lent m) (Ok c) (tables_of cs' is' os' ws' cur' fol' std' c)
       unfolding load_tables drawing_tables
       load_done cs' is' os' ws' cur' fol' std' c d m = rw (sym (h m) ∙ e) (refl, d)

@@ -5,16 +5,14 @@
 ghost use Rattle.std.specs.Prelude.{◌≡◌, ◌≤◌, length};
 ghost use Rattle.component.specs.Record.{record_at, record_count};
 ghost use Rattle.index.specs.Index.{IsIndex};
-ghost use Rattle.component.specs.declared.Verdict.TheVariants.{Accepted};
 ghost use Rattle.flatten.specs.Verdict.{verdict};
 ghost use Rattle.tables.specs.declared.Counts.{Counts};
 ghost use Rattle.tables.specs.Tables.{tables_of, counts_after};
 ghost use Rattle.load.specs.Load.{drawing_tables, load_verdict, Loads};
 
-use component::Verdict;
-use kinds::refused_by;
+use kinds::{Refusal, refused_by};
 use laying::{count_up, lay_components, lay_outputs, lay_standing, lay_wires, zeros};
-use tables::{Answer, Counts};
+use tables::Counts;
 
 // Writes the tables of an accepted drawing, with its index filled: all ports 0, a Const's output its value; standing every Const and Clock, following a copy
 // of it; current all components. The answer is how many entries of each table are in use.
@@ -30,7 +28,7 @@ fn fill(
     standing: &mut [u16],
 ) -> Counts
     requires index { IsIndex file.now index.now }
-    requires file_value { (verdict file.now ≡ Accepted) × (2048 ≤ length components.old) × (1024 ≤ length inputs.old) × (1024 ≤ length outputs.old)
+    requires file_value { (verdict file.now ≡ Ok tt) × (2048 ≤ length components.old) × (1024 ≤ length inputs.old) × (1024 ≤ length outputs.old)
         × (4096 ≤ length wires.old) × (256 ≤ length current.old) × (256 ≤ length following.old) × (256 ≤ length standing.old) }
     ensures { tables_of components.new inputs.new outputs.new wires.new current.new
         following.new standing.new result ≡ drawing_tables (record_at file.now) (record_count file.now)
@@ -67,20 +65,20 @@ pub fn judge_load(
     following: &[u16],
     standing: &[u16],
     index: &mut [u16],
-) -> Verdict
+) -> Result<(), Refusal>
     requires { length index.old ≡ 3072 }
     ensures value { (m : Counts) → result ≡ load_verdict file.now
         (tables_of components.now inputs.now outputs.now wires.now current.now
         following.now standing.now m) }
-    ensures index { result ≡ Accepted → IsIndex file.now index.new }
+    ensures index { result ≡ Ok tt → IsIndex file.now index.new }
 {
     if !component::is_sized(file) {
-        return Verdict::Refused(refused_by(1));
+        return Err(refused_by(1));
     }
     if !tables::full_size(
         components, inputs, outputs, wires, current, following, standing,
     ) {
-        return Verdict::Refused(refused_by(2));
+        return Err(refused_by(2));
     }
     meeting::judge_indexed(file, index)
 }
@@ -96,7 +94,7 @@ pub fn load(
     current: &mut [u16],
     following: &mut [u16],
     standing: &mut [u16],
-) -> Answer
+) -> Result<Counts, Refusal>
     ensures { let before = tables_of components.old inputs.old outputs.old wires.old
         current.old following.old standing.old in
         let after = tables_of components.new inputs.new outputs.new wires.new
@@ -104,12 +102,10 @@ pub fn load(
         ((m : Counts) → Loads file.now (before m) result (after (counts_after result m))) }
 {
     let mut index = [0u16; 3072];
-    if let Verdict::Refused(refusal) = judge_load(
+    judge_load(
         file, components, inputs, outputs, wires, current, following, standing, &mut index,
-    ) {
-        return Answer::Refused(refusal);
-    }
-    Answer::Done(fill(
+    )?;
+    Ok(fill(
         file, &index, components, inputs, outputs, wires, current, following, standing,
     ))
 }

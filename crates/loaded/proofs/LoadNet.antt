@@ -6,7 +6,6 @@ use mathlib.Core.Bool.{true}
 use mathlib.Core.List.{List}
 use Prim.Native.Nat.{ℕ, ◌^◌, ◌<◌}
 use Rattle.component.specs.declared.Record.{Record}
-use Rattle.component.specs.declared.Verdict.TheVariants.{Accepted}
 use Rattle.component.specs.Record.{IsBytes, record_at, record_count, is_primitive}
 use Rattle.component.specs.Reading.{id_of}
 use Rattle.flatten.proofs.Accepted.{Passed, accepted_passed}
@@ -24,6 +23,7 @@ use Rattle.loaded.proofs.DrawnNet.{drawn-inputs_once}
 use Rattle.loaded.proofs.LoadedNet.{loaded-counts_within, loaded-values_fit, loaded-consts_held}
 use Rattle.loaded.proofs.LoadedNet.{loaded_names_current, loaded_names_following, loaded_names_standing}
 use Rattle.loaded.proofs.Bytes.{record_at-id}
+use Rattle.std.specs.Prelude.{Ok}
 
 -- The tables that a drawing that passes every check is loaded into are a net, if its ids have 32 bits.
 pub loaded_net : (at : ℕ → Record) (n : ℕ) → Passed at n → SameWidths at n → (T : Tables)
@@ -45,7 +45,7 @@ loaded_net at n d widths T narrow =
       loaded_names_standing at n d T,
     )
 
-module _ (file : List ℕ) (T : Tables) (accepted : load_verdict file T ≡ Accepted) where
+module _ (file : List ℕ) (T : Tables) (accepted : load_verdict file T ≡ Ok tt) where
   -- No record of the file of an accepted load fails a check.
   pub load_checked : Passed (record_at file) (record_count file)
   load_checked = accepted_passed file (load_passed file T accepted).judged

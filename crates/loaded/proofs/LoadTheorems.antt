@@ -10,7 +10,6 @@ use Prim.Native.Nat.{ℕ, ◌<◌}
 use Rattle.lists.specs.Lists.{from}
 use Rattle.lists.proofs.MembersLaws.{In}
 use Rattle.component.specs.declared.Record.{Record}
-use Rattle.component.specs.declared.Verdict.TheVariants.{Accepted}
 use Rattle.component.specs.Record.{IsBytes, record_at, record_count, is_primitive}
 use Rattle.flatten.specs.declared.Pin.{Pin}
 use Rattle.flatten.specs.Descent.{flat}
@@ -27,6 +26,7 @@ use Rattle.loaded.proofs.LoadNet.{load_checked, load_loaded, load-full_size, loa
 use Rattle.loaded.proofs.Drawn.{IsDrawn, loaded_drawn, drawn_kept, PrimitiveAt, drawn_primitive, drawn_below}
 use Rattle.loaded.proofs.Drawn.{leads_wired, wire_drawn}
 use Rattle.tables.specs.declared.Wire.{Wire}
+use Rattle.std.specs.Prelude.{Ok}
 
 module _ (file : List ℕ) where
   abbrev at : ℕ → Record
@@ -39,7 +39,7 @@ module _ (file : List ℕ) where
     abbrev L : Tables
     L = load_tables file T
 
-    module _ (accepted : load_verdict file T ≡ Accepted) where
+    module _ (accepted : load_verdict file T ≡ Ok tt) where
       passed : Passed at n
       passed = load_checked file T accepted
 

@@ -8,14 +8,14 @@ use mathlib.Core.List.{List}
 use Rattle.kinds.specs.declared.table.Fields.{Fields}
 use Rattle.kinds.specs.Kinds.{kind_of, most_ports}
 use Rattle.kinds.proofs.ObeysLaws.{row_few, obeys_row}
-use Rattle.component.specs.declared.Verdict.TheVariants.{Accepted}
 use Rattle.component.specs.Record.{record_at, record_count, fields_of, inputs_of, outputs_of}
 use Rattle.component.proofs.RecordLaws.{fields_cases}
 use Rattle.flatten.specs.Verdict.{verdict}
 use Rattle.flatten.proofs.Accepted.{accepted_passed}
 use Rattle.flatten.proofs.Primitives.{component_obeys}
+use Rattle.std.specs.Prelude.{Ok}
 
-pub ports_few : (file : List ℕ) → verdict file ≡ Accepted → (c : ℕ)
+pub ports_few : (file : List ℕ) → verdict file ≡ Ok tt → (c : ℕ)
     → (inputs_of (record_at file c) ≤ most_ports) × (outputs_of (record_at file c) ≤ most_ports)
 ports_few file accepted c =
     let f = fields_of (record_at file c) in

@@ -11,10 +11,8 @@ use borrow.Author.Tests.{ne_eqb, le-leb, lt-leb, leb-false, ltb-false}
 use Rattle.lists.specs.Lists.{overlay, refusal, ◌if◌}
 use Rattle.value.specs.declared.Value.{Value}
 use Rattle.kinds.specs.declared.answers.Refusal.{Refusal}
-use Rattle.kinds.specs.Given.{refused_by}
+use Rattle.kinds.specs.Given.{refused_by, Verdict}
 use Rattle.component.specs.declared.Record.{Record}
-use Rattle.component.specs.declared.Verdict.{Verdict}
-use Rattle.component.specs.declared.Verdict.TheVariants.{Accepted, Refused}
 use Rattle.component.specs.Record.{record_at, record_count, inputs_of, outputs_of, sized}
 use Rattle.flatten.specs.Verdict.{refused, verdict}
 use Rattle.flatten.proofs.Accepted.{refused_not, accepted_sized}
@@ -24,14 +22,14 @@ use Rattle.tables.specs.Tables.{Tables, full_size}
 use Rattle.net.specs.Net.{is_net, net_number}
 use Rattle.net.specs.Parts.{lent}
 use Rattle.net.proofs.NetLaws.{net_number-0, net_number-16}
-use Rattle.look.specs.declared.Looked.TheVariants.{Shown, Refused as NotShown}
 use Rattle.boxes.specs.Boxes.{matched, dangling}
 use Rattle.look.specs.Look.{shown, look_number, loads_own, looked_at, look_verdict, Looks}
 use Rattle.look.specs.Looking.{ported}
+use Rattle.std.specs.Prelude.{Ok, Err}
 
 -- A load's own verdict, b saying whether the file has a size that check 1 passes: a list is too short; or the load's.
 module _ (s : List ℕ) (T : Tables) (ns wd : List ℕ) (b : Bool) (e : b ≡ sized s) where
-  pub own_lists : (b && (ltb (length ns) 256 || ltb (length wd) 256)) ≡ true → (r : Refusal) → r ≡ refused_by 2 → Refused r ≡ loads_own s T ns wd
+  pub own_lists : (b && (ltb (length ns) 256 || ltb (length wd) 256)) ≡ true → (r : Refusal) → r ≡ refused_by 2 → Err r ≡ loads_own s T ns wd
   own_lists h r d = rw (← e, h, d)
 
   pub own_load : (b && (ltb (length ns) 256 || ltb (length wd) 256)) ≡ false → (v : Verdict) → v ≡ load_verdict s T → v ≡ loads_own s T ns wd
@@ -39,16 +37,16 @@ module _ (s : List ℕ) (T : Tables) (ns wd : List ℕ) (b : Bool) (e : b ≡ si
 
 -- What was passed where none of them refuses.
 pub record OwnPassed (s : List ℕ) (T : Tables) (ns wd : List ℕ) : Type 0 where
-  pub judged : verdict s ≡ Accepted
+  pub judged : verdict s ≡ Ok tt
   pub full : full_size T ≡ true
   pub numbers_long : 256 ≤ length ns
   pub widths_long : 256 ≤ length wd
 
-pub own_passed : (s : List ℕ) (T : Tables) (ns wd : List ℕ) → loads_own s T ns wd ≡ Accepted → OwnPassed s T ns wd
+pub own_passed : (s : List ℕ) (T : Tables) (ns wd : List ℕ) → loads_own s T ns wd ≡ Ok tt → OwnPassed s T ns wd
 own_passed s T ns wd e = by_size (sized s) refl (ltb (length ns) 256) (ltb (length wd) 256) refl refl e
   where
     by_size : (a : Bool) → sized s ≡ a → (b c : Bool) → ltb (length ns) 256 ≡ b → ltb (length wd) 256 ≡ c
-        → cond (a && (b || c)) (refused 2 0) (load_verdict s T) ≡ Accepted → OwnPassed s T ns wd
+        → cond (a && (b || c)) (refused 2 0) (load_verdict s T) ≡ Ok tt → OwnPassed s T ns wd
     by_size false z b c x y u = absurd (false≢true (sym z ∙ accepted_sized s (load_passed s T u).judged))
     by_size true z true c x y u = absurd (refused_not 2 0 u)
     by_size true z false true x y u = absurd (refused_not 2 0 u)
@@ -119,21 +117,21 @@ number_passed at n T c e = by_tests (is_net T) (matched at n T) (leb n c) (dangl
 
 -- The answer, v being what a load's own refusals are.
 module _ (s : List ℕ) (T : Tables) (path ns wd : List ℕ) (v : Verdict) (own : v ≡ loads_own s T ns wd) where
-  pub look_own : (r : Refusal) → v ≡ Refused r → Looks s T path ns wd (NotShown r) ns wd
+  pub look_own : (r : Refusal) → v ≡ Err r → Looks s T path ns wd (Err r) ns wd
   unfolding look_verdict
   look_own r e = rw (sym own ∙ e) (refl, refl, refl)
 
-  module _ (a : v ≡ Accepted) (c : ℕ) (place : c ≡ looked_at s path) (k : ℕ) (e : k ≡ look_number (record_at s) (record_count s) T c) where
+  module _ (a : v ≡ Ok tt) (c : ℕ) (place : c ≡ looked_at s path) (k : ℕ) (e : k ≡ look_number (record_at s) (record_count s) T c) where
     number : look_number (record_at s) (record_count s) T (looked_at s path) ≡ k
     number = sym (e ∙ ap (look_number (record_at s) (record_count s) T) place)
 
-    pub look_refused : (k ≡ 0 → ⊥) → (r : Refusal) → r ≡ refused_by k → Looks s T path ns wd (NotShown r) ns wd
+    pub look_refused : (k ≡ 0 → ⊥) → (r : Refusal) → r ≡ refused_by k → Looks s T path ns wd (Err r) ns wd
     unfolding look_verdict
     look_refused ne r d = rw (sym own ∙ a, number, ne_eqb k 0 ne, d) (refl, refl, refl)
 
     pub look_shown : k ≡ 0 → (ns' wd' : List ℕ)
         → ns' ≡ overlay (map (λ (x : Value). x.number) (shown (record_at s) (record_count s) (ported T.components T.inputs T.outputs) c)) ns
         → wd' ≡ overlay (map (λ (x : Value). x.width) (shown (record_at s) (record_count s) (ported T.components T.inputs T.outputs) c)) wd
-        → Looks s T path ns wd (Shown (inputs_of (record_at s c)) (outputs_of (record_at s c))) ns' wd'
+        → Looks s T path ns wd (Ok (record { inputs = (inputs_of (record_at s c)); outputs = (outputs_of (record_at s c)) })) ns' wd'
     unfolding look_verdict shown
     look_shown z ns' wd' p q = rw (sym own ∙ a, number, z, ← place) (refl, p, q)

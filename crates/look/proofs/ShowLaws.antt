@@ -20,7 +20,6 @@ use Rattle.lists.proofs.OverlayLaws.{sets_append, sets_overlay}
 use Rattle.kinds.specs.declared.table.Fields.{Fields}
 use Rattle.value.specs.declared.Value.{Value}
 use Rattle.component.specs.declared.Record.{Record}
-use Rattle.component.specs.declared.Verdict.TheVariants.{Accepted}
 use Rattle.component.specs.Record.{record_at, record_count, fields_of, inputs_of, outputs_of, is_primitive}
 use Rattle.component.specs.Drawing.{deepest}
 use Rattle.flatten.specs.declared.Pin.{Pin}
@@ -42,6 +41,7 @@ use Rattle.boxes.specs.Boxes.{last_of, ports_on, behind, dangling, port_shown}
 use Rattle.look.specs.Look.{shown_on, shown}
 use Rattle.look.specs.Looking.{RowsHeld, ported, value_shown}
 use Rattle.look.proofs.FewPorts.{ports_few}
+use Rattle.std.specs.Prelude.{Ok}
 
 -- The last of a list that is not empty is in it.
 last_in : (z : Pin) (xs : List Pin) → eqb (length xs) 0 ≡ false → In (last_of z xs) xs
@@ -67,12 +67,12 @@ module _ (at : ℕ → Record) (n : ℕ) (d : Passed at n) where
   port_primitive Outputs p h = h.of_primitive
 
 -- Each port that a look shows of a component without an open input, in an accepted drawing, is a port of a primitive that is there.
-pub shown_there_lem : (file : List ℕ) → verdict file ≡ Accepted → (side : Side) (c i : ℕ) → dangling (record_at file) (record_count file) c ≡ false
+pub shown_there_lem : (file : List ℕ) → verdict file ≡ Ok tt → (side : Side) (c i : ℕ) → dangling (record_at file) (record_count file) c ≡ false
     → i < ports_on side (record_at file c) → IsPort side (record_at file) (port_shown (record_at file) (record_count file) side c i)
 shown_there_lem file accepted = port_there (record_at file) (record_count file) (accepted_passed file accepted)
 
 -- Port i of component c on a side, in tables that hold the drawing's primitives, fs being its flat indexes.
-module _ (s fs cs is os : List ℕ) (accepted : verdict s ≡ Accepted) (flats : IsFlat (record_at s) (record_count s) fs)
+module _ (s fs cs is os : List ℕ) (accepted : verdict s ≡ Ok tt) (flats : IsFlat (record_at s) (record_count s) fs)
     (rows : RowsHeld (record_at s) (record_count s) cs is os) (side : Side) (c i : ℕ)
     (closed : dangling (record_at s) (record_count s) c ≡ false) (there : i < ports_on side (record_at s c))
     (p : Pin) (shows : p ≡ port_shown (record_at s) (record_count s) side c i) where
@@ -128,7 +128,7 @@ shown_step g shows t u k i v e h =
     ∙ sets_next t k (map g (map shows (from 0 i))) (g (shows i)) ∙ ap (sets t k) (sym more)
 
 -- Both sides are shown, the second behind the first, k being how many ports the first has.
-module _ (s cs is os : List ℕ) (accepted : verdict s ≡ Accepted) (c k : ℕ) (ports : k ≡ inputs_of (record_at s c)) (g : Value → ℕ) where
+module _ (s cs is os : List ℕ) (accepted : verdict s ≡ Ok tt) (c k : ℕ) (ports : k ≡ inputs_of (record_at s c)) (g : Value → ℕ) where
   abbrev shown_there : Side → List Value
   shown_there side = shown_on (record_at s) (record_count s) (ported cs is os) side c
 

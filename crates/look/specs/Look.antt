@@ -3,10 +3,8 @@
 use Rattle.std.specs.Prelude.{◌≡◌, ℕ, cond, not, ◌&&◌, ◌||◌, List, [], ◌∷◌, ◌++◌, map, length, leb, ltb}
 use Rattle.lists.specs.Lists.{from, refusal, ◌if◌}
 use Rattle.value.specs.declared.Value.{Value}
-use Rattle.kinds.specs.Given.{Given, done, declined}
+use Rattle.kinds.specs.Given.{Given, done, declined, Verdict}
 use Rattle.component.specs.declared.Record.{Record}
-use Rattle.component.specs.declared.Verdict.{Verdict}
-use Rattle.component.specs.declared.Verdict.TheVariants.{Accepted, Refused}
 use Rattle.component.specs.Record.{record_at, record_count, inputs_of, outputs_of, sized}
 use Rattle.flatten.specs.Descent.{flat}
 use Rattle.flatten.specs.Verdict.{refused, verdict_gives, and_then, list_by}
@@ -18,7 +16,8 @@ use Rattle.questions.specs.declared.Side.TheVariants.{Inputs, Outputs}
 use Rattle.questions.specs.Questions.{value_at}
 use Rattle.boxes.specs.Boxes.{ports_on, place_of, matched, dangling, port_shown}
 use Rattle.look.specs.declared.Looked.{Looked}
-use Rattle.look.specs.declared.Looked.TheVariants.{Shown, Refused as NotShown}
+use Rattle.std.specs.Prelude.{Result, Ok, Err}
+use Rattle.kinds.specs.declared.answers.Refusal.{Refusal}
 
 module _ (at : ℕ → Record) (n : ℕ) where
   -- The values that component c shows on a side: those that the tables hold for the primitives' ports.
@@ -51,12 +50,12 @@ abbrev pub values_shown : List ℕ → Tables → List ℕ → List Value
 values_shown file T path = shown (record_at file) (record_count file) T (looked_at file path)
 
 -- What each answer gives: how many inputs and how many outputs are shown.
-abbrev pub look_gives : Looked → Given
-look_gives (Shown i o) = done (i ∷ o ∷ [])
-look_gives (NotShown r) = declined r
+abbrev pub look_gives : Result Looked Refusal → Given
+look_gives (Ok a) = done (a.inputs ∷ a.outputs ∷ [])
+look_gives (Err r) = declined r
 
 -- The promise of `look`: its answer r gives what the checks find and how many ports are shown; ns' and ws' are the two lists afterwards.
-abbrev pub Looks : List ℕ → Tables → List ℕ → List ℕ → List ℕ → Looked → List ℕ → List ℕ → Type 0
+abbrev pub Looks : List ℕ → Tables → List ℕ → List ℕ → List ℕ → Result Looked Refusal → List ℕ → List ℕ → Type 0
 Looks file T path ns ws r ns' ws' =
     let found = look_verdict file T path ns ws in
     let box = record_at file (looked_at file path) in

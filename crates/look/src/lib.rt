@@ -5,12 +5,11 @@
 mod looking;
 mod showing;
 
-use kinds::Refusal;
 pub use looking::look;
 
-// How many inputs and outputs a look shows, or its refusal.
+// How many inputs and outputs a look shows.
 #[derive(Clone, Copy)]
-pub enum Looked {
-    Shown { inputs: usize, outputs: usize },
-    Refused(Refusal),
+pub struct Looked {
+    pub inputs: usize,
+    pub outputs: usize,
 }

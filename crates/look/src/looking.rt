@@ -1,7 +1,6 @@
 // A look as a call. Rule: docs/SPECIFICATION.md, "Looking at a box".
 ghost use Rattle.std.specs.Prelude.{◌≡◌, length, true};
 ghost use Rattle.component.specs.Record.{record_at, record_count};
-ghost use Rattle.component.specs.declared.Verdict.TheVariants.{Accepted};
 ghost use Rattle.index.specs.Index.{IsIndex};
 ghost use Rattle.flatten.specs.Verdict.{verdict};
 ghost use Rattle.tables.specs.Tables.{tables_of, full_size};
@@ -10,8 +9,7 @@ ghost use Rattle.look.specs.Look.{look_number, loads_own, Looks};
 use crate::Looked;
 use crate::showing::show;
 use boxes::{is_dangling, is_matched, place_of};
-use component::Verdict;
-use kinds::refused_by;
+use kinds::{Refusal, refused_by};
 use tables::Counts;
 
 // Full size of the lists for the answer.
@@ -31,15 +29,15 @@ fn judge_look(
     numbers: &[u64],
     widths: &[u64],
     index: &mut [u16],
-) -> Verdict
+) -> Result<(), Refusal>
     requires { length index.old ≡ 3072 }
     ensures value { (m : Counts) → result ≡ loads_own file.now
         (tables_of components.now inputs.now outputs.now wires.now current.now
         following.now standing.now m) numbers.now widths.now }
-    ensures index { result ≡ Accepted → IsIndex file.now index.new }
+    ensures index { result ≡ Ok tt → IsIndex file.now index.new }
 {
     if component::is_sized(file) & ((numbers.len() < PORTS) | (widths.len() < PORTS)) {
-        return Verdict::Refused(refused_by(2));
+        return Err(refused_by(2));
     }
     load::judge_load(
         file, components, inputs, outputs, wires, current, following, standing, index,
@@ -60,7 +58,7 @@ fn look_number(
     counts: Counts,
     place: usize,
 ) -> u32
-    requires file_value { (verdict file.now ≡ Accepted) × IsIndex file.now index.now }
+    requires file_value { (verdict file.now ≡ Ok tt) × IsIndex file.now index.now }
     requires counts_value { full_size (tables_of components.now inputs.now outputs.now wires.now current.now following.now standing.now counts) ≡ true }
     ensures { result ≡ look_number (record_at file.now) (record_count file.now)
         (tables_of components.now inputs.now outputs.now wires.now current.now
@@ -99,28 +97,26 @@ pub fn look(
     path: &[u32],
     numbers: &mut [u64],
     widths: &mut [u64],
-) -> Looked
+) -> Result<Looked, Refusal>
     ensures { let lent = tables_of components.now inputs.now outputs.now wires.now
         current.now following.now standing.now counts in
         Looks file.now lent path.now numbers.old widths.old result numbers.new
         widths.new }
 {
     let mut index = [0u16; 3072];
-    if let Verdict::Refused(refusal) = judge_look(
+    judge_look(
         file, components, inputs, outputs, wires, current, following, standing, numbers, widths,
         &mut index,
-    ) {
-        return Looked::Refused(refusal);
-    }
+    )?;
     let place = place_of(file, path);
     let number = look_number(
         file, &index, components, inputs, outputs, wires, current, following, standing, counts,
         place,
     );
     if number != 0 {
-        return Looked::Refused(refused_by(number));
+        return Err(refused_by(number));
     }
-    show(
+    Ok(show(
         file, &index, components, inputs, outputs, place, numbers, widths,
-    )
+    ))
 }

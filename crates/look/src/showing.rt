@@ -4,11 +4,9 @@ ghost use Rattle.std.specs.Prelude.{◌≡◌, false, map, ◌+◌, ◌<◌, ◌
 ghost use Rattle.std.proofs.lemmas.List.Edits.{sets};
 ghost use Rattle.lists.specs.Lists.{overlay};
 ghost use Rattle.component.specs.Record.{record_at, record_count, inputs_of, outputs_of};
-ghost use Rattle.component.specs.declared.Verdict.TheVariants.{Accepted};
 ghost use Rattle.index.specs.Index.{IsIndex};
 ghost use Rattle.flatten.specs.Verdict.{verdict};
 ghost use Rattle.laying.specs.Laying.{Ready};
-ghost use Rattle.look.specs.declared.Looked.TheVariants.{Shown};
 ghost use Rattle.boxes.specs.Boxes.{dangling, ports_on};
 ghost use Rattle.look.specs.Look.{shown};
 ghost use Rattle.look.specs.Looking.{RowsHeld, ported, value_shown, numbers_on, widths_on};
@@ -90,10 +88,10 @@ pub(crate) fn show(
     numbers: &mut [u64],
     widths: &mut [u64],
 ) -> Looked
-    requires file_value { (verdict file.now ≡ Accepted) × IsIndex file.now index.now × (256 ≤ length numbers.old) × (256 ≤ length widths.old) }
+    requires file_value { (verdict file.now ≡ Ok tt) × IsIndex file.now index.now × (256 ≤ length numbers.old) × (256 ≤ length widths.old) }
     requires rows_held { RowsHeld (record_at file.now) (record_count file.now) components.now inputs.now outputs.now }
     requires c_value { dangling (record_at file.now) (record_count file.now) c ≡ false }
-    ensures value { result ≡ Shown (inputs_of (record_at file.now c)) (outputs_of (record_at file.now c)) }
+    ensures value { result ≡ record { inputs = inputs_of (record_at file.now c); outputs = outputs_of (record_at file.now c) } }
     ensures numbers_after { numbers.new ≡ overlay (map (λ (v : Value). v.number) (shown (record_at file.now) (record_count file.now)
         (ported components.now inputs.now outputs.now) c)) numbers.old }
     ensures widths_after { widths.new ≡ overlay (map (λ (v : Value). v.width) (shown (record_at file.now) (record_count file.now)
@@ -131,7 +129,7 @@ pub(crate) fn show(
         widths,
         first,
     );
-    Looked::Shown {
+    Looked {
         inputs: first,
         outputs: fields.outputs as usize,
     }

@@ -14,10 +14,8 @@ use lib.Dec.{eqb}
 use Rattle.lists.specs.Lists.{from, keep}
 use Rattle.lists.proofs.TestsLaws.{and_left}
 use Rattle.lists.proofs.MembersLaws.{get_or-cases, keep_sound}
-use Rattle.kinds.specs.Given.{refused_by}
+use Rattle.kinds.specs.Given.{refused_by, Verdict}
 use Rattle.component.specs.declared.Record.{Record}
-use Rattle.component.specs.declared.Verdict.{Verdict}
-use Rattle.component.specs.declared.Verdict.TheVariants.{Accepted, Refused}
 use Rattle.component.specs.Record.{record_at, record_count, owned_as, sized}
 use Rattle.component.specs.Reading.{form_of, owner_of, id_of}
 use Rattle.component.specs.Drawing.{deepest}
@@ -30,23 +28,24 @@ use Rattle.look.specs.Look.{look_number, looked_at, loads_own, look_verdict}
 use Rattle.look.proofs.LookLaws.{own_passed, number_passed}
 use Rattle.looked.specs.Owed.{LookAsLoad, LookAccepted}
 use Rattle.looked.proofs.Shows.{no_open_input}
+use Rattle.std.specs.Prelude.{Ok, Err}
 
 pub look_as_load : LookAsLoad
 unfolding look_verdict
 look_as_load file T path ns ws h k r e =
-    let own : loads_own file T ns ws ≡ Refused r = rw (le-ltb (length ns) 256 h, le-ltb (length ws) 256 k) (by_size (sized file)) in
+    let own : loads_own file T ns ws ≡ Err r = rw (le-ltb (length ns) 256 h, le-ltb (length ws) 256 k) (by_size (sized file)) in
     ap (λ (v : Verdict). and_then v (look_number (record_at file) (record_count file) T (looked_at file path))) own
   where
-    by_size : (b : Bool) → cond (b && false) (refused 2 0) (load_verdict file T) ≡ Refused r
+    by_size : (b : Bool) → cond (b && false) (refused 2 0) (load_verdict file T) ≡ Err r
     by_size true = e
     by_size false = e
 
 -- Accepted after both: each has passed.
-and_then-passed : (v : Verdict) (k : ℕ) → and_then v k ≡ Accepted → (v ≡ Accepted) × (k ≡ 0)
-and_then-passed (Refused r) k e = absurd (not_accepted r e)
-and_then-passed Accepted k e = by_number (eqb k 0) refl e
+and_then-passed : (v : Verdict) (k : ℕ) → and_then v k ≡ Ok tt → (v ≡ Ok tt) × (k ≡ 0)
+and_then-passed (Err r) k e = absurd (not_accepted r e)
+and_then-passed (Ok _) k e = by_number (eqb k 0) refl e
   where
-    by_number : (b : Bool) → eqb k 0 ≡ b → cond b Accepted (Refused (refused_by k)) ≡ Accepted → (Accepted ≡ Accepted) × (k ≡ 0)
+    by_number : (b : Bool) → eqb k 0 ≡ b → cond b (Ok tt) (Err (refused_by k)) ≡ Ok tt → ((Ok tt) ≡ Ok tt) × (k ≡ 0)
     by_number true z e = (refl, eqb-true k 0 z)
     by_number false z e = absurd (refused_not k 0 e)
 

@@ -10,7 +10,6 @@ use lib.ListN.{length, take}
 use Rattle.lists.specs.Lists.{joined, overlay}
 use Rattle.lists.proofs.OverlayLaws.{overlay_front, joined_width}
 use Rattle.component.specs.declared.Record.{Record}
-use Rattle.component.specs.declared.Verdict.TheVariants.{Accepted}
 use Rattle.component.specs.Record.{record_at, record_count}
 use Rattle.flatten.proofs.Accepted.{accepted_sized}
 use Rattle.tables.specs.Tables.{Tables, wire_words}
@@ -26,6 +25,7 @@ use Rattle.demands.proofs.Demand3.{load_fresh}
 use Rattle.boxes.specs.Boxes.{same, matched}
 use Rattle.look.specs.Look.{look_number, look_verdict}
 use Rattle.looked.specs.Owed.{LookReached}
+use Rattle.std.specs.Prelude.{Ok}
 
 same_itself : (xs : List ℕ) → same xs xs ≡ true
 same_itself [] = refl
@@ -37,7 +37,7 @@ front_same t xs u k e l =
     (λ j. same (take (l j) (e j)) xs) ∙ ap (λ (ys : List ℕ). same ys xs) (overlay_front xs u) ∙ same_itself xs
 
 -- Tables with the components and wires that a load of the file left match the file.
-module _ (file : List ℕ) (T₀ : Tables) (a : load_verdict file T₀ ≡ Accepted) (T : Tables) (s : SameWiring (load_tables file T₀) T) where
+module _ (file : List ℕ) (T₀ : Tables) (a : load_verdict file T₀ ≡ Ok tt) (T : Tables) (s : SameWiring (load_tables file T₀) T) where
   abbrev at : ℕ → Record
   at = record_at file
 

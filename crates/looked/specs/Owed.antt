@@ -10,7 +10,6 @@ use Rattle.std.specs.Prelude.{◌≡◌, ℕ, ◌≤◌, ◌<◌, Bool, true, fa
 use Rattle.lists.specs.Lists.{refusal, ◌if◌}
 use Rattle.kinds.specs.declared.answers.Refusal.{Refusal}
 use Rattle.component.specs.declared.Record.{Record}
-use Rattle.component.specs.declared.Verdict.TheVariants.{Accepted, Refused}
 use Rattle.component.specs.Record.{record_at, record_count, to_of, input_of, inputs_of, outputs_of, is_primitive}
 use Rattle.component.specs.Drawing.{child, maps_in}
 use Rattle.flatten.specs.declared.Pin.{Pin}
@@ -23,6 +22,7 @@ use Rattle.questions.specs.declared.Side.TheVariants.{Inputs, Outputs}
 use Rattle.boxes.specs.Boxes.{matched, dangling, port_shown}
 use Rattle.look.specs.Look.{looked_at, look_verdict}
 use Rattle.demands.specs.Reached.{Reached}
+use Rattle.std.specs.Prelude.{Ok, Err}
 
 -- "the primitive input that its maps reach last": a primitive's own input; else what the last of the maps that reach any reaches last.
 pub data Last (at : ℕ → Record) (n : ℕ) : ℕ → ℕ → Pin → Type 0 where
@@ -52,7 +52,7 @@ module _ (at : ℕ → Record) (n : ℕ) (c : ℕ) where
 -- All four, for each component of an accepted drawing.
 abbrev pub LookShows : Type 0
 LookShows =
-    (file : List ℕ) → verdict file ≡ Accepted
+    (file : List ℕ) → verdict file ≡ Ok tt
     → let at = record_at file in let n = record_count file in
     (c : ℕ) → (at c).form ≡ 1 → InputsShown at n c × OutputsShown at n c × OpenInput at n c × NoOpenInput at n c
 
@@ -60,12 +60,12 @@ LookShows =
 abbrev pub LookAsLoad : Type 0
 LookAsLoad =
     (file : List ℕ) (T : Tables) (path ns ws : List ℕ) → 256 ≤ length ns → 256 ≤ length ws
-    → (r : Refusal) → load_verdict file T ≡ Refused r → look_verdict file T path ns ws ≡ Refused r
+    → (r : Refusal) → load_verdict file T ≡ Err r → look_verdict file T path ns ws ≡ Err r
 
 -- A look that is not refused, whatever the tables, is at a component of the drawing. It shows what each input reaches last and each output comes from.
 abbrev pub LookAccepted : Type 0
 LookAccepted =
-    (file : List ℕ) (T : Tables) (path ns ws : List ℕ) → look_verdict file T path ns ws ≡ Accepted
+    (file : List ℕ) (T : Tables) (path ns ws : List ℕ) → look_verdict file T path ns ws ≡ Ok tt
     → let at = record_at file in let n = record_count file in let c = looked_at file path in
     ((at c).form ≡ 1)
     × ((i : ℕ) → i < inputs_of (at c) → Last at n c i (port_shown at n Inputs c i))
@@ -80,4 +80,4 @@ LookReached =
     (matched at n T ≡ true)
     × ((path ns ws : List ℕ) → 256 ≤ length ns → 256 ≤ length ws
     → look_verdict file T path ns ws
-    ≡ and_then Accepted (refusal ((20 if leb n (looked_at file path)) ∷ (21 if dangling at n (looked_at file path)) ∷ [])))
+    ≡ and_then (Ok tt) (refusal ((20 if leb n (looked_at file path)) ∷ (21 if dangling at n (looked_at file path)) ∷ [])))

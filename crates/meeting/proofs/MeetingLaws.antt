@@ -11,15 +11,13 @@ use lib.Dec.{eqb}
 use Rattle.kinds.specs.declared.Id.{Id}
 use Rattle.kinds.specs.declared.table.Fields.{Fields}
 use Rattle.kinds.specs.declared.answers.Refusal.{Refusal}
-use Rattle.kinds.specs.Given.{tells_of_two}
+use Rattle.kinds.specs.Given.{tells_of_two, Verdict}
 use Rattle.component.specs.declared.Record.{Record}
 use Rattle.component.specs.declared.ChildNo.{ChildNo}
 use Rattle.component.specs.declared.Says.{Says}
 use Rattle.component.specs.declared.Says.TheVariants.{Component, Connection, InputMap, OutputMap}
 use Rattle.component.specs.declared.Reading.{Reading}
 use Rattle.component.specs.declared.Reading.TheVariants.{Taken, Refused as NotTaken}
-use Rattle.component.specs.declared.Verdict.{Verdict}
-use Rattle.component.specs.declared.Verdict.TheVariants.{Accepted, Refused}
 use Rattle.component.specs.Record.{record_at}
 use Rattle.component.specs.Reading.{form_of, form_by, said}
 use Rattle.component.specs.Drawing.{earlier_of}
@@ -30,6 +28,7 @@ use Rattle.flatten.proofs.Refusals.{number_in, position_in}
 use Rattle.flatten.proofs.JudgementLaws.{verdict_gives-is, verdict_bound}
 use Rattle.checks.proofs.ChecksLaws.{earlier_most}
 use Rattle.meeting.specs.Meeting.{met_as, meeting, against, judgement, Judges}
+use Rattle.std.specs.Prelude.{Ok, Err}
 
 -- A record's kind: refused; taken apart.
 module _ (t : Record) (r : Reading) (e : said r ≡ t) where
@@ -69,11 +68,11 @@ meeting_is at p k q e d =
     λ j. record { number = n j; position = p; earlier = e j }
 
 -- A verdict with another number than 13; with 13.
-module _ (at : ℕ → Record) (v : Verdict) (r : Refusal) (e : v ≡ Refused r) where
-  pub against_other : (r.number ≡ 13 → ⊥) → Refused r ≡ against at v
+module _ (at : ℕ → Record) (v : Verdict) (r : Refusal) (e : v ≡ Err r) where
+  pub against_other : (r.number ≡ 13 → ⊥) → Err r ≡ against at v
   against_other h = rw (e, ne_eqb r.number 13 h)
 
-  pub against_met : (m : Refusal) → r.number ≡ 13 → m ≡ meeting at r.position → Refused m ≡ against at v
+  pub against_met : (m : Refusal) → r.number ≡ 13 → m ≡ meeting at r.position → Err m ≡ against at v
   against_met m h d = rw (e, eq-eqb r.number 13 h, d)
 
 -- What `judge` promises is the judgement.
@@ -85,15 +84,15 @@ unfolding judgement
 judgement_judges s u v e d = ap (λ (x : Verdict). verdict_gives x []) (d ∙ ap (against (record_at s)) e)
 
 -- A verdict that is accepted, and one that is not, stay so.
-pub against_accepted : (at : ℕ → Record) (v : Verdict) → against at v ≡ Accepted → v ≡ Accepted
-against_accepted at Accepted e = refl
-against_accepted at (Refused r) e = absurd (not_accepted _ e)
+pub against_accepted : (at : ℕ → Record) (v : Verdict) → against at v ≡ Ok tt → v ≡ Ok tt
+against_accepted at (Ok _) e = refl
+against_accepted at (Err r) e = absurd (not_accepted _ e)
 
-pub judgement_accepted : (s : List ℕ) → judgement s ≡ Accepted → verdict s ≡ Accepted
+pub judgement_accepted : (s : List ℕ) → judgement s ≡ Ok tt → verdict s ≡ Ok tt
 unfolding judgement
 judgement_accepted s e = against_accepted (record_at s) (verdict s) e
 
-pub accepted_judgement : (s : List ℕ) → verdict s ≡ Accepted → judgement s ≡ Accepted
+pub accepted_judgement : (s : List ℕ) → verdict s ≡ Ok tt → judgement s ≡ Ok tt
 unfolding judgement
 accepted_judgement s e = ap (against (record_at s)) e
 
@@ -113,11 +112,11 @@ pub record Small (r : Refusal) : Type 0 where
   pub earlier : r.earlier < 1024
 
 against_small : (at : ℕ → Record) (v : Verdict) (r : Refusal)
-    → ((u : Refusal) → v ≡ Refused u → (u.number < 16) × (u.position < 1024) × (u.earlier ≡ 0)) → against at v ≡ Refused r → Small r
-against_small at Accepted r h e = absurd (not_accepted r (sym e))
-against_small at (Refused u) r h e = by_number (eqb u.number 13) e
+    → ((u : Refusal) → v ≡ Err u → (u.number < 16) × (u.position < 1024) × (u.earlier ≡ 0)) → against at v ≡ Err r → Small r
+against_small at (Ok _) r h e = absurd (not_accepted r (sym e))
+against_small at (Err u) r h e = by_number (eqb u.number 13) e
   where
-    by_number : (b : Bool) → Refused (cond b (meeting at u.position) u) ≡ Refused r → Small r
+    by_number : (b : Bool) → ◌≡◌ {A = Verdict} (Err (cond b (meeting at u.position) u)) (Err r) → Small r
     by_number true d =
         let z : meeting at u.position ≡ r = cc in
         let most = met_as-most at (earlier_of at u.position) u.position in
@@ -135,24 +134,24 @@ against_small at (Refused u) r h e = by_number (eqb u.number 13) e
         let b = h u refl in
         record { number = omega (arith, k, b.0); position = omega (arith, p, b.1); earlier = omega (arith, q, b.2) }
 
-pub judgement_small : (s : List ℕ) (r : Refusal) → judgement s ≡ Refused r → Small r
+pub judgement_small : (s : List ℕ) (r : Refusal) → judgement s ≡ Err r → Small r
 unfolding judgement
 judgement_small s r e = against_small (record_at s) (verdict s) r (λ u d. verdict_bound s u d) e
 
 -- Where two records are told, the verdict is 13 at the later.
 told_only : (at : ℕ → Record) (v : Verdict) (r : Refusal)
-    → ((u : Refusal) → v ≡ Refused u → (u.number < 16) × (u.position < 1024) × (u.earlier ≡ 0))
-    → against at v ≡ Refused r → tells_of_two r.number ≡ true → v ≡ refused 13 r.position
-told_only at Accepted r h e t = absurd (not_accepted r (sym e))
-told_only at (Refused u) r h e t = by_number (eqb u.number 13) refl e
+    → ((u : Refusal) → v ≡ Err u → (u.number < 16) × (u.position < 1024) × (u.earlier ≡ 0))
+    → against at v ≡ Err r → tells_of_two r.number ≡ true → v ≡ refused 13 r.position
+told_only at (Ok _) r h e t = absurd (not_accepted r (sym e))
+told_only at (Err u) r h e t = by_number (eqb u.number 13) refl e
   where
-    by_number : (b : Bool) → eqb u.number 13 ≡ b → Refused (cond b (meeting at u.position) u) ≡ Refused r
-        → Refused u ≡ refused 13 r.position
+    by_number : (b : Bool) → eqb u.number 13 ≡ b → ◌≡◌ {A = Verdict} (Err (cond b (meeting at u.position) u)) (Err r)
+        → ◌≡◌ {A = Verdict} (Err u) (refused 13 r.position)
     by_number true y d =
         let n = eqb-true u.number 13 y in
         let p : u.position ≡ r.position = ap position_in d in
         let q = (h u refl).2 in
-        λ j. Refused (record { number = n j; position = p j; earlier = q j })
+        λ j. Err (record { number = n j; position = p j; earlier = q j })
     by_number false y d =
         let k : u.number ≡ r.number = ap number_in d in
         let few = (h u refl).0 in
@@ -162,21 +161,21 @@ told_only at (Refused u) r h e t = by_number (eqb u.number 13) refl e
         (sym t
         ∙ rw (ne_eqb r.number 13 (λ z. ne (k ∙ z)), ne_eqb r.number 22 (λ z. omega (arith, k, z, few)), ne_eqb r.number 23 (λ z. omega (arith, k, z, few)))))
 
-pub judgement_told : (s : List ℕ) (r : Refusal) → judgement s ≡ Refused r → tells_of_two r.number ≡ true → verdict s ≡ refused 13 r.position
+pub judgement_told : (s : List ℕ) (r : Refusal) → judgement s ≡ Err r → tells_of_two r.number ≡ true → verdict s ≡ refused 13 r.position
 unfolding judgement
 judgement_told s r e t = told_only (record_at s) (verdict s) r (λ u d. verdict_bound s u d) e t
 
 -- Where none are, the judgement is the verdict.
-untold_same : (at : ℕ → Record) (v : Verdict) (r : Refusal) → against at v ≡ Refused r → tells_of_two r.number ≡ false → v ≡ Refused r
-untold_same at Accepted r e t = absurd (not_accepted r (sym e))
-untold_same at (Refused u) r e t = by_number (eqb u.number 13) e
+untold_same : (at : ℕ → Record) (v : Verdict) (r : Refusal) → against at v ≡ Err r → tells_of_two r.number ≡ false → v ≡ Err r
+untold_same at (Ok _) r e t = absurd (not_accepted r (sym e))
+untold_same at (Err u) r e t = by_number (eqb u.number 13) e
   where
     met_told : (b c : Bool) → tells_of_two (cond b 13 (cond c 23 22)) ≡ true
     met_told true c = refl
     met_told false true = refl
     met_told false false = refl
 
-    by_number : (b : Bool) → Refused (cond b (meeting at u.position) u) ≡ Refused r → Refused u ≡ Refused r
+    by_number : (b : Bool) → ◌≡◌ {A = Verdict} (Err (cond b (meeting at u.position) u)) (Err r) → ◌≡◌ {A = Verdict} (Err u) (Err r)
     by_number true d =
         let q = earlier_of at u.position in
         absurd
@@ -185,6 +184,6 @@ untold_same at (Refused u) r e t = by_number (eqb u.number 13) e
         ∙ ap (λ (v : Verdict). tells_of_two (number_in v)) d ∙ t))
     by_number false d = d
 
-pub judgement_untold : (s : List ℕ) (r : Refusal) → judgement s ≡ Refused r → tells_of_two r.number ≡ false → verdict s ≡ Refused r
+pub judgement_untold : (s : List ℕ) (r : Refusal) → judgement s ≡ Err r → tells_of_two r.number ≡ false → verdict s ≡ Err r
 unfolding judgement
 judgement_untold s r e t = untold_same (record_at s) (verdict s) r e t

@@ -5,13 +5,12 @@
 -- Assumes nothing.
 use Rattle.std.specs.Prelude.{◌≡◌, ℕ, cond, ◌&&◌, List, [], eqb}
 use Rattle.kinds.specs.declared.answers.Refusal.{Refusal}
-use Rattle.kinds.specs.Given.{spoken_pair}
+use Rattle.kinds.specs.Given.{spoken_pair, Verdict}
 use Rattle.component.specs.declared.Record.{Record}
-use Rattle.component.specs.declared.Verdict.{Verdict}
-use Rattle.component.specs.declared.Verdict.TheVariants.{Accepted, Refused}
 use Rattle.component.specs.Record.{record_at}
 use Rattle.component.specs.Drawing.{earlier_of}
 use Rattle.flatten.specs.Verdict.{verdict, verdict_gives}
+use Rattle.std.specs.Prelude.{Ok, Err}
 
 module _ (at : ℕ → Record) where
   -- "13 stays for two connections", "22 connection and map, 23 two maps".
@@ -24,8 +23,8 @@ module _ (at : ℕ → Record) where
 
   -- The three numbers are "made in the place of 13"; any other names no earlier record.
   abbrev pub against : Verdict → Verdict
-  against Accepted = Accepted
-  against (Refused r) = Refused (cond (eqb r.number 13) (meeting r.position) r)
+  against (Ok _) = Ok tt
+  against (Err r) = Err (cond (eqb r.number 13) (meeting r.position) r)
 
 -- What a file's bytes are judged to be; check 2 is not made.
 unfoldable pub judgement : List ℕ → Verdict

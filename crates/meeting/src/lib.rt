@@ -4,13 +4,12 @@
 
 ghost use Rattle.std.specs.Prelude.{◌≡◌, length};
 ghost use Rattle.component.specs.Record.{record_at};
-ghost use Rattle.component.specs.declared.Verdict.TheVariants.{Accepted};
 ghost use Rattle.component.specs.Reading.{form_of};
 ghost use Rattle.index.specs.Index.{IsIndex};
 ghost use Rattle.meeting.specs.Meeting.{met_as, meeting, against, Judges};
 
 use checks::earlier_of;
-use component::{Reading, Says, Verdict, record_at};
+use component::{Reading, Says, record_at};
 use kinds::Refusal;
 
 // The kind of the record at a position, 1 to 4; 0 where check 3 refuses it.
@@ -57,31 +56,31 @@ fn meeting(file: &[u8], position: u32) -> Refusal
 }
 
 // A verdict with 13 split by what the two records are, and the earlier of them named.
-fn against(file: &[u8], verdict: Verdict) -> Verdict
+fn against(file: &[u8], verdict: Result<(), Refusal>) -> Result<(), Refusal>
     ensures { result ≡ against (record_at file.now) verdict }
 {
-    let Verdict::Refused(refusal) = verdict else {
+    let Err(refusal) = verdict else {
         return verdict;
     };
     if refusal.number != 13 {
         return verdict;
     }
-    Verdict::Refused(meeting(file, refusal.position))
+    Err(meeting(file, refusal.position))
 }
 
 // What a file's bytes are judged to be; the lent index, of 3,072 words, is filled where the file is accepted.
 // `judge` calls it, crate load, which has the wires laid with the same index, and crate slow, which works them out with it.
-pub fn judge_indexed(file: &[u8], index: &mut [u16]) -> Verdict
+pub fn judge_indexed(file: &[u8], index: &mut [u16]) -> Result<(), Refusal>
     requires { length index.old ≡ 3072 }
     ensures judges { Judges file.now result }
-    ensures index { result ≡ Accepted → IsIndex file.now index.new }
+    ensures index { result ≡ Ok tt → IsIndex file.now index.new }
 {
     let verdict = flatten::verdict_indexed(file, index);
     against(file, verdict)
 }
 
 // What a file's bytes are judged to be.
-pub fn judge(file: &[u8]) -> Verdict
+pub fn judge(file: &[u8]) -> Result<(), Refusal>
     ensures { Judges file.now result }
 {
     let mut index = [0u16; 3072];

@@ -14,15 +14,13 @@ use Rattle.lists.specs.Lists.{within, overlay}
 use Rattle.lists.proofs.TestsLaws.{or_cases, or_left, or_right, and_both}
 use Rattle.lists.proofs.OverlayLaws.{overlay_front}
 use Rattle.kinds.specs.declared.answers.Refusal.{Refusal}
-use Rattle.kinds.specs.Given.{refused_by}
-use Rattle.component.specs.declared.Verdict.{Verdict}
-use Rattle.component.specs.declared.Verdict.TheVariants.{Accepted, Refused}
+use Rattle.kinds.specs.Given.{refused_by, Verdict}
 use Rattle.component.specs.Record.{record_count}
 use Rattle.flatten.specs.Verdict.{verdict_gives, list_by}
 use Rattle.flatten.proofs.JudgementLaws.{verdict_gives-is}
 use Rattle.meeting.specs.Meeting.{judgement, Judges}
-use Rattle.mend.specs.declared.Mended.TheVariants.{Done, Refused as NotMended}
 use Rattle.mend.specs.Mend.{mended, dropped, mend_verdict, Mends}
+use Rattle.std.specs.Prelude.{Ok, Err}
 
 -- What was written at the front.
 pub front : (xs t u : List ℕ) (k : ℕ) → u ≡ overlay xs t → k ≡ length xs → take (k - 0) u ≡ xs
@@ -59,7 +57,7 @@ module _ (file out list : List ℕ) where
   found = mend_verdict file out list
 
   -- a refusal writes nothing
-  refuses : (r : Refusal) → found ≡ Refused r → Mends file out list (NotMended r) out list
+  refuses : (r : Refusal) → found ≡ Err r → Mends file out list (Err r) out list
   refuses r e = (
     ap (λ (v : Verdict). verdict_gives v (length (mended file) ∷ length (dropped file) ∷ [])) (sym e),
     ap (λ (v : Verdict). list_by v (mended file) out) (sym e),
@@ -68,9 +66,9 @@ module _ (file out list : List ℕ) where
 
   -- 1
   pub mends_size : (r : Refusal) → (ltb (record_count file) 1 || ltb 1024 (record_count file)) ≡ true → r ≡ refused_by 1
-      → Mends file out list (NotMended r) out list
+      → Mends file out list (Err r) out list
   unfolding mend_verdict
-  mends_size r h e = refuses r (rw (outside 1 1024 (record_count file) h) (ap Refused (sym e)))
+  mends_size r h e = refuses r (rw (outside 1 1024 (record_count file) h) (ap Err (sym e)))
 
   module _ (whole : (ltb (record_count file) 1 || ltb 1024 (record_count file)) ≡ false) where
     pub few : record_count file ≤ 1024
@@ -78,11 +76,11 @@ module _ (file out list : List ℕ) where
 
     -- 2
     pub mends_short : (r : Refusal) → (ltb (length out) (length file) || ltb (length list) 1025) ≡ true → r ≡ refused_by 2
-        → Mends file out list (NotMended r) out list
+        → Mends file out list (Err r) out list
     unfolding mend_verdict
     mends_short r h e =
         refuses r
-        (rw (inside 1 1024 (record_count file) whole, short (length file) (length out) 1025 (length list) h) (ap Refused (sym e)))
+        (rw (inside 1 1024 (record_count file) whole, short (length file) (length out) 1025 (length list) h) (ap Err (sym e)))
 
     -- there is room
     pub fits_out : (ltb (length out) (length file) || ltb (length list) 1025) ≡ false → 24 * record_count file ≤ length out
@@ -99,12 +97,12 @@ module _ (file out list : List ℕ) where
           (sym (verdict_gives-is v (judgement (mended file)) judged))
 
       -- still refused
-      pub mends_refused : (r : Refusal) → v ≡ Refused r → Mends file out list (NotMended r) out list
+      pub mends_refused : (r : Refusal) → v ≡ Err r → Mends file out list (Err r) out list
       mends_refused r e = refuses r (judged_is ∙ e)
 
       -- mended
-      pub mends_done : (b k : ℕ) (out' list' : List ℕ) → v ≡ Accepted → out' ≡ overlay (mended file) out → b ≡ length (mended file)
-          → list' ≡ overlay (dropped file) list → k ≡ length (dropped file) → Mends file out list (Done b k) out' list'
+      pub mends_done : (b k : ℕ) (out' list' : List ℕ) → v ≡ Ok tt → out' ≡ overlay (mended file) out → b ≡ length (mended file)
+          → list' ≡ overlay (dropped file) list → k ≡ length (dropped file) → Mends file out list (Ok (record { bytes = b; positions = k })) out' list'
       mends_done b k out' list' e eo eb el ek = (
         rw (judged_is ∙ e, eb, ek) refl,
         eo ∙ ap (λ (x : Verdict). list_by x (mended file) out) (sym (judged_is ∙ e)),

@@ -8,15 +8,15 @@
 use Rattle.std.specs.Prelude.{◌≡◌, ℕ, ◌%◌, Bool, cond, not, ◌&&◌, ◌||◌, length, get_or, eqb, leb}
 use mathlib.Core.List.{List, [], ◌∷◌, ◌++◌, foldl}
 use Rattle.lists.specs.Lists.{within, from, keep, any, joined, has}
-use Rattle.kinds.specs.Given.{Given, done, declined}
+use Rattle.kinds.specs.Given.{Given, done, declined, Verdict}
 use Rattle.component.specs.declared.Record.{Record}
-use Rattle.component.specs.declared.Verdict.{Verdict}
 use Rattle.component.specs.Record.{part_at, loose_at, record_count, composite, entering, entering_as}
 use Rattle.component.specs.Drawing.{is_component, missing}
 use Rattle.flatten.specs.Verdict.{refused, verdict_gives, list_by}
 use Rattle.meeting.specs.Meeting.{judgement}
 use Rattle.mend.specs.declared.Mended.{Mended}
-use Rattle.mend.specs.declared.Mended.TheVariants.{Done, Refused as NotMended}
+use Rattle.std.specs.Prelude.{Result, Ok, Err}
+use Rattle.kinds.specs.declared.answers.Refusal.{Refusal}
 
 module _ (at : ℕ → Record) (n : ℕ) where
   -- "the file's component records", in file order, wherever they stand.
@@ -65,13 +65,13 @@ mend_verdict file out list =
     (cond (leb (length file) (length out) && leb 1025 (length list)) (judgement (mended file)) (refused 2 0)) (refused 1 0)
 
 -- What each answer gives: how many bytes are written and how many positions are dropped.
-abbrev pub mend_gives : Mended → Given
-mend_gives (Done bytes positions) = done (bytes ∷ positions ∷ [])
-mend_gives (NotMended r) = declined r
+abbrev pub mend_gives : Result Mended Refusal → Given
+mend_gives (Ok a) = done (a.bytes ∷ a.positions ∷ [])
+mend_gives (Err r) = declined r
 
 -- The promise of `mend`: its answer r gives what the checks find and how much is written; out' and list' are the buffer and the list afterwards. "if still
 -- refused .. nothing is written".
-abbrev pub Mends : List ℕ → List ℕ → List ℕ → Mended → List ℕ → List ℕ → Type 0
+abbrev pub Mends : List ℕ → List ℕ → List ℕ → Result Mended Refusal → List ℕ → List ℕ → Type 0
 Mends file out list r out' list' =
     let found = mend_verdict file out list in
     (mend_gives r ≡ verdict_gives found (length (mended file) ∷ length (dropped file) ∷ []))

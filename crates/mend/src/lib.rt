@@ -5,12 +5,11 @@ mod copying;
 mod mending;
 mod sifting;
 
-use kinds::Refusal;
 pub use mending::mend;
 
-// How many bytes are written and how many positions are dropped, or the refusal.
+// How many bytes are written and how many positions are dropped.
 #[derive(Clone, Copy)]
-pub enum Mended {
-    Done { bytes: usize, positions: usize },
-    Refused(Refusal),
+pub struct Mended {
+    pub bytes: usize,
+    pub positions: usize,
 }

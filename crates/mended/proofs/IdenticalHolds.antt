@@ -16,10 +16,8 @@ use Rattle.lists.proofs.TestsLaws.{and_left, and_right, and_right_false}
 use Rattle.lists.proofs.MembersLaws.{any_none, has_complete}
 use Rattle.lists.proofs.MembersLaws.{from0_sound}
 use Rattle.lists.proofs.KeepLaws.{keep_all, keep_no, any_no}
-use Rattle.kinds.specs.Given.{done}
+use Rattle.kinds.specs.Given.{done, Verdict}
 use Rattle.component.specs.declared.Record.{Record}
-use Rattle.component.specs.declared.Verdict.{Verdict}
-use Rattle.component.specs.declared.Verdict.TheVariants.{Accepted}
 use Rattle.component.specs.Record.{record_at, loose_at, record_count, part_at, sized, entering, entering_as}
 use Rattle.component.specs.Reading.{form_of}
 use Rattle.component.proofs.EnteringLaws.{enters_as}
@@ -29,7 +27,6 @@ use Rattle.flatten.proofs.Components.{components_first, owner_composite}
 use Rattle.meeting.specs.Meeting.{judgement}
 use Rattle.meeting.proofs.MeetingLaws.{judgement_accepted, accepted_judgement}
 use Rattle.mend.specs.declared.Mended.{Mended}
-use Rattle.mend.specs.declared.Mended.TheVariants.{Done}
 use Rattle.mend.specs.Mend.{refused12, kept_records, kept, mended, dropped, mend_verdict, mend_gives, Mends}
 use Rattle.mend.specs.Sifting.{drops_plainly}
 use Rattle.mend.proofs.AnswerLaws.{mend_gives-is}
@@ -37,6 +34,8 @@ use Rattle.mend.proofs.KeptLaws.{kept_records_lem}
 use Rattle.mended.specs.Owed.{MendIdentical}
 use Rattle.component.proofs.LooseLaws.{loose_none, loose_strict}
 use Rattle.mended.proofs.Numbered.{refused12_same}
+use Rattle.std.specs.Prelude.{Result, Ok}
+use Rattle.kinds.specs.declared.answers.Refusal.{Refusal}
 
 -- The parts of a file of whole records, one after the other, are the file.
 parts_from : (file : List ℕ) (q k : ℕ) → length file ≡ 24 * (q + k) → joined (part_at file) (from q k) ≡ drop (24 * q) file
@@ -47,7 +46,7 @@ parts_from file q (suc k) h =
     (parts_from file (suc q) k (omega (arith, h)) ∙ ap (λ (j : ℕ). drop j file) (sym e) ∙ sym (drop-drop 24 (24 * q) file))
     ∙ take-append-drop 24 (drop (24 * q) file)
 
-module _ (file : List ℕ) (accepted : verdict file ≡ Accepted) where
+module _ (file : List ℕ) (accepted : verdict file ≡ Ok tt) where
   abbrev n : ℕ
   n = record_count file
 
@@ -125,14 +124,14 @@ module _ (file : List ℕ) (accepted : verdict file ≡ Accepted) where
       (ap (λ (l : List ℕ). l ++ []) (keep_no (λ p. not (has p (kept file))) (from 0 n)
       (λ p u. ap not (ap (has p) kept_all ∙ has_complete p (from 0 n) u))))
 
-  module _ (out list out' list' : List ℕ) (r : Mended) (a : length file ≤ length out) (b : 1025 ≤ length list)
+  module _ (out list out' list' : List ℕ) (r : Result Mended Refusal) (a : length file ≤ length out) (b : 1025 ≤ length list)
       (m : Mends file out list r out' list') where
     found : mend_verdict file out list ≡ judgement (mended file)
     unfolding mend_verdict
     found =
         rw (le-leb 1 n (omega (arith, whole, some_bytes)), le-leb n 1024 most, le-leb (length file) (length out) a, le-leb 1025 (length list) b)
 
-    is_accepted : mend_verdict file out list ≡ Accepted
+    is_accepted : mend_verdict file out list ≡ Ok tt
     is_accepted = found ∙ ap judgement mended_same ∙ accepted_judgement file accepted
 
     given : mend_gives r ≡ done (length file ∷ 0 ∷ [])
@@ -156,7 +155,7 @@ mend_identical file judged =
       mended_same file accepted,
       dropped_none file accepted,
       λ out list out' list' r a b m. (
-        mend_gives-is r (Done (length file) 0) (given file accepted out list out' list' r a b m),
+        mend_gives-is r (Ok (record { bytes = length file; positions = 0 })) (given file accepted out list out' list' r a b m),
         written file accepted out list out' list' r a b m,
         unwritten file accepted out list out' list' r a b m,
       ),

@@ -18,7 +18,6 @@ use Rattle.lists.proofs.OverlayLaws.{map_indexes}
 use Rattle.lists.proofs.KeepLaws.{any_sound, keep_keep, keep_map, keep_rises}
 use Rattle.kinds.specs.Given.{tells_of_two}
 use Rattle.component.specs.declared.Record.{Record}
-use Rattle.component.specs.declared.Verdict.TheVariants.{Refused}
 use Rattle.component.specs.Record.{record_at, loose_at, record_count, composite, entering, entering_as}
 use Rattle.component.specs.Reading.{form_of}
 use Rattle.component.specs.Drawing.{is_component, missing, fails12, fails13}
@@ -36,6 +35,7 @@ use Rattle.mended.specs.Owed.{MendNever}
 use Rattle.component.proofs.LooseLaws.{loose_none, loose_strict}
 use Rattle.mended.proofs.Parts.{kept_sound, kept_at, mended_count, mended_loose}
 use Rattle.mended.proofs.Numbered.{refused12_same}
+use Rattle.std.specs.Prelude.{Err}
 
 -- A record that enters is one by its byte 0 too.
 enters_loose : (file : List ℕ) (p : ℕ) → entering (record_at file p) ≡ true → loose_at file p ≡ record_at file p
@@ -194,10 +194,10 @@ mend_never file r e = by_told (tells_of_two r.number) refl
       where
         twelve : r.number ≡ 12 → (record_at (mended file) r.position).form ≡ 4
         twelve z =
-            let v : verdict (mended file) ≡ Refused r = judgement_untold (mended file) r e t in
+            let v : verdict (mended file) ≡ Err r = judgement_untold (mended file) r e t in
             let none = (verdict_bound (mended file) r v).2 in
-            let same : Refused r ≡ refused 12 r.position =
-            λ j. Refused (record { number = z j; position = r.position; earlier = none j }) in
+            let same : Err r ≡ refused 12 r.position =
+            λ j. Err (record { number = z j; position = r.position; earlier = none j }) in
             let k = verdict_first (mended file) 12 r.position (λ u. omega (arith, u)) (v ∙ same) in
             let f = first_at (fails12 (record_at (mended file)) (record_count (mended file))) 0 (record_count (mended file)) r.position k.found in
             fails_output file k.passed r.position (omega (arith, f.most)) f.passes

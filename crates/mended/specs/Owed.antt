@@ -11,26 +11,25 @@ use Rattle.lists.specs.Lists.{from, keep, has, overlay}
 use Rattle.kinds.specs.declared.answers.Refusal.{Refusal}
 use Rattle.kinds.specs.Given.{tells_of_two}
 use Rattle.component.specs.declared.Record.{Record}
-use Rattle.component.specs.declared.Verdict.TheVariants.{Accepted, Refused}
 use Rattle.component.specs.Record.{record_at, record_count, part_at}
 use Rattle.meeting.specs.Meeting.{judgement}
 use Rattle.mend.specs.declared.Mended.{Mended}
-use Rattle.mend.specs.declared.Mended.TheVariants.{Done}
 use Rattle.mend.specs.Mend.{kept_records, kept, mended, dropped, Mends}
 use Rattle.mend.specs.Sifting.{drops_plainly}
+use Rattle.std.specs.Prelude.{Result, Ok, Err}
 
 -- "an accepted file comes out identical": it is what stands at the front of the buffer, and the list is as it was.
 abbrev pub MendIdentical : Type 0
 MendIdentical =
-    (file : List ℕ) → judgement file ≡ Accepted
+    (file : List ℕ) → judgement file ≡ Ok tt
     → (mended file ≡ file) × (dropped file ≡ [])
-    × ((out list out' list' : List ℕ) (r : Mended) → length file ≤ length out → 1025 ≤ length list → Mends file out list r out' list'
-    → (r ≡ Done (length file) 0) × (out' ≡ overlay file out) × (list' ≡ list))
+    × ((out list out' list' : List ℕ) (r : Result Mended Refusal) → length file ≤ length out → 1025 ≤ length list → Mends file out list r out' list'
+    → (r ≡ Ok (record { bytes = length file; positions = 0 })) × (out' ≡ overlay file out) × (list' ≡ list))
 
 -- After mending no two records meet, and check 12 refuses only an output map.
 abbrev pub MendNever : Type 0
 MendNever =
-    (file : List ℕ) (r : Refusal) → judgement (mended file) ≡ Refused r
+    (file : List ℕ) (r : Refusal) → judgement (mended file) ≡ Err r
     → (tells_of_two r.number ≡ false) × (r.number ≡ 12 → (record_at (mended file) r.position).form ≡ 4)
 
 -- "kept records stand in order with their bytes", and each whole record is either kept or dropped, the part record dropped.
@@ -55,5 +54,5 @@ MendRoom = (file : List ℕ) → record_count file ≤ 1024 → (length (mended 
 -- What a mending that is not refused has written is an accepted drawing.
 abbrev pub MendAccepted : Type 0
 MendAccepted =
-    (file out list out' list' : List ℕ) (bytes positions : ℕ) → Mends file out list (Done bytes positions) out' list'
-    → (judgement (take bytes out') ≡ Accepted) × (take bytes out' ≡ mended file) × (take positions list' ≡ dropped file)
+    (file out list out' list' : List ℕ) (bytes positions : ℕ) → Mends file out list (Ok (record { bytes = bytes; positions = positions })) out' list'
+    → (judgement (take bytes out') ≡ Ok tt) × (take bytes out' ≡ mended file) × (take positions list' ≡ dropped file)

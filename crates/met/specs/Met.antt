@@ -6,10 +6,10 @@ use Rattle.std.specs.Prelude.{◌≡◌, ℕ, ◌<◌, true, List, ◌↔◌}
 use Rattle.kinds.specs.declared.answers.Refusal.{Refusal}
 use Rattle.kinds.specs.Given.{tells_of_two}
 use Rattle.component.specs.declared.Record.{Record}
-use Rattle.component.specs.declared.Verdict.TheVariants.{Accepted, Refused}
 use Rattle.component.specs.Record.{record_at, entering, entering_as}
 use Rattle.flatten.specs.Verdict.{refused, verdict}
 use Rattle.meeting.specs.Meeting.{judgement}
+use Rattle.std.specs.Prelude.{Ok, Err}
 
 -- Two records that meet: both enter the same input, the earlier is the only one before that does, and the number says what they are.
 pub record Meets (at : ℕ → Record) (p : ℕ) (r : Refusal) : Type 0 where
@@ -28,7 +28,7 @@ pub record Meets (at : ℕ → Record) (p : ℕ) (r : Refusal) : Type 0 where
 abbrev pub Split : Type 0
 Split =
     (file : List ℕ)
-    → (judgement file ≡ Accepted ↔ verdict file ≡ Accepted)
+    → (judgement file ≡ Ok tt ↔ verdict file ≡ Ok tt)
     × ((k p : ℕ) → (k ≡ 13 → ⊥) → verdict file ≡ refused k p → judgement file ≡ refused k p)
-    × ((p : ℕ) → verdict file ≡ refused 13 p → (r : Refusal) × (judgement file ≡ Refused r) × Meets (record_at file) p r)
-    × ((r : Refusal) → judgement file ≡ Refused r → tells_of_two r.number ≡ true → verdict file ≡ refused 13 r.position)
+    × ((p : ℕ) → verdict file ≡ refused 13 p → (r : Refusal) × (judgement file ≡ Err r) × Meets (record_at file) p r)
+    × ((r : Refusal) → judgement file ≡ Err r → tells_of_two r.number ≡ true → verdict file ≡ refused 13 r.position)

@@ -15,13 +15,13 @@ use Rattle.lists.proofs.ListsLaws.{refusal_first, refusal_rest, every_fails, eve
 use Rattle.lists.proofs.TestsLaws.{or_left, or_right}
 use Rattle.value.specs.Value.{of_width, fits_in}
 use Rattle.kinds.specs.declared.table.Fields.{Fields}
-use Rattle.primitive.specs.declared.Evaluated.{Evaluated}
-use Rattle.primitive.specs.declared.Evaluated.TheVariants.{Done, Refused}
 use Rattle.kinds.proofs.GivenLaws.{done_values, done_declined, declined_refusal}
 use Rattle.kinds.specs.Kinds.{for_custom, unknown, primitive, obeys, input_width, output_width}
 use Rattle.primitive.specs.Evaluate.{fitting, outputs_after, evaluate_number, evaluate_outputs, evaluated_gives}
 use Rattle.primitive.specs.Own.{Own}
 use Rattle.kinds.specs.Given.{giving}
+use Rattle.std.specs.Prelude.{Result, Ok, Err}
+use Rattle.kinds.specs.declared.answers.Refusal.{Refusal}
 
 -- Value i fits a port of w bits.
 abbrev pub fits_at : ℕ → List ℕ → List ℕ → ℕ → Bool
@@ -139,7 +139,7 @@ module _ (f : Fields) (xs vs ys ws : List ℕ) where
 
   -- The outcome of a refusal: the outputs are as they were.
   module _ (n : ℕ) (e : n ≡ evaluate_number f xs vs ys ws) (h : n ≡ 0 → ⊥) where
-    pub refused_answer : (bits : ℕ) → evaluated_gives (Refused (record { number = n; position = 0; earlier = 0 })) ≡ giving (evaluate_number f xs vs ys ws) (bits ∷ [])
+    pub refused_answer : (bits : ℕ) → evaluated_gives (Err (record { number = n; position = 0; earlier = 0 })) ≡ giving (evaluate_number f xs vs ys ws) (bits ∷ [])
     refused_answer bits = rw (← e, ne_eqb n 0 h)
 
     pub refused_outputs : (t : ℕ) → ys ≡ evaluate_outputs f xs vs ys ws t
@@ -148,7 +148,7 @@ module _ (f : Fields) (xs vs ys ws : List ℕ) where
 
   -- The outcome of an evaluation: the component's outputs are laid over the lent ones.
   module _ (z : evaluate_number f xs vs ys ws ≡ 0) where
-    pub done_answer : (r bits : ℕ) → r ≡ bits → evaluated_gives (Done r) ≡ giving (evaluate_number f xs vs ys ws) (bits ∷ [])
+    pub done_answer : (r bits : ℕ) → r ≡ bits → evaluated_gives (Ok r) ≡ giving (evaluate_number f xs vs ys ws) (bits ∷ [])
     done_answer r bits e = rw (z, e)
 
     pub done_outputs : (zs : List ℕ) (t : ℕ) → zs ≡ outputs_after f (take f.inputs xs) (take f.outputs ys) t → length zs ≡ f.outputs
@@ -160,8 +160,8 @@ module _ (f : Fields) (xs vs ys ws : List ℕ) where
         laid h = rw (← l) (sym (sets-eq zs ys 0 (omega arith) ∙ rw zero-add))
 
 -- Answers that give the same are the same.
-pub evaluated_gives-is : (a b : Evaluated) → evaluated_gives a ≡ evaluated_gives b → a ≡ b
-evaluated_gives-is (Done a) (Done b) e = ap (λ (xs : List ℕ). Done (get_or xs 0 0)) (done_values (a ∷ []) (b ∷ []) e)
-evaluated_gives-is (Done a) (Refused r) e = absurd (done_declined (a ∷ []) r e)
-evaluated_gives-is (Refused r) (Done a) e = absurd (done_declined (a ∷ []) r (sym e))
-evaluated_gives-is (Refused r) (Refused s) e = ap Refused (declined_refusal r s e)
+pub evaluated_gives-is : (a b : Result ℕ Refusal) → evaluated_gives a ≡ evaluated_gives b → a ≡ b
+evaluated_gives-is (Ok a) (Ok b) e = ap (λ (xs : List ℕ). Ok (get_or xs 0 0)) (done_values (a ∷ []) (b ∷ []) e)
+evaluated_gives-is (Ok a) (Err r) e = absurd (done_declined (a ∷ []) r e)
+evaluated_gives-is (Err r) (Ok a) e = absurd (done_declined (a ∷ []) r (sym e))
+evaluated_gives-is (Err r) (Err s) e = ap Err (declined_refusal r s e)

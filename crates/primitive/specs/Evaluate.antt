@@ -12,10 +12,10 @@ use Rattle.value.specs.Value.{level, bit_of, complement, of_width, fits_in}
 use Rattle.kinds.specs.declared.Kind.{Kind}
 use Rattle.kinds.specs.declared.Kind.TheVariants.{Composite, And, Or, Not, Nand, Nor, Xor, Switch, Input, Output, Splitter, Joiner, Clock, Const, Majority}
 use Rattle.kinds.specs.declared.table.Fields.{Fields}
-use Rattle.primitive.specs.declared.Evaluated.{Evaluated}
-use Rattle.primitive.specs.declared.Evaluated.TheVariants.{Done, Refused}
 use Rattle.kinds.specs.Given.{Given, done, declined, giving}
 use Rattle.kinds.specs.Kinds.{kind_of, for_custom, unknown, is, primitive, obeys, input_width, output_width}
+use Rattle.std.specs.Prelude.{Result, Ok, Err}
+use Rattle.kinds.specs.declared.answers.Refusal.{Refusal}
 
 -- How many ports are high: not 0.
 abbrev pub highs : List ℕ → ℕ
@@ -101,12 +101,12 @@ evaluate_outputs f xs vs ys ws t =
     cond (eqb (evaluate_number f xs vs ys ws) 0) (sets ys 0 (outputs_after f (take f.inputs xs) (take f.outputs ys) t)) ys
 
 -- What each answer gives: which outputs changed.
-abbrev pub evaluated_gives : Evaluated → Given
-evaluated_gives (Done bits) = done (bits ∷ [])
-evaluated_gives (Refused r) = declined r
+abbrev pub evaluated_gives : Result ℕ Refusal → Given
+evaluated_gives (Ok bits) = done (bits ∷ [])
+evaluated_gives (Err r) = declined r
 
 -- The promise of `evaluate`: its answer r, and the output numbers zs afterwards.
-abbrev pub Evaluates : Fields → List ℕ → List ℕ → List ℕ → List ℕ → ℕ → Evaluated → List ℕ → Type 0
+abbrev pub Evaluates : Fields → List ℕ → List ℕ → List ℕ → List ℕ → ℕ → Result ℕ Refusal → List ℕ → Type 0
 Evaluates f xs vs ys ws t r zs =
     (evaluated_gives r ≡ giving (evaluate_number f xs vs ys ws) (moved_outputs f (take f.inputs xs) (take f.outputs ys) t ∷ []))
     × (zs ≡ evaluate_outputs f xs vs ys ws t)

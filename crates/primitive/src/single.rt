@@ -2,10 +2,9 @@
 ghost use Rattle.std.specs.Prelude.{◌≡◌, ◌≤◌, length};
 ghost use Rattle.primitive.specs.Evaluate.{fitting, evaluate_number, Evaluates};
 
-use crate::Evaluated;
 use crate::rules::update;
 use kinds::{
-    Fields, input_width, is_kept, is_primitive, is_unknown, obeys, output_width, refused_by,
+    Fields, Refusal, input_width, is_kept, is_primitive, is_unknown, obeys, output_width, refused_by,
 };
 use value::Value;
 
@@ -70,15 +69,15 @@ pub fn evaluate(
     outputs: &mut [u64],
     leaving: &[u64],
     time: u64,
-) -> Evaluated
+) -> Result<u64, Refusal>
     ensures { Evaluates f inputs.now entering.now outputs.old leaving.now time result outputs.new }
 {
     let number = evaluate_number(f, inputs, entering, outputs, leaving);
     if number != 0 {
-        return Evaluated::Refused(refused_by(number));
+        return Err(refused_by(number));
     }
     let n = f.inputs as usize;
     let m = f.outputs as usize;
     let moved = update(f, &inputs[..n], &mut outputs[..m], time);
-    Evaluated::Done(moved)
+    Ok(moved)
 }

@@ -25,13 +25,6 @@ use Rattle.net.proofs.ClausesLaws.{kinds_obeyed-fit}
 use Rattle.net.proofs.NetLaws.{net_number-net}
 use Rattle.questions.specs.declared.Side.{Side}
 use Rattle.questions.specs.declared.Side.TheVariants.{Inputs, Outputs}
-use Rattle.questions.specs.declared.Whether.TheVariants.{Is as WhetherIs, Refused as NoWhether}
-use Rattle.questions.specs.declared.Index.{Index}
-use Rattle.questions.specs.declared.Index.TheVariants.{Refused as NoIndex}
-use Rattle.questions.specs.declared.Port.{Port}
-use Rattle.questions.specs.declared.Port.TheVariants.{Is as PortIs, Refused as NoPort}
-use Rattle.questions.specs.declared.Listed.{Listed}
-use Rattle.questions.specs.declared.Listed.TheVariants.{Count, Refused as NotListed}
 use Rattle.questions.specs.Questions.{of_net, whether_gives, index_gives, index_found, AsksIndex, port_count, value_at, value_gives, value_on_net, AsksValue}
 use Rattle.questions.specs.Questions.{list_number, Listing, AsksSources, AsksTargets}
 use Rattle.questions.specs.declared.Tip.{Tip}
@@ -41,6 +34,9 @@ use Rattle.rounds.proofs.Sound.{net_sound, wire_in_lem}
 use Rattle.rounds.proofs.RoundLaws.{net_rows}
 use Rattle.net.proofs.NetLaws.{number_refused, number_net, number_passed}
 use Rattle.questions.proofs.EndsLaws.{sources_met, targets_met}
+use Rattle.std.specs.Prelude.{Result, Ok, Err}
+use Rattle.tables.specs.declared.FlatIdx.{FlatIdx}
+use Rattle.kinds.specs.declared.answers.Refusal.{Refusal}
 
 -- What a net gives: a component's row, and the ends of its wires.
 module _ (T : Tables) (z : net_number T ≡ 0) where
@@ -66,17 +62,17 @@ of_net_lem T g z = rw z
 
 -- Whether a net has the property b: calm, satisfied.
 module _ (T : Tables) (b : Bool) where
-  pub whether_refused : (k : ℕ) → k ≡ net_number T → (k ≡ 0 → ⊥) → whether_gives (NoWhether (refused_by k)) ≡ of_net T (done (level b ∷ []))
+  pub whether_refused : (k : ℕ) → k ≡ net_number T → (k ≡ 0 → ⊥) → whether_gives (Err (refused_by k)) ≡ of_net T (done (level b ∷ []))
   whether_refused = of_refused T (done (level b ∷ []))
 
-  pub whether_is : (x : Bool) → net_number T ≡ 0 → x ≡ b → whether_gives (WhetherIs x) ≡ of_net T (done (level b ∷ []))
+  pub whether_is : (x : Bool) → net_number T ≡ 0 → x ≡ b → whether_gives (Ok x) ≡ of_net T (done (level b ∷ []))
   whether_is x z e = ap (λ (y : Bool). done (level y ∷ [])) e ∙ of_net_lem T (done (level b ∷ [])) z
 
 -- The index of an id.
-pub index_refused : (T : Tables) (id k : ℕ) → k ≡ net_number T → (k ≡ 0 → ⊥) → AsksIndex T id (NoIndex (refused_by k))
+pub index_refused : (T : Tables) (id k : ℕ) → k ≡ net_number T → (k ≡ 0 → ⊥) → AsksIndex T id (Err (refused_by k))
 index_refused T id = of_refused T (index_found (index_of T id))
 
-pub index_found_lem : (T : Tables) (id : ℕ) (r : Index) → net_number T ≡ 0
+pub index_found_lem : (T : Tables) (id : ℕ) (r : Result FlatIdx Refusal) → net_number T ≡ 0
     → index_gives r ≡ index_found (first (λ i. eqb (id_at T i) id) (indexes T))
     → AsksIndex T id r
 unfolding index_of
@@ -84,7 +80,7 @@ index_found_lem T id r z e = e ∙ of_net_lem T (index_found (index_of T id)) z
 
 -- A port's value.
 module _ (T : Tables) (side : Side) (i p : ℕ) where
-  pub value_refused : (k : ℕ) → k ≡ net_number T → (k ≡ 0 → ⊥) → AsksValue T side i p (NoPort (refused_by k))
+  pub value_refused : (k : ℕ) → k ≡ net_number T → (k ≡ 0 → ⊥) → AsksValue T side i p (Err (refused_by k))
   value_refused = of_refused T (value_on_net T side i p)
 
   lent_value : (side : Side)
@@ -93,7 +89,7 @@ module _ (T : Tables) (side : Side) (i p : ℕ) where
   lent_value Inputs = refl
   lent_value Outputs = refl
 
-  pub value_there : (r : Port) → net_number T ≡ 0
+  pub value_there : (r : Result Value Refusal) → net_number T ≡ 0
       → value_gives r ≡ value_on_net (lent T.components T.inputs T.outputs [] T.counts) side i p
       → AsksValue T side i p r
   value_there r z e = e ∙ lent_value side ∙ of_net_lem T (value_on_net T side i p) z
@@ -130,7 +126,7 @@ module _ (T : Tables) (side : Side) (i p m : ℕ) (w : m ≡ port_count (uncount
   e : m ≡ port_count T side i
   e = w ∙ count_words_lem T side i
 
-  pub value_none : (leb T.counts.components i || leb m p) ≡ true → value_gives (NoPort (refused_by 17)) ≡ value_on_net T side i p
+  pub value_none : (leb T.counts.components i || leb m p) ≡ true → value_gives (Err (refused_by 17)) ≡ value_on_net T side i p
   unfolding value_on_net
   value_none h = rw (← e, h)
 
@@ -139,9 +135,9 @@ module _ (T : Tables) (side : Side) (i p m : ℕ) (w : m ≡ port_count (uncount
     value_port = omega (arith, w, leb-false m p (or_right (leb T.counts.components i) _ h))
 
     pub value_here : (v : Value) → v ≡ value_at (lent T.components T.inputs T.outputs [] no_counts) side i p
-        → value_gives (PortIs v) ≡ value_on_net T side i p
+        → value_gives (Ok v) ≡ value_on_net T side i p
     unfolding value_on_net
-    value_here v u = ap (λ (x : Value). value_gives (PortIs x)) (u ∙ by_side side) ∙ rw (← e, h)
+    value_here v u = ap (λ (x : Value). value_gives (Ok x)) (u ∙ by_side side) ∙ rw (← e, h)
       where
         by_side : (x : Side) → value_at (lent T.components T.inputs T.outputs [] no_counts) x i p ≡ value_at T x i p
         by_side Inputs = refl
@@ -185,14 +181,14 @@ module _ (T : Tables) (i : ℕ) (list : List ℕ) where
 
 -- The answer and the lent list, where m is the number and xs is listed.
 module _ (m : ℕ) (xs list : List ℕ) where
-  pub joined_refused : (k : ℕ) → k ≡ m → (k ≡ 0 → ⊥) → Listing m xs list (NotListed (refused_by k)) list
+  pub joined_refused : (k : ℕ) → k ≡ m → (k ≡ 0 → ⊥) → Listing m xs list (Err (refused_by k)) list
   joined_refused k e ne = rw (← e, ne_eqb k 0 ne) (refl, refl)
 
-  pub joined_listed : (n : ℕ) (u : List ℕ) → m ≡ 0 → (n ≡ length xs) × (u ≡ overlay xs list) → Listing m xs list (Count n) u
+  pub joined_listed : (n : ℕ) (u : List ℕ) → m ≡ 0 → (n ≡ length xs) × (u ≡ overlay xs list) → Listing m xs list (Ok n) u
   joined_listed n u z e = rw z (ap (λ (k : ℕ). done (k ∷ [])) e.0, e.1)
 
 -- Sources and targets are what wires join.
-module _ (T : Tables) (i : ℕ) (list : List ℕ) (r : Listed) (u : List ℕ) where
+module _ (T : Tables) (i : ℕ) (list : List ℕ) (r : Result ℕ Refusal) (u : List ℕ) where
   pub sources_joined : Listing (list_number T i list) (met T.wires T.counts.wires Target Source i T.counts.components) list r u
       → AsksSources T i list r u
   sources_joined e = rw (sources_met T i) e

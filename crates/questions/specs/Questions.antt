@@ -10,39 +10,35 @@ use Rattle.kinds.specs.Given.{Given, done, declined, refused_by, giving}
 use Rattle.tables.specs.Tables.{Tables, fields_at, end_at, input_place, output_place, sources, targets, index_of}
 use Rattle.questions.specs.declared.Side.{Side}
 use Rattle.questions.specs.declared.Side.TheVariants.{Inputs, Outputs}
-use Rattle.questions.specs.declared.Whether.{Whether}
-use Rattle.questions.specs.declared.Whether.TheVariants.{Is as WhetherIs, Refused as NoWhether}
-use Rattle.questions.specs.declared.Index.{Index}
-use Rattle.questions.specs.declared.Index.TheVariants.{Is as IndexIs, Refused as NoIndex}
-use Rattle.questions.specs.declared.Port.{Port}
-use Rattle.questions.specs.declared.Port.TheVariants.{Is as PortIs, Refused as NoPort}
-use Rattle.questions.specs.declared.Listed.{Listed}
-use Rattle.questions.specs.declared.Listed.TheVariants.{Count, Refused as NotListed}
 use Rattle.net.specs.Net.{net_number, on_net}
 use Rattle.rounds.specs.Round.{calm}
 use Rattle.judging.specs.Judged.{judged_named}
+use Rattle.std.specs.Prelude.{Result, Ok, Err}
+use Rattle.tables.specs.declared.FlatIdx.{FlatIdx}
+use Rattle.kinds.specs.declared.answers.Refusal.{Refusal}
+use Rattle.std.specs.Prelude.{Bool}
 
 -- What a question gives of any tables, where it gives g of a net: 2, 16.
 abbrev pub of_net : Tables → Given → Given
 of_net T g = cond (eqb (net_number T) 0) g (declined (refused_by (net_number T)))
 
 -- What each answer gives: whether something is so.
-abbrev pub whether_gives : Whether → Given
-whether_gives (WhetherIs b) = done (level b ∷ [])
-whether_gives (NoWhether r) = declined r
+abbrev pub whether_gives : Result Bool Refusal → Given
+whether_gives (Ok b) = done (level b ∷ [])
+whether_gives (Err r) = declined r
 
 -- The promise of `is_calm`.
-abbrev pub AsksCalm : Tables → Whether → Type 0
+abbrev pub AsksCalm : Tables → Result Bool Refusal → Type 0
 AsksCalm T r = whether_gives r ≡ of_net T (done (level (calm T) ∷ []))
 
 -- The promise of `is_satisfied`.
-abbrev pub AsksSatisfied : Tables → Whether → Type 0
+abbrev pub AsksSatisfied : Tables → Result Bool Refusal → Type 0
 AsksSatisfied T r = whether_gives r ≡ of_net T (done (level (judged_named T) ∷ []))
 
 -- An index.
-abbrev pub index_gives : Index → Given
-index_gives (IndexIs i) = done (i.0 ∷ [])
-index_gives (NoIndex r) = declined r
+abbrev pub index_gives : Result FlatIdx Refusal → Given
+index_gives (Ok i) = done (i.0 ∷ [])
+index_gives (Err r) = declined r
 
 -- An id that was searched for: its index, or 17.
 abbrev pub index_found : Option ℕ → Given
@@ -50,7 +46,7 @@ index_found (some i) = done (i ∷ [])
 index_found none = declined (refused_by 17)
 
 -- The promise of `index_of`: 2, 16, 17.
-abbrev pub AsksIndex : Tables → ℕ → Index → Type 0
+abbrev pub AsksIndex : Tables → ℕ → Result FlatIdx Refusal → Type 0
 AsksIndex T id r = index_gives r ≡ of_net T (index_found (index_of T id))
 
 -- How many ports component i has on a side.
@@ -64,18 +60,18 @@ value_at T Inputs i p = of_width (input_width (fields_at T i)) (get_or T.inputs 
 value_at T Outputs i p = of_width (output_width (fields_at T i)) (get_or T.outputs (output_place T (end_at i p)) 0)
 
 -- What each answer gives of a value: its number and its width.
-abbrev pub value_gives : Port → Given
-value_gives (PortIs v) = done (v.number ∷ v.width ∷ [])
-value_gives (NoPort r) = declined r
+abbrev pub value_gives : Result Value Refusal → Given
+value_gives (Ok v) = done (v.number ∷ v.width ∷ [])
+value_gives (Err r) = declined r
 
 -- A port's value in a net, or 17.
 unfoldable pub value_on_net : Tables → Side → ℕ → ℕ → Given
 value_on_net T side i p =
     cond (leb T.counts.components i || leb (port_count T side i) p) (declined (refused_by 17))
-    (value_gives (PortIs (value_at T side i p)))
+    (value_gives (Ok (value_at T side i p)))
 
 -- The promise of `value_of`: 2, 16, 17.
-abbrev pub AsksValue : Tables → Side → ℕ → ℕ → Port → Type 0
+abbrev pub AsksValue : Tables → Side → ℕ → ℕ → Result Value Refusal → Type 0
 AsksValue T side i p r = value_gives r ≡ of_net T (value_on_net T side i p)
 
 -- Sources and targets into a lent list, full at 256: 2, 16, 17.
@@ -83,18 +79,18 @@ unfoldable pub list_number : Tables → ℕ → List ℕ → ℕ
 list_number T i lent = cond (ltb (length lent) 256) 2 (on_net T (cond (leb T.counts.components i) 17 0))
 
 -- What each answer gives of a list: how many stand in it.
-abbrev pub list_gives : Listed → Given
-list_gives (Count k) = done (k ∷ [])
-list_gives (NotListed r) = declined r
+abbrev pub list_gives : Result ℕ Refusal → Given
+list_gives (Ok k) = done (k ∷ [])
+list_gives (Err r) = declined r
 
 -- The promise of a call of number k that lists xs at the front of the lent list.
-abbrev pub Listing : ℕ → List ℕ → List ℕ → Listed → List ℕ → Type 0
+abbrev pub Listing : ℕ → List ℕ → List ℕ → Result ℕ Refusal → List ℕ → Type 0
 Listing k xs lent r left = (list_gives r ≡ giving k (length xs ∷ [])) × (left ≡ cond (eqb k 0) (overlay xs lent) lent)
 
 -- The promise of `sources_of`.
-abbrev pub AsksSources : Tables → ℕ → List ℕ → Listed → List ℕ → Type 0
+abbrev pub AsksSources : Tables → ℕ → List ℕ → Result ℕ Refusal → List ℕ → Type 0
 AsksSources T i lent r left = Listing (list_number T i lent) (sources T i) lent r left
 
 -- The promise of `targets_of`.
-abbrev pub AsksTargets : Tables → ℕ → List ℕ → Listed → List ℕ → Type 0
+abbrev pub AsksTargets : Tables → ℕ → List ℕ → Result ℕ Refusal → List ℕ → Type 0
 AsksTargets T i lent r left = Listing (list_number T i lent) (targets T i) lent r left

@@ -25,34 +25,6 @@ pub enum Side {
     Outputs,
 }
 
-// Whether something is so.
-#[derive(Clone, Copy)]
-pub enum Whether {
-    Is(bool),
-    Refused(Refusal),
-}
-
-// The index of an id.
-#[derive(Clone, Copy)]
-pub enum Index {
-    Is(FlatIdx),
-    Refused(Refusal),
-}
-
-// A port's value.
-#[derive(Clone, Copy)]
-pub enum Port {
-    Is(Value),
-    Refused(Refusal),
-}
-
-// A component's sources or targets: how many stand in the lent list.
-#[derive(Clone, Copy)]
-pub enum Listed {
-    Count(usize),
-    Refused(Refusal),
-}
-
 // Full size of a list: the most that can be listed.
 const NAMES: usize = 256;
 
@@ -74,18 +46,18 @@ fn comp_at(wire: Wire, tip: Tip) -> usize
 }
 
 // The search by id, among the first `count` components: the sole way from an id to a flat index.
-fn search_id(components: &[u64], count: usize, id: Id) -> Index
+fn search_id(components: &[u64], count: usize, id: Id) -> Result<FlatIdx, Refusal>
     requires { RowsInside components.now count }
     ensures { index_gives result ≡ index_found (first (λ i. eqb (id_in components.now i) id.0) (from 0 count)) }
 {
     let mut i: usize = 0;
     while i < count {
         if tables::has_id(components, i, id) {
-            return Index::Is(FlatIdx(i));
+            return Ok(FlatIdx(i));
         }
         i += 1;
     }
-    Index::Refused(refused_by(17))
+    Err(refused_by(17))
 }
 
 // Marks the component at the far end of each wire that has component i at its near end.
@@ -195,17 +167,17 @@ fn value_in(
     side: Side,
     i: usize,
     port: usize,
-) -> Port
+) -> Result<Value, Refusal>
     requires { i < counts.components → RowRight components.now inputs.now outputs.now i }
     ensures { value_gives result ≡ value_on_net (lent components.now inputs.now outputs.now [] counts) side i port }
 {
     if counts.components <= i {
-        return Port::Refused(refused_by(17));
+        return Err(refused_by(17));
     }
     if port_count(components, side, i) <= port {
-        return Port::Refused(refused_by(17));
+        return Err(refused_by(17));
     }
-    Port::Is(value_at(components, inputs, outputs, side, i, port))
+    Ok(value_at(components, inputs, outputs, side, i, port))
 }
 
 // What the questions for sources and targets check: 2, with the list that is lent for the answer; 16; 17.
@@ -253,7 +225,7 @@ fn list_joined(
     far: Tip,
     i: usize,
     list: &mut [u16],
-) -> Listed
+) -> Result<usize, Refusal>
     ensures { let before = tables_of components.now inputs.now outputs.now wires.now
         current.now following.now standing.now counts in
         Listing (list_number before i list.old) (met wires.now counts.wires near far i counts.components)
@@ -263,9 +235,9 @@ fn list_joined(
         components, inputs, outputs, wires, current, following, standing, counts, i, list,
     );
     if number != 0 {
-        return Listed::Refused(refused_by(number));
+        return Err(refused_by(number));
     }
-    Listed::Count(list_ends(wires, counts, near, far, i, list))
+    Ok(list_ends(wires, counts, near, far, i, list))
 }
 
 // Calm or not: whether all three lists name only Clocks.
@@ -278,7 +250,7 @@ pub fn is_calm(
     following: &[u16],
     standing: &[u16],
     counts: Counts,
-) -> Whether
+) -> Result<bool, Refusal>
     ensures { let before = tables_of components.now inputs.now outputs.now wires.now
         current.now following.now standing.now counts in
         AsksCalm before result }
@@ -287,9 +259,9 @@ pub fn is_calm(
         components, inputs, outputs, wires, current, following, standing, counts,
     );
     if number != 0 {
-        return Whether::Refused(refused_by(number));
+        return Err(refused_by(number));
     }
-    Whether::Is(net_calm(components, current, following, standing, counts))
+    Ok(net_calm(components, current, following, standing, counts))
 }
 
 // Satisfied or not: whether the values are right at the components that the lists name and at the wires that leave them.
@@ -302,7 +274,7 @@ pub fn is_satisfied(
     following: &[u16],
     standing: &[u16],
     counts: Counts,
-) -> Whether
+) -> Result<bool, Refusal>
     ensures { let before = tables_of components.now inputs.now outputs.now wires.now
         current.now following.now standing.now counts in
         AsksSatisfied before result }
@@ -311,9 +283,9 @@ pub fn is_satisfied(
         components, inputs, outputs, wires, current, following, standing, counts,
     );
     if number != 0 {
-        return Whether::Refused(refused_by(number));
+        return Err(refused_by(number));
     }
-    Whether::Is(net_satisfied(
+    Ok(net_satisfied(
         components, inputs, outputs, wires, current, following, standing, counts,
     ))
 }
@@ -329,7 +301,7 @@ pub fn index_of(
     standing: &[u16],
     counts: Counts,
     id: Id,
-) -> Index
+) -> Result<FlatIdx, Refusal>
     ensures { let before = tables_of components.now inputs.now outputs.now wires.now
         current.now following.now standing.now counts in
         AsksIndex before id.0 result }
@@ -338,7 +310,7 @@ pub fn index_of(
         components, inputs, outputs, wires, current, following, standing, counts,
     );
     if number != 0 {
-        return Index::Refused(refused_by(number));
+        return Err(refused_by(number));
     }
     search_id(components, counts.components, id)
 }
@@ -356,7 +328,7 @@ pub fn value_of(
     side: Side,
     index: FlatIdx,
     port: usize,
-) -> Port
+) -> Result<Value, Refusal>
     ensures { let before = tables_of components.now inputs.now outputs.now wires.now
         current.now following.now standing.now counts in
         AsksValue before side index.0 port result }
@@ -365,7 +337,7 @@ pub fn value_of(
         components, inputs, outputs, wires, current, following, standing, counts,
     );
     if number != 0 {
-        return Port::Refused(refused_by(number));
+        return Err(refused_by(number));
     }
     value_in(components, inputs, outputs, counts, side, index.0, port)
 }
@@ -382,7 +354,7 @@ pub fn sources_of(
     counts: Counts,
     index: FlatIdx,
     list: &mut [u16],
-) -> Listed
+) -> Result<usize, Refusal>
     ensures { let before = tables_of components.now inputs.now outputs.now wires.now
         current.now following.now standing.now counts in
         AsksSources before index.0 list.old result list.new }
@@ -407,7 +379,7 @@ pub fn targets_of(
     counts: Counts,
     index: FlatIdx,
     list: &mut [u16],
-) -> Listed
+) -> Result<usize, Refusal>
     ensures { let before = tables_of components.now inputs.now outputs.now wires.now
         current.now following.now standing.now counts in
         AsksTargets before index.0 list.old result list.new }

@@ -11,11 +11,8 @@ use lib.Dec.{eqb, ltb}
 use Rattle.value.specs.Value.{level}
 use Rattle.kinds.specs.Given.{done, declined, refused_by}
 use Rattle.tables.specs.declared.Counts.{Counts}
-use Rattle.tables.specs.declared.Answer.{Answer}
 use Rattle.tables.specs.Tables.{Tables, current_list, counts_after}
 use Rattle.net.specs.Net.{net_number}
-use Rattle.questions.specs.declared.Whether.{Whether}
-use Rattle.questions.specs.declared.Whether.TheVariants.{Is as WhetherIs}
 use Rattle.rounds.specs.Round.{calm}
 use Rattle.simulator.specs.Calls.{round_tables, Rounds}
 use Rattle.questions.specs.Questions.{AsksCalm}
@@ -27,16 +24,18 @@ use Rattle.text.specs.Text.{Puts}
 use Rattle.lines.specs.Lines.{round_line}
 use Rattle.running.specs.Running.{ending, round_lines}
 use Rattle.running.specs.Made.{RoundMade, calm_of}
+use Rattle.std.specs.Prelude.{Result, Ok}
+use Rattle.kinds.specs.declared.answers.Refusal.{Refusal}
 
 -- Asked of a net, whether it is calm is answered.
-calm_net : (W : Tables) → net_number W ≡ 0 → (q : Whether) → AsksCalm W q → calm_of q ≡ calm W
+calm_net : (W : Tables) → net_number W ≡ 0 → (q : Result Bool Refusal) → AsksCalm W q → calm_of q ≡ calm W
 calm_net W z q e =
     let g = done (level (calm W) ∷ []) in
-    ap calm_of (whether_gives-is q (WhetherIs (calm W)) (e ∙ ap (λ (j : ℕ). cond (eqb j 0) g (declined (refused_by j))) z))
+    ap calm_of (whether_gives-is q (Ok (calm W)) (e ∙ ap (λ (j : ℕ). cond (eqb j 0) g (declined (refused_by j))) z))
 
 -- One round: the counts are those of the answer, and calm is asked of the tables that are left.
 module _ (T U : Tables) (net : net_number T ≡ 0) where
-  pub rounded : (bits moved : List ℕ) (a : Answer) (m : Counts) (q : Whether) (b : Bool) → 256 ≤ length bits
+  pub rounded : (bits moved : List ℕ) (a : Result Counts Refusal) (m : Counts) (q : Result Bool Refusal) (b : Bool) → 256 ≤ length bits
       → Rounds 0 bits T a (counted U (counts_after a T.counts)) moved → m ≡ counts_after a T.counts → AsksCalm (counted U m) q → b ≡ calm_of q → RoundMade T (counted U m) b
   rounded bits moved a m q b h p d f g =
       let made : counted U m ≡ round_tables T 0 = ap (counted U) d ∙ p.0.1 ∙ round_call-room T 0 bits h in

@@ -2,15 +2,15 @@
 -- Assumes nothing.
 use Rattle.std.specs.Prelude.{◌≡◌, Bool, true}
 use Rattle.tables.specs.Tables.{Tables}
-use Rattle.questions.specs.declared.Whether.{Whether}
-use Rattle.questions.specs.declared.Whether.TheVariants.{Is as WhetherIs, Refused as NoWhether}
 use Rattle.rounds.specs.Round.{calm}
 use Rattle.simulator.specs.Calls.{round_tables}
+use Rattle.std.specs.Prelude.{Result, Ok, Err}
+use Rattle.kinds.specs.declared.answers.Refusal.{Refusal}
 
 -- Calm or not; a refusal, which a net never gets, ends the rounds.
-abbrev pub calm_of : Whether → Bool
-calm_of (WhetherIs b) = b
-calm_of (NoWhether x) = true
+abbrev pub calm_of : Result Bool Refusal → Bool
+calm_of (Ok b) = b
+calm_of (Err x) = true
 
 -- What the function of one round promises: U are the tables after a round of T at time 0, and c says whether it left calm.
 pub record RoundMade (T U : Tables) (c : Bool) : Type 0 where

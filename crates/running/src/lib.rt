@@ -8,8 +8,8 @@ ghost use Rattle.text.specs.Text.{Puts};
 ghost use Rattle.running.specs.Running.{ending, round_lines};
 ghost use Rattle.running.specs.Made.{RoundMade, calm_of};
 
-use questions::Whether;
-use tables::{Answer, Counts};
+use kinds::Refusal;
+use tables::Counts;
 
 // The most rounds.
 const ROUNDS: u64 = 16;
@@ -22,20 +22,20 @@ struct Left {
 }
 
 // The counts of an answer; after a refusal those before it.
-fn counts_of(answer: Answer, before: Counts) -> Counts
+fn counts_of(answer: Result<Counts, Refusal>, before: Counts) -> Counts
     ensures { result ≡ counts_after answer before }
 {
-    let Answer::Done(counts) = answer else {
+    let Ok(counts) = answer else {
         return before;
     };
     counts
 }
 
 // Calm or not; after a refusal there is nothing more to run.
-fn calm_of(answer: Whether) -> bool
+fn calm_of(answer: Result<bool, Refusal>) -> bool
     ensures { result ≡ calm_of answer }
 {
-    let Whether::Is(calm) = answer else {
+    let Ok(calm) = answer else {
         return true;
     };
     calm

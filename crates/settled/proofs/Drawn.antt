@@ -16,7 +16,6 @@ use Rattle.kinds.specs.declared.Kind.TheVariants.{Switch, Clock, Const}
 use Rattle.kinds.specs.declared.table.Fields.{Fields}
 use Rattle.kinds.specs.Kinds.{is}
 use Rattle.component.specs.declared.Record.{Record}
-use Rattle.component.specs.declared.Verdict.TheVariants.{Accepted}
 use Rattle.component.specs.Record.{record_at, record_count, fields_of, is_primitive}
 use Rattle.flatten.specs.Descent.{pin, flat}
 use Rattle.flatten.proofs.Primitives.{flat_inj, flat_onto, primitives_before-sound}
@@ -34,8 +33,9 @@ use Rattle.chains.specs.Chains.{Chain, Cycle, Most, Values, IsIndex, Joins}
 use Rattle.chains.proofs.Joints.{chain_map, wire_joins, joins_wire}
 use Rattle.demands.proofs.Demand3.{from_primitive, into_primitive}
 use Rattle.settled.specs.Settled.{There, Joined, HasCycle, IsMost, Clockless, Among}
+use Rattle.std.specs.Prelude.{Ok}
 
-module _ (file : List ℕ) (T₀ : Tables) (a : load_verdict file T₀ ≡ Accepted) (T : Tables) (same : SameWiring (load_tables file T₀) T) where
+module _ (file : List ℕ) (T₀ : Tables) (a : load_verdict file T₀ ≡ Ok tt) (T : Tables) (same : SameWiring (load_tables file T₀) T) where
   abbrev at : ℕ → Record
   at = record_at file
 
@@ -137,7 +137,7 @@ const_left : (f : Fields) → is Clock f ≡ false → (is Const f || is Clock f
 const_left f e k = ⊎_elim (λ q. q) (λ q. absurd (true≢false (sym q ∙ e))) (or_cases (is Const f) (is Clock f) k)
 
 -- So without Clocks only Consts do.
-module _ (file : List ℕ) (T : Tables) (a : load_verdict file T ≡ Accepted) (none : Clockless (record_at file) (record_count file)) where
+module _ (file : List ℕ) (T : Tables) (a : load_verdict file T ≡ Ok tt) (none : Clockless (record_at file) (record_count file)) where
   abbrev stands : ℕ → Bool
   stands x = is Const (fields_of (record_at file x)) || is Clock (fields_of (record_at file x))
 

@@ -11,7 +11,6 @@ use borrow.Author.Tests.{eqb-true, lt-ltb}
 use lib.ListN.{length}
 use lib.Dec.{eqb, ltb}
 use Rattle.lists.proofs.TestsLaws.{or_second}
-use Rattle.component.specs.declared.Verdict.TheVariants.{Accepted}
 use Rattle.component.specs.Record.{IsBytes}
 use Rattle.tables.specs.Tables.{Tables, wires_in}
 use Rattle.net.specs.Net.{net_number}
@@ -28,6 +27,7 @@ use Rattle.demands.specs.Reached as calls
 use Rattle.demands.proofs.Called.{runs}
 use Rattle.demands.proofs.Demand3.{load_fresh}
 use Rattle.settled.specs.Settled.{is_edit, rounds_run, Unedited, loaded, called}
+use Rattle.std.specs.Prelude.{Ok}
 
 module _ (T₀ : Tables) where
   -- So many rounds from T₀, said by another number.
@@ -98,7 +98,7 @@ call_runs (calls.ordered u order bits) T h = (ran_after_some (ordered_number T o
 pub record RoundsFrom (file : List ℕ) (k t : ℕ) (T : Tables) : Type 0 where
   pub lent : Tables
   pub bytes : IsBytes file
-  pub accepted : load_verdict file lent ≡ Accepted
+  pub accepted : load_verdict file lent ≡ Ok tt
   pub rounds : Ran (load_tables file lent) k T
   pub ran : Bool
   pub reached : Reached file ran t T

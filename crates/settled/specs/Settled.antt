@@ -12,7 +12,6 @@ use Rattle.lists.specs.Lists.{from}
 use Rattle.kinds.specs.declared.Kind.TheVariants.{Switch, Clock}
 use Rattle.kinds.specs.Kinds.{is}
 use Rattle.component.specs.declared.Record.{Record}
-use Rattle.component.specs.declared.Verdict.TheVariants.{Accepted}
 use Rattle.component.specs.Record.{IsBytes, record_at, record_count, fields_of, inputs_of, outputs_of, is_primitive}
 use Rattle.component.specs.Drawing.{inputs_before, outputs_before}
 use Rattle.flatten.specs.declared.Pin.{Pin}
@@ -25,6 +24,7 @@ use Rattle.simulator.specs.Ordered.{ordered_number, ordered_tables, ordered_move
 use Rattle.chains.specs.Chains.{Cycle, Most, Values, values_of, with_values, larger, longest}
 use Rattle.demands.specs.Reached.{Call, rounded, edited, until_calm, ordered, call_number, call_tables, is_round, call_time}
 use Rattle.demands.specs.Demand.{Satisfied}
+use Rattle.std.specs.Prelude.{Ok}
 
 module _ (at : ℕ → Record) (n : ℕ) where
   -- A primitive of the drawing.
@@ -68,7 +68,7 @@ rounds_run (until_calm u limit) T = after (call_number (until_calm u limit) T) (
 rounds_run (ordered u order bits) T = after (call_number (ordered u order bits) T) 1 0
 
 pub data Unedited (file : List ℕ) : ℕ → ℕ → Tables → Type 0 where
-  loaded : (T : Tables) → IsBytes file → load_verdict file T ≡ Accepted → Unedited file 0 0 (load_tables file T)
+  loaded : (T : Tables) → IsBytes file → load_verdict file T ≡ Ok tt → Unedited file 0 0 (load_tables file T)
   called : {k t : ℕ} {T : Tables} (c : Call) → is_edit c ≡ false → Unedited file k t T
       → Unedited file (k + rounds_run c T) (cond (is_round c && eqb (call_number c T) 0) (call_time c) t) (call_tables c T)
 

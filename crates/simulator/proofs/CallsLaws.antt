@@ -9,12 +9,12 @@ use lib.ListN.{length}
 use lib.Dec.{eqb}
 use Rattle.lists.specs.Lists.{overlay}
 use Rattle.kinds.specs.Given.{refused_by}
-use Rattle.tables.specs.declared.Answer.TheVariants.{Done, Refused}
 use Rattle.tables.specs.declared.Counts.{Counts}
 use Rattle.tables.specs.Tables.{Tables, tables_of}
 use Rattle.net.specs.Net.{net_number}
 use Rattle.rounds.specs.Round.{round_bits, round_of}
 use Rattle.simulator.specs.Calls.{round_tables, round_number, round_call, round_moved, Rounds}
+use Rattle.std.specs.Prelude.{Ok, Err}
 
 -- The tables with other counts.
 abbrev pub counted : Tables → Counts → Tables
@@ -37,18 +37,18 @@ module _ (T : Tables) (t : ℕ) (bits : List ℕ) where
   round_call-room h = rw (le-ltb (length bits) 256 h)
 
   -- A round that is lent too few bits changes no table.
-  pub round_short : length bits < 256 → Rounds t bits T (Refused (refused_by 2)) T bits
+  pub round_short : length bits < 256 → Rounds t bits T (Err (refused_by 2)) T bits
   unfolding round_moved
   round_short h = rw (lt-ltb (length bits) 256 h) ((refl, refl), refl)
 
   module _ (room : 256 ≤ length bits) (k : ℕ) (number : k ≡ net_number T) where
     -- Nor does one that is refused for the tables.
-    pub round_refused : (k ≡ 0 → ⊥) → Rounds t bits T (Refused (refused_by k)) T bits
+    pub round_refused : (k ≡ 0 → ⊥) → Rounds t bits T (Err (refused_by k)) T bits
     unfolding round_tables round_moved
     round_refused refused = rw (le-ltb (length bits) 256 room, number, call_refused T k number refused) ((refl, refl), refl)
 
     -- A round that is made.
     pub round_made : k ≡ 0 → (U : Tables) (r : Counts) (moved : List ℕ) → counted U r ≡ round_of t T → moved ≡ overlay (round_bits t T) bits
-        → Rounds t bits T (Done r) (counted U r) moved
+        → Rounds t bits T (Ok r) (counted U r) moved
     unfolding round_tables round_moved
     round_made zero U r moved made over = rw (le-ltb (length bits) 256 room, call_made T k number zero) ((refl, made), over)

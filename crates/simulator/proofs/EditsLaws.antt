@@ -20,7 +20,6 @@ use Rattle.kinds.specs.declared.table.Fields.{Fields}
 use Rattle.kinds.specs.Kinds.{is, primitive, obeys, input_width, output_width}
 use Rattle.kinds.specs.Given.{refused_by}
 use Rattle.tables.specs.declared.Counts.{Counts}
-use Rattle.tables.specs.declared.Answer.TheVariants.{Done, Refused}
 use Rattle.tables.specs.Tables.{Tables, tables_of, fields_at, first_input, first_output, current_list, standing_list, wire_at}
 use Rattle.tables.specs.Words.{RowInside, fields_in}
 use Rattle.net.specs.Net.{names, net_number}
@@ -34,6 +33,7 @@ use Rattle.rounds.proofs.Evaluation.{switch_outputs, input_inputs}
 use Rattle.rounds.proofs.Sound.{net_sound, net_within, current_in, following_in, standing_in}
 use Rattle.rounds.proofs.StepsLaws.{append_room}
 use Rattle.net.proofs.NetLaws.{number_refused, number_net, number_passed}
+use Rattle.std.specs.Prelude.{Ok, Err}
 
 -- A net's component is driven where one of its wires enters it.
 driven_entered : (T : Tables) (i : ℕ) → driven T i ≡ entered T.wires T.counts.wires i
@@ -195,7 +195,7 @@ module _ (cs ins outs ws cur fol std : List ℕ) (m : Counts) (i v : ℕ) where
   module _ (k : ℕ) (e : k ≡ edit_number came i v) (ins' outs' : List ℕ) (ei : ins' ≡ after k (inputs_set cs i v ins) ins)
       (eo : outs' ≡ after k (outputs_set cs i v outs) outs) where
     -- Refused: nothing was written.
-    pub edit_kept : (way : Way) → (k ≡ 0 → ⊥) → Edits way i v came (Refused (refused_by k)) (tables_of cs ins' outs' ws cur fol std m)
+    pub edit_kept : (way : Way) → (k ≡ 0 → ⊥) → Edits way i v came (Err (refused_by k)) (tables_of cs ins' outs' ws cur fol std m)
     unfolding edit_tables
     edit_kept way ne = rw (← e, ei, eo, ne_eqb k 0 ne) (refl, refl)
 
@@ -209,7 +209,7 @@ module _ (cs ins outs ws cur fol std : List ℕ) (m : Counts) (i v : ℕ) where
       -- The component goes first: the current list has it,
       module _ (cur' : List ℕ) (n : ℕ) (en : n ≡ length (append_new i (take m.current cur)))
           (es : cur' ≡ overlay (append_new i (take m.current cur)) cur) where
-        pub edit_first : Edits goes_first i v came (Done (counted n m.standing)) (tables_of cs ins' outs' ws cur' fol std (counted n m.standing))
+        pub edit_first : Edits goes_first i v came (Ok (counted n m.standing)) (tables_of cs ins' outs' ws cur' fol std (counted n m.standing))
         unfolding edit_tables leave edited_state
         edit_first =
             rw (
@@ -229,7 +229,7 @@ module _ (cs ins outs ws cur fol std : List ℕ) (m : Counts) (i v : ℕ) where
       -- or it stands: the standing list has it.
       module _ (std' : List ℕ) (n : ℕ) (en : n ≡ length (append_new i (take m.standing std)))
           (es : std' ≡ overlay (append_new i (take m.standing std)) std) where
-        pub edit_stands : Edits stands i v came (Done (counted m.current n)) (tables_of cs ins' outs' ws cur fol std' (counted m.current n))
+        pub edit_stands : Edits stands i v came (Ok (counted m.current n)) (tables_of cs ins' outs' ws cur fol std' (counted m.current n))
         unfolding edit_tables leave edited_state
         edit_stands =
             rw (

@@ -16,7 +16,6 @@ use Rattle.lists.proofs.MembersLaws.{In, map_sound, map_complete, from0_sound}
 use Rattle.lists.proofs.NamesLaws.{Names, names_sound, names_all}
 use Rattle.kinds.specs.Given.{refused_by}
 use Rattle.tables.specs.declared.Wire.{Wire}
-use Rattle.tables.specs.declared.Answer.TheVariants.{Done, Refused}
 use Rattle.tables.specs.declared.Counts.{Counts}
 use Rattle.tables.specs.Tables.{Tables, wire_at, wires_in}
 use Rattle.tables.proofs.SameLaws.{SameWiring, same_wiring-none}
@@ -28,6 +27,7 @@ use Rattle.rounds.proofs.Left.{leave_wiring}
 use Rattle.simulator.specs.Ordered.{wires_by, ordered_number, ordered_tables, ordered_moved, RoundsOrdered}
 use Rattle.simulator.proofs.CallsLaws.{counted}
 use Rattle.simulator.proofs.Kept.{by_number, round_net}
+use Rattle.std.specs.Prelude.{Ok, Err}
 
 -- The checks, one after the other: where none refuses.
 checked : (short : Bool) (k : ℕ) (each : Bool) → cond short 2 (cond (eqb k 0) (refusal ((24 if not each) ∷ [])) k) ≡ 0
@@ -67,7 +67,7 @@ module _ (T : Tables) (order bits : List ℕ) where
   )
 
   -- A call that is refused changes no table.
-  pub ordered_refused : (t k : ℕ) → k ≡ ordered_number T order bits → (k ≡ 0 → ⊥) → RoundsOrdered t order bits T (Refused (refused_by k)) T bits
+  pub ordered_refused : (t k : ℕ) → k ≡ ordered_number T order bits → (k ≡ 0 → ⊥) → RoundsOrdered t order bits T (Err (refused_by k)) T bits
   unfolding ordered_tables ordered_moved
   ordered_refused t k number refused = rw (number, ne_eqb (ordered_number T order bits) 0 (λ q. refused (number ∙ q))) ((refl, refl), refl)
 
@@ -91,7 +91,7 @@ module _ (T : Tables) (order bits : List ℕ) where
     made_long = omega (arith, made_room.0, (net_within T made_net).wires)
 
     pub ordered_made : (t : ℕ) (U : Tables) (r : Counts) (moved : List ℕ) → counted U r ≡ round_by (wires_by T order) t T
-        → moved ≡ overlay (bits_by (wires_by T order) t T) bits → RoundsOrdered t order bits T (Done r) (counted U r) moved
+        → moved ≡ overlay (bits_by (wires_by T order) t T) bits → RoundsOrdered t order bits T (Ok r) (counted U r) moved
     unfolding ordered_tables ordered_moved
     ordered_made t U r moved so over = rw (eq-eqb (ordered_number T order bits) 0 (sym number ∙ zero)) ((refl, so), over)
 

@@ -21,13 +21,13 @@ use Rattle.tables.specs.declared.Wire.{Wire}
 use Rattle.tables.specs.Tables.{Tables, wires_in, current_list, count_words}
 use Rattle.tables.proofs.NamedLaws.{overlay_list}
 use Rattle.net.specs.Net.{net_number}
-use Rattle.simulator.specs.declared.Ran.TheVariants.{Done as RanOut, Refused as NotRun}
 use Rattle.rounds.specs.Round.{state_of, wires_from, moved_by, calm, round_bits, round_of}
 use Rattle.rounds.proofs.MovedLaws.{moved_by-length}
 use Rattle.simulator.specs.Calls.{round_tables, bits_set, Run, no_round, once_more, run_by, run, run_tables, Runs}
 use Rattle.simulator.proofs.Kept.{round_tables-done, round_tables-net}
 use Rattle.rounds.proofs.Sound.{current_in}
 use Rattle.simulator.proofs.CallsLaws.{counted, call_refused, call_made}
+use Rattle.std.specs.Prelude.{Ok, Err}
 
 abbrev pub on_top : ℕ → ℕ → ℕ → Run → Run
 on_top r e m x = record { tables = x.tables; rounds = r + x.rounds; evaluations = e + x.evaluations; moved = m + x.moved }
@@ -134,13 +134,13 @@ test_below b r limit e = ltb-true r limit (and_right (not b) (ltb r limit) e)
 
 -- The call.
 module _ (T : Tables) (t limit k : ℕ) (number : k ≡ net_number T) where
-  pub run_refused : (k ≡ 0 → ⊥) → Runs t limit T (NotRun (refused_by k)) T
+  pub run_refused : (k ≡ 0 → ⊥) → Runs t limit T (Err (refused_by k)) T
   unfolding run_tables
   run_refused refused = rw (number, call_refused T k number refused) (refl, refl)
 
   pub run_made : k ≡ 0 → (U : Tables) (m : Counts) (rounds evaluations moved : ℕ)
       → record { tables = counted U m; rounds = rounds; evaluations = evaluations; moved = moved } ≡ run limit t T
-      → Runs t limit T (RanOut m rounds evaluations moved) (counted U m)
+      → Runs t limit T (Ok (record { counts = m; rounds = rounds; evaluations = evaluations; moved = moved })) (counted U m)
   unfolding run_tables
   run_made zero U m rounds evaluations moved made =
       rw (call_made T k number zero)

@@ -7,11 +7,13 @@ use Rattle.std.specs.Prelude.{◌≡◌, ℕ, cond, not, ◌||◌, List, [], ◌
 use Rattle.lists.specs.Lists.{overlay, refusal, ◌if◌}
 use Rattle.kinds.specs.Given.{giving}
 use Rattle.tables.specs.declared.Wire.{Wire}
-use Rattle.tables.specs.declared.Answer.{Answer}
 use Rattle.tables.specs.Tables.{Tables, wire_at, answer_gives, Changes}
 use Rattle.net.specs.Net.{on_net}
 use Rattle.rounds.specs.Round.{order_list, is_order, bits_by, round_by}
 use Rattle.simulator.specs.Calls.{after}
+use Rattle.std.specs.Prelude.{Result}
+use Rattle.tables.specs.declared.Counts.{Counts}
+use Rattle.kinds.specs.declared.answers.Refusal.{Refusal}
 
 module _ (T : Tables) (order : List ℕ) where
   -- "an order of all wires, which each component's wires follow"
@@ -33,7 +35,7 @@ module _ (T : Tables) (order : List ℕ) where
     ordered_moved t = after ordered_number (overlay (bits_by wires_by t T) bits) bits
 
 -- The promise of `round_ordered`: its answer r, and the tables and the table of bits that it leaves.
-abbrev pub RoundsOrdered : ℕ → List ℕ → List ℕ → Tables → Answer → Tables → List ℕ → Type 0
+abbrev pub RoundsOrdered : ℕ → List ℕ → List ℕ → Tables → Result Counts Refusal → Tables → List ℕ → Type 0
 RoundsOrdered t order bits before r left moved =
     Changes answer_gives (giving (ordered_number before order bits)) (ordered_tables before order bits t) r left
     × (moved ≡ ordered_moved before order bits t)

@@ -7,9 +7,9 @@ ghost use Rattle.simulator.specs.Calls.{Rounds, run, counts_after_run, Runs};
 
 use crate::Ran;
 use crate::moved::count_moved;
-use kinds::refused_by;
+use kinds::{Refusal, refused_by};
 use rounds::{NO_WIRE, link_once, net_calm, net_round};
-use tables::{Answer, Counts};
+use tables::Counts;
 
 // Full size of a table of bits: a word for each component that a round can evaluate.
 pub(crate) const WORDS: usize = 256;
@@ -27,7 +27,7 @@ pub fn round(
     moved: &mut [u64],
     counts: Counts,
     time: u64,
-) -> Answer
+) -> Result<Counts, Refusal>
     ensures { let before = tables_of components.now inputs.old outputs.old wires.now
         current.old following.old standing.old counts in
         let after = tables_of components.now inputs.new outputs.new wires.now
@@ -35,13 +35,13 @@ pub fn round(
         Rounds time moved.old before result after moved.new }
 {
     if moved.len() < WORDS {
-        return Answer::Refused(refused_by(2));
+        return Err(refused_by(2));
     }
     let number = net::net_number(
         components, inputs, outputs, wires, current, following, standing, counts,
     );
     if number != 0 {
-        return Answer::Refused(refused_by(number));
+        return Err(refused_by(number));
     }
     let mut head = [NO_WIRE; 256];
     let mut after = [0u16; 1024];
@@ -53,19 +53,10 @@ pub fn round(
         &mut head,
         &mut after,
     );
-    Answer::Done(net_round(
+    Ok(net_round(
         components, inputs, outputs, wires, &head, &after, current, following, standing, moved,
         counts, time,
     ))
-}
-
-// What a run comes to.
-#[derive(Clone, Copy)]
-struct Run {
-    counts: Counts,
-    rounds: u16,
-    evaluations: u32,
-    moved: u32,
 }
 
 // Rounds of a net, one after the other, at most `limit` of them, until the first that leaves calm. The wires are linked once, before the
@@ -81,7 +72,7 @@ fn net_run(
     counts: Counts,
     time: u64,
     limit: u16,
-) -> Run
+) -> Ran
     requires { net_number (tables_of components.now inputs.old outputs.old wires.now current.old following.old standing.old counts) ≡ 0 }
     ensures { record {
       tables = tables_of components.now inputs.new outputs.new wires.now
@@ -121,7 +112,7 @@ fn net_run(
         rounds += 1;
         calm = net_calm(components, current, following, standing, reached);
     }
-    Run {
+    Ran {
         counts: reached,
         rounds,
         evaluations,
@@ -141,7 +132,7 @@ pub fn run_until_calm(
     counts: Counts,
     time: u64,
     limit: u16,
-) -> Ran
+) -> Result<Ran, Refusal>
     ensures { let before = tables_of components.now inputs.old outputs.old wires.now
         current.old following.old standing.old counts in
         let after = tables_of components.now inputs.new outputs.new wires.now
@@ -152,16 +143,9 @@ pub fn run_until_calm(
         components, inputs, outputs, wires, current, following, standing, counts,
     );
     if number != 0 {
-        return Ran::Refused(refused_by(number));
+        return Err(refused_by(number));
     }
-    let made = net_run(
+    Ok(net_run(
         components, inputs, outputs, wires, current, following, standing, counts, time, limit,
-    );
-    let reached = made.counts;
-    Ran::Done {
-        counts: reached,
-        rounds: made.rounds,
-        evaluations: made.evaluations,
-        moved: made.moved,
-    }
+    ))
 }

@@ -4,8 +4,8 @@ ghost use Rattle.simulator.specs.Edit.{goes_first};
 ghost use Rattle.simulator.specs.Calls.{Edits};
 
 use crate::edits::set_or_refuse;
-use kinds::refused_by;
-use tables::{Answer, Counts, FlatIdx};
+use kinds::{Refusal, refused_by};
+use tables::{Counts, FlatIdx};
 
 // Sets a component's port to a number and appends the component to the current list unless there: the very next round evaluates it. A
 // refusal changes no table.
@@ -20,7 +20,7 @@ pub fn edit(
     counts: Counts,
     index: FlatIdx,
     number: u64,
-) -> Answer
+) -> Result<Counts, Refusal>
     ensures { let before = tables_of components.now inputs.old outputs.old wires.now
         current.old following.now standing.now counts in
         let after = tables_of components.now inputs.new outputs.new wires.now
@@ -31,9 +31,9 @@ pub fn edit(
         components, inputs, outputs, wires, current, following, standing, counts, index.0, number,
     );
     if refused != 0 {
-        return Answer::Refused(refused_by(refused));
+        return Err(refused_by(refused));
     }
     let mut left = counts;
     left.current = tables::append_new(current, counts.current, index.0 as u16);
-    Answer::Done(left)
+    Ok(left)
 }

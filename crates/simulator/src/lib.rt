@@ -12,20 +12,16 @@ mod standing;
 pub use calls::{round, run_until_calm};
 pub use edits::{edit_number, set_port};
 pub use first::edit;
-use kinds::Refusal;
 pub use moved::count_moved;
 pub use ordered::round_ordered;
 pub use standing::edit_standing;
 use tables::Counts;
 
-// Run until calm: the new counts, the rounds run, the evaluations made and how many times an output changed.
+// What a run comes to: the new counts, the rounds run, the evaluations made and how many times an output changed.
 #[derive(Clone, Copy)]
-pub enum Ran {
-    Done {
-        counts: Counts,
-        rounds: u16,
-        evaluations: u32,
-        moved: u32,
-    },
-    Refused(Refusal),
+pub struct Ran {
+    pub counts: Counts,
+    pub rounds: u16,
+    pub evaluations: u32,
+    pub moved: u32,
 }

@@ -5,9 +5,9 @@ ghost use Rattle.tables.specs.Tables.{tables_of, counts_after};
 ghost use Rattle.simulator.specs.Ordered.{ordered_number, RoundsOrdered};
 
 use crate::calls::WORDS;
-use kinds::refused_by;
+use kinds::{Refusal, refused_by};
 use rounds::{NO_WIRE, is_order, link_by, net_round};
-use tables::{Answer, Counts};
+use tables::Counts;
 
 // Full size of an order's table: a word for each wire that a net can have.
 const ORDER: usize = 1024;
@@ -57,7 +57,7 @@ pub fn round_ordered(
     moved: &mut [u64],
     counts: Counts,
     time: u64,
-) -> Answer
+) -> Result<Counts, Refusal>
     ensures { let before = tables_of components.now inputs.old outputs.old wires.now
         current.old following.old standing.old counts in
         let after = tables_of components.now inputs.new outputs.new wires.now
@@ -68,12 +68,12 @@ pub fn round_ordered(
         components, inputs, outputs, wires, current, following, standing, order, moved, counts,
     );
     if number != 0 {
-        return Answer::Refused(refused_by(number));
+        return Err(refused_by(number));
     }
     let mut head = [NO_WIRE; 256];
     let mut after = [0u16; 1024];
     link_by(wires, order, counts.wires, &mut head, &mut after);
-    Answer::Done(net_round(
+    Ok(net_round(
         components, inputs, outputs, wires, &head, &after, current, following, standing, moved,
         counts, time,
     ))

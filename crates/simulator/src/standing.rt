@@ -4,8 +4,8 @@ ghost use Rattle.simulator.specs.Edit.{stands};
 ghost use Rattle.simulator.specs.Calls.{Edits};
 
 use crate::edits::set_or_refuse;
-use kinds::refused_by;
-use tables::{Answer, Counts, FlatIdx};
+use kinds::{Refusal, refused_by};
+use tables::{Counts, FlatIdx};
 
 // The old way of an edit: sets the port likewise and appends the component to the standing list unless there, so that it is evaluated no
 // later than the third round after. A refusal changes no table. The runs against the Rust and the timing case ask for it.
@@ -20,7 +20,7 @@ pub fn edit_standing(
     counts: Counts,
     index: FlatIdx,
     number: u64,
-) -> Answer
+) -> Result<Counts, Refusal>
     ensures { let before = tables_of components.now inputs.old outputs.old wires.now
         current.now following.now standing.old counts in
         let after = tables_of components.now inputs.new outputs.new wires.now
@@ -31,9 +31,9 @@ pub fn edit_standing(
         components, inputs, outputs, wires, current, following, standing, counts, index.0, number,
     );
     if refused != 0 {
-        return Answer::Refused(refused_by(refused));
+        return Err(refused_by(refused));
     }
     let mut left = counts;
     left.standing = tables::append_new(standing, counts.standing, index.0 as u16);
-    Answer::Done(left)
+    Ok(left)
 }

@@ -6,11 +6,10 @@ use Prim.Native.Nat.{ℕ}
 use lib.ListN.{get_or, drop}
 use Rattle.kinds.proofs.GivenLaws.{done_values, done_declined, declined_refusal}
 use Rattle.slow.specs.declared.SlowCounts.{SlowCounts}
-use Rattle.slow.specs.declared.SlowAnswer.{SlowAnswer}
-use Rattle.slow.specs.declared.SlowAnswer.TheVariants.{Done, Refused}
 use Rattle.slow.specs.declared.SlowRan.{SlowRan}
-use Rattle.slow.specs.declared.SlowRan.TheVariants.{Done as RanOut, Refused as NotRun}
 use Rattle.slow.specs.Slow.{slow_words, slow_gives, slow_ran_gives}
+use Rattle.std.specs.Prelude.{Result, Ok, Err}
+use Rattle.kinds.specs.declared.answers.Refusal.{Refusal}
 
 -- The counts whose values are these.
 abbrev counted : List ℕ → SlowCounts
@@ -20,26 +19,26 @@ counted xs =
 slow_words-is : (m k : SlowCounts) → slow_words m ≡ slow_words k → m ≡ k
 slow_words-is m k e = ap counted e
 
-pub slow_gives-is : (a b : SlowAnswer) → slow_gives a ≡ slow_gives b → a ≡ b
-slow_gives-is (Done m) (Done k) e = ap Done (slow_words-is m k (done_values (slow_words m) (slow_words k) e))
-slow_gives-is (Done m) (Refused r) e = absurd (done_declined (slow_words m) r e)
-slow_gives-is (Refused r) (Done m) e = absurd (done_declined (slow_words m) r (sym e))
-slow_gives-is (Refused r) (Refused s) e = ap Refused (declined_refusal r s e)
+pub slow_gives-is : (a b : Result SlowCounts Refusal) → slow_gives a ≡ slow_gives b → a ≡ b
+slow_gives-is (Ok m) (Ok k) e = ap Ok (slow_words-is m k (done_values (slow_words m) (slow_words k) e))
+slow_gives-is (Ok m) (Err r) e = absurd (done_declined (slow_words m) r e)
+slow_gives-is (Err r) (Ok m) e = absurd (done_declined (slow_words m) r (sym e))
+slow_gives-is (Err r) (Err s) e = ap Err (declined_refusal r s e)
 
 -- The value at place k, of lists of values that are the same.
 same_at : (k : ℕ) (xs ys : List ℕ) → xs ≡ ys → get_or xs k 0 ≡ get_or ys k 0
 same_at k xs ys e = ap (λ (zs : List ℕ). get_or zs k 0) e
 
-pub slow_ran_gives-is : (a b : SlowRan) → slow_ran_gives a ≡ slow_ran_gives b → a ≡ b
-slow_ran_gives-is (RanOut m j x y) (RanOut n k z w) e =
-    let xs = j ∷ x ∷ y ∷ slow_words m in
-    let ys = k ∷ z ∷ w ∷ slow_words n in
+pub slow_ran_gives-is : (a b : Result SlowRan Refusal) → slow_ran_gives a ≡ slow_ran_gives b → a ≡ b
+slow_ran_gives-is (Ok a) (Ok b) e =
+    let xs = a.rounds ∷ a.evaluations ∷ a.moved ∷ slow_words a.counts in
+    let ys = b.rounds ∷ b.evaluations ∷ b.moved ∷ slow_words b.counts in
     let v = done_values xs ys e in
-    let c = slow_words-is m n (ap (drop 3) v) in
-    let r : j ≡ k = same_at 0 xs ys v in
-    let s : x ≡ z = same_at 1 xs ys v in
-    let t : y ≡ w = same_at 2 xs ys v in
-    λ i. RanOut (c i) (r i) (s i) (t i)
-slow_ran_gives-is (RanOut m j x y) (NotRun r) e = absurd (done_declined (j ∷ x ∷ y ∷ slow_words m) r e)
-slow_ran_gives-is (NotRun r) (RanOut m j x y) e = absurd (done_declined (j ∷ x ∷ y ∷ slow_words m) r (sym e))
-slow_ran_gives-is (NotRun r) (NotRun s) e = ap NotRun (declined_refusal r s e)
+    let c = slow_words-is a.counts b.counts (ap (drop 3) v) in
+    let r : a.rounds ≡ b.rounds = same_at 0 xs ys v in
+    let s : a.evaluations ≡ b.evaluations = same_at 1 xs ys v in
+    let t : a.moved ≡ b.moved = same_at 2 xs ys v in
+    λ i. Ok (record { counts = c i; rounds = r i; evaluations = s i; moved = t i })
+slow_ran_gives-is (Ok a) (Err r) e = absurd (done_declined (a.rounds ∷ a.evaluations ∷ a.moved ∷ slow_words a.counts) r e)
+slow_ran_gives-is (Err r) (Ok a) e = absurd (done_declined (a.rounds ∷ a.evaluations ∷ a.moved ∷ slow_words a.counts) r (sym e))
+slow_ran_gives-is (Err r) (Err s) e = ap Err (declined_refusal r s e)

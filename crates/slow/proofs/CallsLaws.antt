@@ -12,8 +12,6 @@ use Rattle.lists.specs.Lists.{from, joined, overlay}
 use Rattle.kinds.specs.declared.answers.Refusal.{Refusal}
 use Rattle.kinds.specs.Kinds.{is}
 use Rattle.component.specs.declared.Record.{Record}
-use Rattle.component.specs.declared.Verdict.{Verdict}
-use Rattle.component.specs.declared.Verdict.TheVariants.{Accepted, Refused}
 use Rattle.component.specs.Record.{record_at, record_count}
 use Rattle.flatten.specs.Verdict.{verdict, verdict_gives, list_by}
 use Rattle.tables.specs.declared.Counts.{Counts}
@@ -28,32 +26,32 @@ use Rattle.rounds.specs.Round.{state_of, leave, moved_by, round}
 use Rattle.rounds.specs.Steps.{wiring, ListFits}
 use Rattle.simulator.specs.Calls.{Run}
 use Rattle.slow.specs.declared.SlowCounts.{SlowCounts}
-use Rattle.slow.specs.declared.SlowAnswer.TheVariants.{Done, Refused as Declined}
-use Rattle.slow.specs.declared.SlowRan.TheVariants.{Done as RanOut, Refused as NotRun}
 use Rattle.slow.specs.Slow.{SlowTables, slow_tables_of, slow_full, slow_of, drawn, leaving, slow_round_of, slow_bits, slow_number, slow_verdict, slow_by}
 use Rattle.slow.specs.Slow.{slow_load_verdict, slow_load_tables, slow_round_verdict, slow_round_tables, slow_moved, slow_run_verdict, slow_run}
 use Rattle.slow.specs.Slow.{slow_run_tables, slow_words, SlowLoads, SlowRounds, SlowRuns, counts_for, slow_counts_of}
 use Rattle.slow.specs.Sending.{Drawing, IsPrepared}
 use Rattle.slow.proofs.PreparingLaws.{SlowSizes, slow_full-sound}
 use Rattle.slow.proofs.WiredLaws.{SlowParts, right_sound}
+use Rattle.kinds.specs.Given.{Verdict}
+use Rattle.std.specs.Prelude.{Ok, Err}
 
 -- A load.
 module _ (file : List ℕ) (S : SlowTables) where
   abbrev drawn_tables : SlowTables
   drawn_tables = slow_of (drawing_tables (record_at file) (record_count file) (drawn (record_at file) (record_count file) S))
 
-  pub load_refused : (r : Refusal) → Refused r ≡ slow_verdict file (slow_full S) 0 → SlowLoads file S (Declined r) S
+  pub load_refused : (r : Refusal) → Err r ≡ slow_verdict file (slow_full S) 0 → SlowLoads file S (Err r) S
   unfolding slow_load_verdict slow_load_tables
   load_refused r e =
       (ap (λ (v : Verdict). verdict_gives v (slow_words S.counts)) e, ap (λ (v : Verdict). slow_by v drawn_tables S) e)
 
-  pub load_done : (L : SlowTables) → Accepted ≡ slow_verdict file (slow_full S) 0 → L ≡ drawn_tables → SlowLoads file S (Done L.counts) L
+  pub load_done : (L : SlowTables) → (Ok tt) ≡ slow_verdict file (slow_full S) 0 → L ≡ drawn_tables → SlowLoads file S (Ok L.counts) L
   unfolding slow_load_verdict slow_load_tables
   load_done L e el =
       (ap (λ (v : Verdict). verdict_gives v (slow_words L.counts)) e, el ∙ ap (λ (v : Verdict). slow_by v drawn_tables S) e)
 
   -- What the passes leave.
-  pub load_filled : verdict file ≡ Accepted → 1024 ≤ length S.inputs → 256 ≤ length S.current
+  pub load_filled : verdict file ≡ Ok tt → 1024 ≤ length S.inputs → 256 ≤ length S.current
       → (b : Before) → b ≡ before_at (record_at file) (record_count file) (record_count file)
       → (ins os cur fol std : List ℕ) (k : ℕ) → ins ≡ sets S.inputs 0 (replicate b.inputs 0)
       → os ≡ overlay (joined (starting_of (record_at file)) (primitives (record_at file) (record_count file))) S.outputs
@@ -84,7 +82,7 @@ module _ (file : List ℕ) (S : SlowTables) (bits : List ℕ) (t : ℕ) where
   abbrev found : Verdict
   found = slow_verdict file (slow_full S && leb 256 (length bits)) (slow_number at n S)
 
-  pub round_refused : (r : Refusal) → Refused r ≡ found → SlowRounds file t bits S (Declined r) S bits
+  pub round_refused : (r : Refusal) → Err r ≡ found → SlowRounds file t bits S (Err r) S bits
   unfolding slow_round_verdict slow_round_tables slow_moved
   round_refused r e = (
     ap (λ (v : Verdict). verdict_gives v (slow_words S.counts)) e,
@@ -92,8 +90,8 @@ module _ (file : List ℕ) (S : SlowTables) (bits : List ℕ) (t : ℕ) where
     ap (λ (v : Verdict). list_by v passing bits) e,
   )
 
-  pub round_done : (L : SlowTables) (moved : List ℕ) → Accepted ≡ found → L ≡ made → moved ≡ overlay passing bits
-      → SlowRounds file t bits S (Done L.counts) L moved
+  pub round_done : (L : SlowTables) (moved : List ℕ) → (Ok tt) ≡ found → L ≡ made → moved ≡ overlay passing bits
+      → SlowRounds file t bits S (Ok L.counts) L moved
   unfolding slow_round_verdict slow_round_tables slow_moved
   round_done L moved e el em = (
     ap (λ (v : Verdict). verdict_gives v (slow_words L.counts)) e,
@@ -109,16 +107,16 @@ module _ (file : List ℕ) (S : SlowTables) (t limit : ℕ) where
   abbrev told : Verdict
   told = slow_verdict file (slow_full S) (slow_number (record_at file) (record_count file) S)
 
-  pub run_refused : (r : Refusal) → Refused r ≡ told → SlowRuns file t limit S (NotRun r) S
+  pub run_refused : (r : Refusal) → Err r ≡ told → SlowRuns file t limit S (Err r) S
   unfolding slow_run_verdict slow_run_tables
   run_refused r e = (
     ap (λ (v : Verdict). verdict_gives v (whole.rounds ∷ whole.evaluations ∷ whole.moved ∷ slow_words S.counts)) e,
     ap (λ (v : Verdict). slow_by v (slow_of whole.tables) S) e,
   )
 
-  pub run_done : (T : Tables) (rounds evaluations moved : ℕ) → Accepted ≡ told
+  pub run_done : (T : Tables) (rounds evaluations moved : ℕ) → (Ok tt) ≡ told
       → record { tables = T; rounds = rounds; evaluations = evaluations; moved = moved } ≡ whole
-      → SlowRuns file t limit S (RanOut (slow_of T).counts rounds evaluations moved) (slow_of T)
+      → SlowRuns file t limit S (Ok (record { counts = (slow_of T).counts; rounds = rounds; evaluations = evaluations; moved = moved })) (slow_of T)
   unfolding slow_run_verdict slow_run_tables
   run_done T rounds evaluations moved e er = (
     (λ j. verdict_gives (e j) ((er j).rounds ∷ (er j).evaluations ∷ (er j).moved ∷ slow_words (slow_of T).counts)),

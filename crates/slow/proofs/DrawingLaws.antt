@@ -11,7 +11,6 @@ use Rattle.lists.specs.Lists.{joined, overlay}
 use Rattle.lists.proofs.MembersLaws.{In, keep_sound}
 use Rattle.lists.proofs.OverlayLaws.{overlay_length, joined_width}
 use Rattle.component.specs.declared.Record.{Record}
-use Rattle.component.specs.declared.Verdict.TheVariants.{Accepted}
 use Rattle.component.specs.Record.{record_at, record_count}
 use Rattle.component.specs.Drawing.{inputs_before, outputs_before}
 use Rattle.flatten.specs.Verdict.{verdict}
@@ -31,6 +30,7 @@ use Rattle.rounds.specs.Steps.{CanEvaluate, CanReach}
 use Rattle.slow.specs.Slow.{leaving, drawn_words}
 use Rattle.slow.specs.Sending.{bare, Drawing}
 use Rattle.slow.proofs.Handed.{leaving_stored}
+use Rattle.std.specs.Prelude.{Ok}
 
 -- No word of any table.
 abbrev pub blank : Tables
@@ -50,7 +50,7 @@ words_long file d few =
     ∙ length-replicate {A = ℕ} 2048 0
 
 -- An accepted file, the words of its components, and tables of ports of full size.
-module _ (file cs is os : List ℕ) (accepted : verdict file ≡ Accepted) (words : cs ≡ drawn_words (record_at file) (record_count file))
+module _ (file cs is os : List ℕ) (accepted : verdict file ≡ Ok tt) (words : cs ≡ drawn_words (record_at file) (record_count file))
     (ins : 1024 ≤ length is) (outs : 1024 ≤ length os) where
   abbrev at : ℕ → Record
   at = record_at file

@@ -15,11 +15,9 @@ use Rattle.lists.proofs.TestsLaws.{and_left}
 use Rattle.kinds.specs.declared.answers.Refusal.{Refusal}
 use Rattle.kinds.specs.declared.Kind.TheVariants.{Switch, Input}
 use Rattle.kinds.specs.Kinds.{is, input_width, output_width}
-use Rattle.kinds.specs.Given.{refused_by}
+use Rattle.kinds.specs.Given.{refused_by, Verdict}
 use Rattle.value.specs.Value.{fits, of_width}
 use Rattle.component.specs.declared.Record.{Record}
-use Rattle.component.specs.declared.Verdict.{Verdict}
-use Rattle.component.specs.declared.Verdict.TheVariants.{Accepted, Refused}
 use Rattle.component.specs.Record.{record_at, record_count}
 use Rattle.flatten.specs.Verdict.{verdict, verdict_gives, and_then}
 use Rattle.flatten.proofs.WireTheorems.{accepted_primitives_bound}
@@ -37,13 +35,13 @@ use Rattle.simulator.specs.Asked.{edit_refusal, inputs_set, outputs_set}
 use Rattle.simulator.specs.Calls.{edit_checks}
 use Rattle.simulator.proofs.EditsLaws.{port_set-ports}
 use Rattle.slow.specs.declared.SlowCounts.{SlowCounts}
-use Rattle.slow.specs.declared.SlowAnswer.TheVariants.{Done, Refused as Declined}
 use Rattle.slow.specs.Slow.{SlowTables, slow_tables_of, slow_full, slow_of, drawn, led_into, slow_right, slow_number, slow_edit_number, slow_verdict}
 use Rattle.slow.specs.Slow.{slow_by, slow_edit_verdict, slow_edit_tables, slow_words, SlowEdits}
 use Rattle.slow.specs.Sending.{IsPrepared, set_by, drawn_inputs, drawn_outputs}
 use Rattle.slow.proofs.DrawingLaws.{words_evaluate}
 use Rattle.slow.proofs.PreparingLaws.{SlowSizes, slow_full-sound, lent_refused, lent_room, lent_number, accepted_behind}
 use Rattle.slow.proofs.WiredLaws.{SlowParts, right_sound}
+use Rattle.std.specs.Prelude.{Ok, Err}
 
 -- Refused before its own checks.
 module _ (file : List ℕ) (S : SlowTables) (i v : ℕ) where
@@ -53,15 +51,15 @@ module _ (file : List ℕ) (S : SlowTables) (i v : ℕ) where
   abbrev n : ℕ
   n = record_count file
 
-  pub edit_declined : (r : Refusal) → Refused r ≡ slow_verdict file (slow_full S) (slow_number at n S)
-      → (Refused r ≡ slow_edit_verdict file S i v)
-      × (S.inputs ≡ set_by (Refused r) (drawn_inputs at n i v S.inputs) S.inputs)
-      × (S.outputs ≡ set_by (Refused r) (drawn_outputs at n i v S.outputs) S.outputs)
+  pub edit_declined : (r : Refusal) → Err r ≡ slow_verdict file (slow_full S) (slow_number at n S)
+      → (Err r ≡ slow_edit_verdict file S i v)
+      × (S.inputs ≡ set_by (Err r) (drawn_inputs at n i v S.inputs) S.inputs)
+      × (S.outputs ≡ set_by (Err r) (drawn_outputs at n i v S.outputs) S.outputs)
   unfolding slow_edit_verdict slow_edit_number slow_number
   edit_declined r e = (by_right (slow_right at n S) e, refl, refl)
     where
-      by_right : (b : Bool) → Refused r ≡ slow_verdict file (slow_full S) (refusal ((20 if not b) ∷ []))
-          → Refused r ≡ slow_verdict file (slow_full S)
+      by_right : (b : Bool) → Err r ≡ slow_verdict file (slow_full S) (refusal ((20 if not b) ∷ []))
+          → Err r ≡ slow_verdict file (slow_full S)
           (refusal ((20 if not b) ∷ edit_checks (length (primitives at n)) (fields_at (drawn at n S) i) (led_into at n i) i v))
       by_right true h =
           lent_refused file (slow_full S) r
@@ -100,8 +98,8 @@ module _ (file ix fs cs : List ℕ) (k : ℕ) (ins outs cur fol std : List ℕ) 
     own = edit_refusal cs k entered i v
 
     -- The edit's verdict, by the number of its own checks.
-    edit_verdict : Accepted ≡ slow_verdict file (slow_full S) (slow_number (record_at file) (record_count file) S)
-        → slow_edit_verdict file S i v ≡ and_then Accepted own
+    edit_verdict : (Ok tt) ≡ slow_verdict file (slow_full S) (slow_number (record_at file) (record_count file) S)
+        → slow_edit_verdict file S i v ≡ and_then (Ok tt) own
     unfolding slow_edit_verdict slow_edit_number slow_number edit_refusal
     edit_verdict h =
         (λ j. slow_verdict file (slow_full S) (refusal ((20 if not (p.right j))
@@ -109,19 +107,19 @@ module _ (file ix fs cs : List ℕ) (k : ℕ) (ins outs cur fol std : List ℕ) 
         ∙ accepted_behind file (slow_full S) (refusal ((20 if not (slow_right (record_at file) (record_count file) S)) ∷ [])) own
         (ap (λ (b : Bool). refusal ((20 if not b) ∷ [])) p.right) h
 
-    pub edit_refused : Accepted ≡ slow_verdict file (slow_full S) (slow_number (record_at file) (record_count file) S) → (r : ℕ) → r ≡ own → (r ≡ 0 → ⊥)
-        → (Refused (refused_by r) ≡ slow_edit_verdict file S i v)
-        × (ins ≡ set_by (Refused (refused_by r)) (drawn_inputs (record_at file) (record_count file) i v ins) ins)
-        × (outs ≡ set_by (Refused (refused_by r)) (drawn_outputs (record_at file) (record_count file) i v outs) outs)
+    pub edit_refused : (Ok tt) ≡ slow_verdict file (slow_full S) (slow_number (record_at file) (record_count file) S) → (r : ℕ) → r ≡ own → (r ≡ 0 → ⊥)
+        → (Err (refused_by r) ≡ slow_edit_verdict file S i v)
+        × (ins ≡ set_by (Err (refused_by r)) (drawn_inputs (record_at file) (record_count file) i v ins) ins)
+        × (outs ≡ set_by (Err (refused_by r)) (drawn_outputs (record_at file) (record_count file) i v outs) outs)
     edit_refused h r e ne =
         (sym (edit_verdict h ∙ rw (← e, ne_eqb r 0 ne)), refl, refl)
 
-    pub edit_passed : Accepted ≡ slow_verdict file (slow_full S) (slow_number (record_at file) (record_count file) S) → own ≡ 0 → (ins' outs' : List ℕ)
+    pub edit_passed : (Ok tt) ≡ slow_verdict file (slow_full S) (slow_number (record_at file) (record_count file) S) → own ≡ 0 → (ins' outs' : List ℕ)
         → ins' ≡ inputs_set cs i v ins → outs' ≡ outputs_set cs i v outs
-        → (Accepted ≡ slow_edit_verdict file S i v) × (ins' ≡ drawn_inputs (record_at file) (record_count file) i v ins)
+        → ((Ok tt) ≡ slow_edit_verdict file S i v) × (ins' ≡ drawn_inputs (record_at file) (record_count file) i v ins)
         × (outs' ≡ drawn_outputs (record_at file) (record_count file) i v outs)
     edit_passed h z ins' outs' ei eo = (
-      sym (edit_verdict h ∙ ap (and_then Accepted) z),
+      sym (edit_verdict h ∙ ap (and_then (Ok tt)) z),
       ei ∙ ap (λ (l : List ℕ). inputs_set l i v ins) p.words,
       eo ∙ ap (λ (l : List ℕ). outputs_set l i v outs) p.words,
     )
@@ -188,7 +186,7 @@ module _ (file ins outs cur fol std : List ℕ) (m : SlowCounts) (i v : ℕ) whe
   -- Refused: nothing was written.
   module _ (u : Verdict) (eu : u ≡ slow_edit_verdict file came i v) (ins' outs' : List ℕ) (ei : ins' ≡ set_by u (drawn_inputs at_file many i v ins) ins)
       (eo : outs' ≡ set_by u (drawn_outputs at_file many i v outs) outs) where
-    pub edits_refused : (way : Way) (r : Refusal) → u ≡ Refused r → SlowEdits file way i v came (Declined r) (slow_tables_of ins' outs' cur fol std m)
+    pub edits_refused : (way : Way) (r : Refusal) → u ≡ Err r → SlowEdits file way i v came (Err r) (slow_tables_of ins' outs' cur fol std m)
     unfolding slow_edit_tables
     edits_refused way r e =
         let d = sym e ∙ eu in (
@@ -199,8 +197,8 @@ module _ (file ins outs cur fol std : List ℕ) (m : SlowCounts) (i v : ℕ) whe
         )
 
     -- Not refused: the component is there, and its list has room.
-    module _ (e : u ≡ Accepted) where
-      passed : Accepted ≡ slow_edit_verdict file came i v
+    module _ (e : u ≡ Ok tt) where
+      passed : (Ok tt) ≡ slow_edit_verdict file came i v
       passed = sym e ∙ eu
 
       full : slow_full came ≡ true
@@ -211,7 +209,7 @@ module _ (file ins outs cur fol std : List ℕ) (m : SlowCounts) (i v : ℕ) whe
       unfolding slow_edit_verdict
       numbered = (lent_number file (slow_full came) (slow_edit_number at_file many came i v) passed).0
 
-      accepted : verdict file ≡ Accepted
+      accepted : verdict file ≡ Ok tt
       unfolding slow_edit_verdict
       accepted = (lent_number file (slow_full came) (slow_edit_number at_file many came i v) passed).1
 
@@ -276,7 +274,7 @@ module _ (file ins outs cur fol std : List ℕ) (m : SlowCounts) (i v : ℕ) whe
       set_outputs : outs' ≡ drawn_outputs at_file many i v outs
       set_outputs = eo ∙ ap (λ (w : Verdict). set_by w (drawn_outputs at_file many i v outs) outs) e
 
-      done : (way : Way) (L : SlowTables) → L ≡ made way → SlowEdits file way i v came (Done L.counts) L
+      done : (way : Way) (L : SlowTables) → L ≡ made way → SlowEdits file way i v came (Ok L.counts) L
       unfolding slow_edit_tables
       done way L el = (
         ap (λ (w : Verdict). verdict_gives w (slow_words L.counts)) passed,
@@ -302,7 +300,7 @@ module _ (file ins outs cur fol std : List ℕ) (m : SlowCounts) (i v : ℕ) whe
       -- The component goes first: the current list has it,
       pub edits_first : (cur' : List ℕ) (c : ℕ) → c ≡ length (append_new i (take m.current cur))
           → cur' ≡ overlay (append_new i (take m.current cur)) cur
-          → SlowEdits file goes_first i v came (Done (counted c m.standing)) (slow_tables_of ins' outs' cur' fol std (counted c m.standing))
+          → SlowEdits file goes_first i v came (Ok (counted c m.standing)) (slow_tables_of ins' outs' cur' fol std (counted c m.standing))
       edits_first cur' c en es = done goes_first (slow_tables_of ins' outs' cur' fol std (counted c m.standing)) (laid-goes_first cur' c en es)
 
       laid_stands : (std' : List ℕ) (d : ℕ) → d ≡ length (append_new i (take m.standing std)) → std' ≡ overlay (append_new i (take m.standing std)) std
@@ -324,5 +322,5 @@ module _ (file ins outs cur fol std : List ℕ) (m : SlowCounts) (i v : ℕ) whe
       -- or it stands: the standing list has it.
       pub edits_stand : (std' : List ℕ) (d : ℕ) → d ≡ length (append_new i (take m.standing std))
           → std' ≡ overlay (append_new i (take m.standing std)) std
-          → SlowEdits file stands i v came (Done (counted m.current d)) (slow_tables_of ins' outs' cur fol std' (counted m.current d))
+          → SlowEdits file stands i v came (Ok (counted m.current d)) (slow_tables_of ins' outs' cur fol std' (counted m.current d))
       edits_stand std' d en es = done stands (slow_tables_of ins' outs' cur fol std' (counted m.current d)) (laid_stands std' d en es)

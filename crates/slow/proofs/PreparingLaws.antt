@@ -11,10 +11,8 @@ use lib.Dec.{eqb, leb}
 use Rattle.lists.specs.Lists.{from, every, joined, overlay}
 use Rattle.lists.proofs.TestsLaws.{and_left, and_right}
 use Rattle.kinds.specs.declared.answers.Refusal.{Refusal}
-use Rattle.kinds.specs.Given.{refused_by}
+use Rattle.kinds.specs.Given.{refused_by, Verdict}
 use Rattle.component.specs.declared.Record.{Record}
-use Rattle.component.specs.declared.Verdict.{Verdict}
-use Rattle.component.specs.declared.Verdict.TheVariants.{Accepted, Refused}
 use Rattle.component.specs.Record.{record_at, record_count, sized}
 use Rattle.component.specs.Drawing.{inputs_before, outputs_before}
 use Rattle.flatten.specs.Verdict.{refused, verdict, and_then}
@@ -30,10 +28,9 @@ use Rattle.net.specs.Net.{values_fit, consts_held, names}
 use Rattle.net.specs.Parts.{lent, InputsInside, OutputsInside, obeyed_at, values_fit_at, held_at}
 use Rattle.slow.specs.declared.SlowCounts.{SlowCounts}
 use Rattle.slow.specs.Slow.{SlowTables, slow_full, drawn, slow_right, slow_number, slow_verdict, counts_for, drawn_words}
-use Rattle.slow.specs.declared.preparing.Prepared.{Prepared}
-use Rattle.slow.specs.declared.preparing.Prepared.TheVariants.{Ready, Refused as NotReady}
 use Rattle.slow.specs.Sending.{prepared_verdict}
 use Rattle.slow.proofs.DrawingLaws.{words_evaluate}
+use Rattle.std.specs.Prelude.{Result, Ok, Err}
 
 -- The five tables are of full size.
 pub record SlowSizes (S : SlowTables) : Type 0 where
@@ -64,49 +61,49 @@ slow_full-sound S e =
 
 -- A load's own verdict, by its ways out.
 module _ (file : List ℕ) (long : Bool) where
-  pub lent_unsized : (k : ℕ) → sized file ≡ false → Refused (refused_by 1) ≡ slow_verdict file long k
+  pub lent_unsized : (k : ℕ) → sized file ≡ false → Err (refused_by 1) ≡ slow_verdict file long k
   lent_unsized k e = rw e
 
-  pub lent_short : (k : ℕ) → sized file ≡ true → long ≡ false → Refused (refused_by 2) ≡ slow_verdict file long k
+  pub lent_short : (k : ℕ) → sized file ≡ true → long ≡ false → Err (refused_by 2) ≡ slow_verdict file long k
   lent_short k e f = rw (e, f)
 
   pub lent_judged : (v : Verdict) → sized file ≡ true → long ≡ true → v ≡ judgement file → v ≡ slow_verdict file long 0
   lent_judged v e f g = rw (e, f) (g ∙ plain (judgement file))
     where
       plain : (u : Verdict) → u ≡ and_then u 0
-      plain Accepted = refl
-      plain (Refused r) = refl
+      plain (Ok _) = refl
+      plain (Err r) = refl
 
   -- Refused, the number behind it plays no part;
-  pub lent_refused : (r : Refusal) (k : ℕ) → Refused r ≡ slow_verdict file long 0 → Refused r ≡ slow_verdict file long k
+  pub lent_refused : (r : Refusal) (k : ℕ) → Err r ≡ slow_verdict file long 0 → Err r ≡ slow_verdict file long k
   lent_refused r k e = by_cases (sized file) long (judgement file) e
     where
-      by_cases : (a b : Bool) (v : Verdict) → Refused r ≡ cond a (cond b (and_then v 0) (refused 2 0)) (refused 1 0)
-          → Refused r ≡ cond a (cond b (and_then v k) (refused 2 0)) (refused 1 0)
-      by_cases true true (Refused q) h = h
-      by_cases true true Accepted h = absurd (not_accepted r h)
+      by_cases : (a b : Bool) (v : Verdict) → Err r ≡ cond a (cond b (and_then v 0) (refused 2 0)) (refused 1 0)
+          → Err r ≡ cond a (cond b (and_then v k) (refused 2 0)) (refused 1 0)
+      by_cases true true (Err q) h = h
+      by_cases true true (Ok _) h = absurd (not_accepted r h)
       by_cases true false v h = h
       by_cases false b v h = h
 
   -- accepted, it decides, and all is well with the file.
-  module _ (h : Accepted ≡ slow_verdict file long 0) where
-    parts : (sized file ≡ true) × (long ≡ true) × (judgement file ≡ Accepted)
+  module _ (h : (Ok tt) ≡ slow_verdict file long 0) where
+    parts : (sized file ≡ true) × (long ≡ true) × (judgement file ≡ Ok tt)
     parts = by_cases (sized file) long (judgement file) h
       where
-        by_cases : (a b : Bool) (v : Verdict) → Accepted ≡ cond a (cond b (and_then v 0) (refused 2 0)) (refused 1 0)
-            → (a ≡ true) × (b ≡ true) × (v ≡ Accepted)
-        by_cases true true (Refused q) e = absurd (not_accepted q (sym e))
-        by_cases true true Accepted e = (refl, refl, refl)
+        by_cases : (a b : Bool) (v : Verdict) → (Ok tt) ≡ cond a (cond b (and_then v 0) (refused 2 0)) (refused 1 0)
+            → (a ≡ true) × (b ≡ true) × (v ≡ Ok tt)
+        by_cases true true (Err q) e = absurd (not_accepted q (sym e))
+        by_cases true true (Ok _) e = (refl, refl, refl)
         by_cases true false v e = absurd (not_accepted _ (sym e))
         by_cases false b v e = absurd (not_accepted _ (sym e))
 
     pub lent_long : long ≡ true
     lent_long = parts.1
 
-    pub lent_accepted : verdict file ≡ Accepted
+    pub lent_accepted : verdict file ≡ Ok tt
     lent_accepted = judgement_accepted file parts.2
 
-    pub lent_then : (k : ℕ) → slow_verdict file long k ≡ and_then Accepted k
+    pub lent_then : (k : ℕ) → slow_verdict file long k ≡ and_then (Ok tt) k
     lent_then k = rw (parts.0, parts.1, parts.2)
 
 -- 20, clause by clause.
@@ -147,12 +144,12 @@ module _ (file : List ℕ) (S : SlowTables) where
   right_lists e f g b h = rw (e, f, g, h)
 
   -- The verdict by whether all hold.
-  module _ (long : Bool) (h : Accepted ≡ slow_verdict file long 0) where
-    pub verdict_20 : slow_right at n S ≡ false → Refused (refused_by 20) ≡ slow_verdict file long (slow_number at n S)
+  module _ (long : Bool) (h : (Ok tt) ≡ slow_verdict file long 0) where
+    pub verdict_20 : slow_right at n S ≡ false → Err (refused_by 20) ≡ slow_verdict file long (slow_number at n S)
     unfolding slow_number
     verdict_20 e = rw e (sym (lent_then file long h 20))
 
-    pub verdict_right : slow_right at n S ≡ true → Accepted ≡ slow_verdict file long (slow_number at n S)
+    pub verdict_right : slow_right at n S ≡ true → (Ok tt) ≡ slow_verdict file long (slow_number at n S)
     unfolding slow_number
     verdict_right e = rw e (sym (lent_then file long h 0))
 
@@ -182,7 +179,7 @@ pub laid_words : (file cs zs : List ℕ)
 laid_words file cs zs e f = e ∙ ap (overlay (joined (primitive_words (record_at file) (record_count file)) (primitives (record_at file) (record_count file)))) f
 
 -- What a component of the file gives the tests of its values.
-module _ (file cs is os : List ℕ) (accepted : verdict file ≡ Accepted) (words : cs ≡ drawn_words (record_at file) (record_count file))
+module _ (file cs is os : List ℕ) (accepted : verdict file ≡ Ok tt) (words : cs ≡ drawn_words (record_at file) (record_count file))
     (ins : 1024 ≤ length is) (outs : 1024 ≤ length os) (k : ℕ) (ek : k ≡ length (primitives (record_at file) (record_count file))) where
   pub row_given : (i : ℕ) → i < k → RowInside cs i × (obeyed_at cs i ≡ true) × InputsInside cs is i × OutputsInside cs os i
   row_given i h =
@@ -206,40 +203,40 @@ module _ (file cs : List ℕ) (words : cs ≡ drawn_words (record_at file) (reco
   names_as m em xs = rw (em, ek)
 
 -- An answer is ready or refused, and ready with one number.
-pub not_ready : (r : Refusal) (k : ℕ) → NotReady r ≡ Ready k → ⊥
+pub not_ready : (r : Refusal) (k : ℕ) → ◌≡◌ {A = Result ℕ Refusal} (Err r) (Ok k) → ⊥
 not_ready r k e = not_accepted r (sym (ap prepared_verdict (sym e)))
 
-abbrev counted_as : Prepared → ℕ
-counted_as (Ready k) = k
-counted_as (NotReady r) = 0
+abbrev counted_as : Result ℕ Refusal → ℕ
+counted_as (Ok k) = k
+counted_as (Err r) = 0
 
-pub ready_is : (j k : ℕ) → Ready j ≡ Ready k → k ≡ j
+pub ready_is : (j k : ℕ) → ◌≡◌ {A = Result ℕ Refusal} (Ok j) (Ok k) → k ≡ j
 ready_is j k e = sym (ap counted_as e)
 
 -- Accepted with a number behind it, all that is lent is long enough.
-pub lent_room : (file : List ℕ) (long : Bool) (k : ℕ) → Accepted ≡ slow_verdict file long k → long ≡ true
+pub lent_room : (file : List ℕ) (long : Bool) (k : ℕ) → (Ok tt) ≡ slow_verdict file long k → long ≡ true
 lent_room file long k e = by_cases (sized file) long e
   where
-    by_cases : (a b : Bool) → Accepted ≡ cond a (cond b (and_then (judgement file) k) (refused 2 0)) (refused 1 0) → b ≡ true
+    by_cases : (a b : Bool) → (Ok tt) ≡ cond a (cond b (and_then (judgement file) k) (refused 2 0)) (refused 1 0) → b ≡ true
     by_cases true true h = refl
     by_cases true false h = absurd (not_accepted _ (sym h))
     by_cases false b h = absurd (not_accepted _ (sym h))
 
 -- Where 0 behind a load's own verdict is accepted, any number behind it decides.
-pub accepted_behind : (file : List ℕ) (long : Bool) (j k : ℕ) → j ≡ 0 → Accepted ≡ slow_verdict file long j → slow_verdict file long k ≡ and_then Accepted k
+pub accepted_behind : (file : List ℕ) (long : Bool) (j k : ℕ) → j ≡ 0 → (Ok tt) ≡ slow_verdict file long j → slow_verdict file long k ≡ and_then (Ok tt) k
 accepted_behind file long j k z h = lent_then file long (h ∙ ap (slow_verdict file long) z) k
 
 -- Accepted with a number behind it, the number is 0, and the file is accepted.
-pub lent_number : (file : List ℕ) (long : Bool) (k : ℕ) → Accepted ≡ slow_verdict file long k → (k ≡ 0) × (verdict file ≡ Accepted)
+pub lent_number : (file : List ℕ) (long : Bool) (k : ℕ) → (Ok tt) ≡ slow_verdict file long k → (k ≡ 0) × (verdict file ≡ Ok tt)
 lent_number file long k e = by_cases (sized file) long (judgement file) refl e
   where
-    by_number : (b : Bool) → eqb k 0 ≡ b → Accepted ≡ cond b Accepted (Refused (refused_by k)) → k ≡ 0
+    by_number : (b : Bool) → eqb k 0 ≡ b → ◌≡◌ {A = Verdict} (Ok tt) (cond b (Ok tt) (Err (refused_by k))) → k ≡ 0
     by_number true h y = eqb-true k 0 h
     by_number false h y = absurd (not_accepted _ (sym y))
 
-    by_cases : (a b : Bool) (v : Verdict) → judgement file ≡ v → Accepted ≡ cond a (cond b (and_then v k) (refused 2 0)) (refused 1 0)
-        → (k ≡ 0) × (verdict file ≡ Accepted)
-    by_cases true true (Refused r) j h = absurd (not_accepted r (sym h))
-    by_cases true true Accepted j h = (by_number (eqb k 0) refl h, judgement_accepted file j)
+    by_cases : (a b : Bool) (v : Verdict) → judgement file ≡ v → (Ok tt) ≡ cond a (cond b (and_then v k) (refused 2 0)) (refused 1 0)
+        → (k ≡ 0) × (verdict file ≡ Ok tt)
+    by_cases true true (Err r) j h = absurd (not_accepted r (sym h))
+    by_cases true true (Ok _) j h = (by_number (eqb k 0) refl h, judgement_accepted file j)
     by_cases true false v j h = absurd (not_accepted _ (sym h))
     by_cases false b v j h = absurd (not_accepted _ (sym h))

@@ -15,7 +15,6 @@ use Rattle.lists.specs.Lists.{joined, overlay}
 use Rattle.lists.proofs.TestsLaws.{and_left, and_right}
 use Rattle.lists.proofs.OverlayLaws.{overlay_length, joined_width}
 use Rattle.component.specs.declared.Record.{Record}
-use Rattle.component.specs.declared.Verdict.TheVariants.{Accepted}
 use Rattle.component.specs.Record.{IsBytes, record_at, record_count}
 use Rattle.component.specs.Drawing.{inputs_before, outputs_before}
 use Rattle.flatten.specs.Verdict.{verdict}
@@ -40,6 +39,7 @@ use Rattle.slow.specs.Slow.{SlowTables, slow_full, slow_of, drawn, slow_round_of
 use Rattle.slow.proofs.Handed.{leaving_stored}
 use Rattle.slow.proofs.DrawingLaws.{blank, words_long}
 use Rattle.slow.proofs.PreparingLaws.{SlowSizes, slow_full-sound}
+use Rattle.std.specs.Prelude.{Ok}
 
 -- What 20 asks.
 pub record SlowParts (at : ℕ → Record) (n : ℕ) (S : SlowTables) : Type 0 where
@@ -138,7 +138,7 @@ slow_full-complete S z =
     )
 
 -- An accepted file of bytes.
-module _ (file : List ℕ) (bytes : IsBytes file) (accepted : verdict file ≡ Accepted) where
+module _ (file : List ℕ) (bytes : IsBytes file) (accepted : verdict file ≡ Ok tt) where
   abbrev at : ℕ → Record
   at = record_at file
 

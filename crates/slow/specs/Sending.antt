@@ -9,8 +9,6 @@
 -- Assumes nothing.
 use Rattle.std.specs.Prelude.{◌≡◌, ℕ, ◌≤◌, true, List, [], length}
 use Rattle.component.specs.declared.Record.{Record}
-use Rattle.component.specs.declared.Verdict.{Verdict}
-use Rattle.component.specs.declared.Verdict.TheVariants.{Accepted, Refused}
 use Rattle.component.specs.Record.{record_at, record_count}
 use Rattle.flatten.specs.declared.Pin.{Pin}
 use Rattle.tables.specs.declared.End.{End}
@@ -20,9 +18,10 @@ use Rattle.laying.specs.Laid.{primitives}
 use Rattle.laying.specs.Laying.{end_by, Ready as IsReady}
 use Rattle.rounds.specs.Steps.{wiring}
 use Rattle.simulator.specs.Asked.{inputs_set, outputs_set}
-use Rattle.slow.specs.declared.preparing.Prepared.{Prepared}
-use Rattle.slow.specs.declared.preparing.Prepared.TheVariants.{Ready, Refused as NotReady}
 use Rattle.slow.specs.Slow.{SlowTables, slow_full, drawn_words, slow_right}
+use Rattle.kinds.specs.Given.{Verdict}
+use Rattle.std.specs.Prelude.{Result, Ok, Err}
+use Rattle.kinds.specs.declared.answers.Refusal.{Refusal}
 
 abbrev pub lead_to : List ℕ → End → Pin → Wire
 lead_to fs f t = record { src = f; dst = end_by fs t }
@@ -38,9 +37,9 @@ pub record Drawing (file index fs cs is os : List ℕ) : Type 0 where
   pub outputs : 1024 ≤ length os
 
 -- The verdict that a preparation comes to.
-abbrev pub prepared_verdict : Prepared → Verdict
-prepared_verdict (Ready k) = Accepted
-prepared_verdict (NotReady r) = Refused r
+abbrev pub prepared_verdict : Result ℕ Refusal → Verdict
+prepared_verdict (Ok k) = Ok tt
+prepared_verdict (Err r) = Err r
 
 pub record IsPrepared (file index fs cs : List ℕ) (k : ℕ) (S : SlowTables) : Type 0 where
   pub ready : IsReady file index fs
@@ -51,8 +50,8 @@ pub record IsPrepared (file index fs cs : List ℕ) (k : ℕ) (S : SlowTables) :
 
 -- A table of ports after an edit of that verdict.
 abbrev pub set_by : Verdict → List ℕ → List ℕ → List ℕ
-set_by Accepted new old = new
-set_by (Refused r) new old = old
+set_by (Ok _) new old = new
+set_by (Err r) new old = old
 
 -- The inputs, and the outputs, with the port of component i of the file set to v.
 abbrev pub drawn_inputs : (ℕ → Record) → ℕ → ℕ → ℕ → List ℕ → List ℕ

@@ -6,10 +6,8 @@
 --   slow_right S             not 20
 use Rattle.std.specs.Prelude.{◌≡◌, ℕ, Bool, cond, not, ◌&&◌, List, [], ◌∷◌, map, length, replicate, eqb, leb}
 use Rattle.lists.specs.Lists.{from, any, joined, overlay, refusal, ◌if◌}
-use Rattle.kinds.specs.Given.{Given, done, declined}
+use Rattle.kinds.specs.Given.{Given, done, declined, Verdict}
 use Rattle.component.specs.declared.Record.{Record}
-use Rattle.component.specs.declared.Verdict.{Verdict}
-use Rattle.component.specs.declared.Verdict.TheVariants.{Accepted, Refused}
 use Rattle.component.specs.Record.{record_at, record_count, sized}
 use Rattle.component.specs.Drawing.{inputs_before, outputs_before}
 use Rattle.flatten.specs.declared.Pin.{Pin}
@@ -26,10 +24,9 @@ use Rattle.rounds.specs.Round.{state_of, leave, moved_by, round}
 use Rattle.simulator.specs.Edit.{Way, edited_state}
 use Rattle.simulator.specs.Calls.{edit_checks, Run, run_by}
 use Rattle.slow.specs.declared.SlowCounts.{SlowCounts}
-use Rattle.slow.specs.declared.SlowAnswer.{SlowAnswer}
-use Rattle.slow.specs.declared.SlowAnswer.TheVariants.{Done, Refused as Declined}
 use Rattle.slow.specs.declared.SlowRan.{SlowRan}
-use Rattle.slow.specs.declared.SlowRan.TheVariants.{Done as RanOut, Refused as NotRun}
+use Rattle.std.specs.Prelude.{Result, Ok, Err}
+use Rattle.kinds.specs.declared.answers.Refusal.{Refusal}
 
 -- The five lent tables, and how many entries of each are in use.
 pub record SlowTables : Type 0 where
@@ -124,8 +121,8 @@ slow_verdict file long k = cond (sized file) (cond long (and_then (judgement fil
 
 -- The tables after a call of that verdict: a refusal changes none.
 abbrev pub slow_by : Verdict → SlowTables → SlowTables → SlowTables
-slow_by Accepted new old = new
-slow_by (Refused r) new old = old
+slow_by (Ok _) new old = new
+slow_by (Err r) new old = old
 
 -- Each call on a file and on tables S.
 module _ (file : List ℕ) (S : SlowTables) where
@@ -172,38 +169,38 @@ abbrev pub slow_words : SlowCounts → List ℕ
 slow_words m = m.inputs ∷ m.outputs ∷ m.current ∷ m.following ∷ m.standing ∷ []
 
 -- What each answer gives: the new counts, or the refusal; of a run also the rounds, the evaluations and how many bits were set.
-abbrev pub slow_gives : SlowAnswer → Given
-slow_gives (Done m) = done (slow_words m)
-slow_gives (Declined r) = declined r
+abbrev pub slow_gives : Result SlowCounts Refusal → Given
+slow_gives (Ok m) = done (slow_words m)
+slow_gives (Err r) = declined r
 
-abbrev pub slow_ran_gives : SlowRan → Given
-slow_ran_gives (RanOut m rounds evaluations moved) = done (rounds ∷ evaluations ∷ moved ∷ slow_words m)
-slow_ran_gives (NotRun r) = declined r
+abbrev pub slow_ran_gives : Result SlowRan Refusal → Given
+slow_ran_gives (Ok a) = done (a.rounds ∷ a.evaluations ∷ a.moved ∷ slow_words a.counts)
+slow_ran_gives (Err r) = declined r
 
 -- The counts after a call: those in the answer, or the ones before where it is refused.
-abbrev pub slow_counts_after : SlowAnswer → SlowCounts → SlowCounts
-slow_counts_after (Done m) old = m
-slow_counts_after (Declined r) old = old
+abbrev pub slow_counts_after : Result SlowCounts Refusal → SlowCounts → SlowCounts
+slow_counts_after (Ok m) old = m
+slow_counts_after (Err r) old = old
 
-abbrev pub slow_counts_after_run : SlowRan → SlowCounts → SlowCounts
-slow_counts_after_run (RanOut m rounds evaluations moved) old = m
-slow_counts_after_run (NotRun r) old = old
+abbrev pub slow_counts_after_run : Result SlowRan Refusal → SlowCounts → SlowCounts
+slow_counts_after_run (Ok a) old = a.counts
+slow_counts_after_run (Err r) old = old
 
 -- The promises: the answer r gives what the verdict gives, with the new counts where it accepts, and the tables `left` are those after the call.
-abbrev pub SlowLoads : List ℕ → SlowTables → SlowAnswer → SlowTables → Type 0
+abbrev pub SlowLoads : List ℕ → SlowTables → Result SlowCounts Refusal → SlowTables → Type 0
 SlowLoads file before r left =
     (slow_gives r ≡ verdict_gives (slow_load_verdict file before) (slow_words left.counts)) × (left ≡ slow_load_tables file before)
 
-abbrev pub SlowRounds : List ℕ → ℕ → List ℕ → SlowTables → SlowAnswer → SlowTables → List ℕ → Type 0
+abbrev pub SlowRounds : List ℕ → ℕ → List ℕ → SlowTables → Result SlowCounts Refusal → SlowTables → List ℕ → Type 0
 SlowRounds file t bits before r left moved =
     (slow_gives r ≡ verdict_gives (slow_round_verdict file before bits) (slow_words left.counts))
     × (left ≡ slow_round_tables file before bits t) × (moved ≡ slow_moved file before bits t)
 
-abbrev pub SlowEdits : List ℕ → Way → ℕ → ℕ → SlowTables → SlowAnswer → SlowTables → Type 0
+abbrev pub SlowEdits : List ℕ → Way → ℕ → ℕ → SlowTables → Result SlowCounts Refusal → SlowTables → Type 0
 SlowEdits file way i v before r left =
     (slow_gives r ≡ verdict_gives (slow_edit_verdict file before i v) (slow_words left.counts)) × (left ≡ slow_edit_tables file before way i v)
 
-abbrev pub SlowRuns : List ℕ → ℕ → ℕ → SlowTables → SlowRan → SlowTables → Type 0
+abbrev pub SlowRuns : List ℕ → ℕ → ℕ → SlowTables → Result SlowRan Refusal → SlowTables → Type 0
 SlowRuns file t limit before r left =
     let made = slow_run file before t limit in
     (slow_ran_gives r

@@ -6,10 +6,9 @@ ghost use Rattle.slow.specs.Slow.{slow_tables_of, slow_edit_verdict, slow_counts
 ghost use Rattle.slow.specs.Sending.{set_by, drawn_inputs, drawn_outputs};
 
 use crate::entering::is_led_into;
-use crate::preparing::{Prepared, are_full, prepare};
-use crate::{SlowAnswer, SlowCounts};
-use component::Verdict;
-use kinds::refused_by;
+use crate::preparing::{are_full, prepare};
+use crate::SlowCounts;
+use kinds::{Refusal, refused_by};
 use simulator::{edit_number, set_port};
 use tables::FlatIdx;
 
@@ -24,7 +23,7 @@ fn set_or_refuse(
     counts: SlowCounts,
     i: usize,
     number: u64,
-) -> Verdict
+) -> Result<(), Refusal>
     ensures { let lent = slow_tables_of inputs.old outputs.old current.now following.now standing.now counts in
         (result ≡ slow_edit_verdict file.now lent i number)
         × (inputs.new ≡ set_by result (drawn_inputs (record_at file.now) (record_count file.now) i number inputs.old)
@@ -36,7 +35,7 @@ fn set_or_refuse(
     let mut indexes = [0u16; 256];
     let mut components = [0u64; 2048];
     let long = are_full(inputs, outputs, current, following, standing);
-    match prepare(
+    let count = prepare(
         file,
         long,
         inputs,
@@ -48,18 +47,14 @@ fn set_or_refuse(
         &mut index,
         &mut indexes,
         &mut components,
-    ) {
-        Prepared::Refused(refusal) => Verdict::Refused(refusal),
-        Prepared::Ready(count) => {
-            let entered = is_led_into(file, &index, &indexes, i);
-            let refused = edit_number(&components, count, entered, i, number);
-            if refused != 0 {
-                return Verdict::Refused(refused_by(refused));
-            }
-            set_port(&components, inputs, outputs, i, number);
-            Verdict::Accepted
-        }
+    )?;
+    let entered = is_led_into(file, &index, &indexes, i);
+    let refused = edit_number(&components, count, entered, i, number);
+    if refused != 0 {
+        return Err(refused_by(refused));
     }
+    set_port(&components, inputs, outputs, i, number);
+    Ok(())
 }
 
 // An edit that goes first: sets a component's port to a number and appends the component to the current list unless there. A refusal changes no
@@ -74,21 +69,19 @@ pub fn edit(
     counts: SlowCounts,
     index: FlatIdx,
     number: u64,
-) -> SlowAnswer
+) -> Result<SlowCounts, Refusal>
     ensures { let before = slow_tables_of inputs.old outputs.old current.old following.now
         standing.now counts in
         let after = slow_tables_of inputs.new outputs.new current.new following.now
         standing.now (slow_counts_after result counts) in
         SlowEdits file.now goes_first index.0 number before result after }
 {
-    if let Verdict::Refused(refusal) = set_or_refuse(
+    set_or_refuse(
         file, inputs, outputs, current, following, standing, counts, index.0, number,
-    ) {
-        return SlowAnswer::Refused(refusal);
-    }
+    )?;
     let mut left = counts;
     left.current = tables::append_new(current, counts.current, index.0 as u16);
-    SlowAnswer::Done(left)
+    Ok(left)
 }
 
 // The old way of an edit: sets the port likewise and appends the component to the standing list unless there.
@@ -102,19 +95,17 @@ pub fn edit_standing(
     counts: SlowCounts,
     index: FlatIdx,
     number: u64,
-) -> SlowAnswer
+) -> Result<SlowCounts, Refusal>
     ensures { let before = slow_tables_of inputs.old outputs.old current.now following.now
         standing.old counts in
         let after = slow_tables_of inputs.new outputs.new current.now following.now
         standing.new (slow_counts_after result counts) in
         SlowEdits file.now stands index.0 number before result after }
 {
-    if let Verdict::Refused(refusal) = set_or_refuse(
+    set_or_refuse(
         file, inputs, outputs, current, following, standing, counts, index.0, number,
-    ) {
-        return SlowAnswer::Refused(refusal);
-    }
+    )?;
     let mut left = counts;
     left.standing = tables::append_new(standing, counts.standing, index.0 as u16);
-    SlowAnswer::Done(left)
+    Ok(left)
 }

@@ -11,7 +11,6 @@ mod rounding;
 mod visiting;
 
 pub use editing::{edit, edit_standing};
-use kinds::Refusal;
 pub use loading::load;
 pub use rounding::{round, run_until_calm};
 
@@ -25,21 +24,11 @@ pub struct SlowCounts {
     pub standing: usize,
 }
 
-// The answer of a call that changes the tables: the new counts, or the refusal.
+// What a run comes to: the new counts, the rounds run, the evaluations made and how many times an output changed.
 #[derive(Clone, Copy)]
-pub enum SlowAnswer {
-    Done(SlowCounts),
-    Refused(Refusal),
-}
-
-// Run until calm: the new counts, the rounds run, the evaluations made and how many times an output changed.
-#[derive(Clone, Copy)]
-pub enum SlowRan {
-    Done {
-        counts: SlowCounts,
-        rounds: u16,
-        evaluations: u32,
-        moved: u32,
-    },
-    Refused(Refusal),
+pub struct SlowRan {
+    pub counts: SlowCounts,
+    pub rounds: u16,
+    pub evaluations: u32,
+    pub moved: u32,
 }

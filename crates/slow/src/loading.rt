@@ -2,15 +2,14 @@
 // state at load).
 ghost use Rattle.std.specs.Prelude.{◌≡◌, true};
 ghost use Rattle.component.specs.Record.{record_at, record_count};
-ghost use Rattle.component.specs.declared.Verdict.TheVariants.{Accepted};
 ghost use Rattle.flatten.specs.Verdict.{verdict};
 ghost use Rattle.load.specs.Load.{drawing_tables};
 ghost use Rattle.slow.specs.declared.SlowCounts.{SlowCounts};
 ghost use Rattle.slow.specs.Slow.{slow_tables_of, slow_full, slow_of, drawn, slow_counts_after, SlowLoads};
 
 use crate::preparing::{are_full, judge_lent};
-use crate::{SlowAnswer, SlowCounts};
-use component::Verdict;
+use crate::SlowCounts;
+use kinds::Refusal;
 use laying::{count_up, lay_components, lay_outputs, lay_standing, zeros};
 
 // Writes the ports and the lists of an accepted drawing: all ports 0, a Const's output its value; standing every Const and Clock, following a copy of
@@ -23,7 +22,7 @@ fn fill(
     following: &mut [u16],
     standing: &mut [u16],
 ) -> SlowCounts
-    requires { (verdict file.now ≡ Accepted) × ((m : SlowCounts)
+    requires { (verdict file.now ≡ Ok tt) × ((m : SlowCounts)
         → slow_full (slow_tables_of inputs.old outputs.old current.old following.old standing.old m) ≡ true) }
     ensures { (m : SlowCounts) → slow_tables_of inputs.new outputs.new current.new following.new
         standing.new result ≡ slow_of (drawing_tables (record_at file.now) (record_count file.now)
@@ -54,15 +53,13 @@ pub fn load(
     current: &mut [u16],
     following: &mut [u16],
     standing: &mut [u16],
-) -> SlowAnswer
+) -> Result<SlowCounts, Refusal>
     ensures { let before = slow_tables_of inputs.old outputs.old current.old following.old standing.old in
         let after = slow_tables_of inputs.new outputs.new current.new following.new standing.new in
         ((m : SlowCounts) → SlowLoads file.now (before m) result (after (slow_counts_after result m))) }
 {
     let mut index = [0u16; 3072];
     let long = are_full(inputs, outputs, current, following, standing);
-    if let Verdict::Refused(refusal) = judge_lent(file, long, &mut index) {
-        return SlowAnswer::Refused(refusal);
-    }
-    SlowAnswer::Done(fill(file, inputs, outputs, current, following, standing))
+    judge_lent(file, long, &mut index)?;
+    Ok(fill(file, inputs, outputs, current, following, standing))
 }

@@ -2,17 +2,14 @@
 ghost use Rattle.std.specs.Prelude.{◌≡◌, true, ◌&&◌, ℕ, ◌<◌, length, replicate, eqb, leb};
 ghost use Rattle.lists.specs.Lists.{from, every};
 ghost use Rattle.component.specs.Record.{record_at, record_count};
-ghost use Rattle.component.specs.declared.Verdict.TheVariants.{Accepted};
 ghost use Rattle.index.specs.Index.{IsIndex};
 ghost use Rattle.tables.specs.Words.{RowInside};
 ghost use Rattle.net.specs.Parts.{InputsInside, OutputsInside, obeyed_at, values_fit_at, held_at};
 ghost use Rattle.slow.specs.declared.SlowCounts.{SlowCounts};
-ghost use Rattle.slow.specs.declared.preparing.Prepared.TheVariants.{Ready};
 ghost use Rattle.slow.specs.Slow.{slow_tables_of, slow_full, slow_number, slow_verdict, counts_for};
 ghost use Rattle.slow.specs.Sending.{prepared_verdict, IsPrepared};
 
 use crate::SlowCounts;
-use component::Verdict;
 use kinds::{Refusal, refused_by};
 use laying::{Before, index_flat, lay_components};
 use net::{names, row_fits, row_held};
@@ -22,13 +19,6 @@ use tables::Counts;
 const PORTS: usize = 1024;
 
 const NAMES: usize = 256;
-
-// A call past its checks has so many components; or the refusal.
-#[derive(Clone, Copy)]
-pub enum Prepared {
-    Ready(usize),
-    Refused(Refusal),
-}
 
 // Whether no table is shorter than full size.
 pub(crate) fn are_full(
@@ -49,16 +39,16 @@ pub(crate) fn are_full(
 }
 
 // A load's own verdict: 1, 2 unless all that is lent is long enough, 3 to 15; the lent index, of 3,072 words, is filled where it accepts.
-pub(crate) fn judge_lent(file: &[u8], long: bool, index: &mut [u16]) -> Verdict
+pub(crate) fn judge_lent(file: &[u8], long: bool, index: &mut [u16]) -> Result<(), Refusal>
     requires { length index.old ≡ 3072 }
     ensures value { result ≡ slow_verdict file.now long 0 }
-    ensures index { result ≡ Accepted → IsIndex file.now index.new }
+    ensures index { result ≡ Ok tt → IsIndex file.now index.new }
 {
     if !component::is_sized(file) {
-        return Verdict::Refused(refused_by(1));
+        return Err(refused_by(1));
     }
     if !long {
-        return Verdict::Refused(refused_by(2));
+        return Err(refused_by(2));
     }
     meeting::judge_indexed(file, index)
 }
@@ -126,7 +116,7 @@ fn consts_held(components: &[u64], outputs: &[u64], count: usize) -> bool
 }
 
 // What a call on tables begins with: a load's own verdict, then 20. Where neither refuses, the lent index, the flat indexes and the words of the
-// components are those of the file.
+// components are those of the file, and the answer is how many components there are.
 pub(crate) fn prepare(
     file: &[u8],
     long: bool,
@@ -139,35 +129,33 @@ pub(crate) fn prepare(
     index: &mut [u16],
     indexes: &mut [u16],
     components: &mut [u64],
-) -> Prepared
+) -> Result<usize, Refusal>
     requires index_len { (length index.old ≡ 3072) × (length indexes.old ≡ 256) × (components.old ≡ replicate 2048 0) }
     requires counts_value { long ≡ true → slow_full (slow_tables_of inputs.now outputs.now current.now following.now standing.now counts) ≡ true }
     ensures { let lent = slow_tables_of inputs.now outputs.now current.now following.now standing.now counts in
         (prepared_verdict result ≡ slow_verdict file.now long (slow_number (record_at file.now) (record_count file.now) lent))
-        × ((k : ℕ) → result ≡ Ready k
+        × ((k : ℕ) → result ≡ Ok k
         → IsPrepared file.now index.new indexes.new components.new k lent) }
 {
-    if let Verdict::Refused(refusal) = judge_lent(file, long, index) {
-        return Prepared::Refused(refusal);
-    }
+    judge_lent(file, long, index)?;
     let all = lay_components(file, components);
     let count = all.components;
     if !counts_match(counts, all) {
-        return Prepared::Refused(refused_by(20));
+        return Err(refused_by(20));
     }
     if !values_fit(components, inputs, outputs, count) {
-        return Prepared::Refused(refused_by(20));
+        return Err(refused_by(20));
     }
     if !consts_held(components, outputs, count) {
-        return Prepared::Refused(refused_by(20));
+        return Err(refused_by(20));
     }
     let flat = counts_for(counts, count);
     if !(names(current, counts.current, flat)
         & names(following, counts.following, flat)
         & names(standing, counts.standing, flat))
     {
-        return Prepared::Refused(refused_by(20));
+        return Err(refused_by(20));
     }
     index_flat(file, indexes);
-    Prepared::Ready(count)
+    Ok(count)
 }

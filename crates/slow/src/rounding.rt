@@ -6,11 +6,12 @@ ghost use Rattle.simulator.specs.Calls.{run_by};
 ghost use Rattle.slow.specs.Slow.{slow_tables_of, slow_round_of, slow_bits, slow_counts_after, slow_counts_after_run, SlowRounds, SlowRuns, slow_counts_of};
 ghost use Rattle.slow.specs.Sending.{IsPrepared};
 
-use crate::preparing::{Prepared, are_full, counts_for, prepare};
+use crate::preparing::{are_full, counts_for, prepare};
 use crate::visiting::drawn_round;
-use crate::{SlowAnswer, SlowCounts, SlowRan};
+use crate::{SlowCounts, SlowRan};
+use kinds::Refusal;
 use rounds::net_calm;
-use simulator::count_moved;
+use simulator::{Ran, count_moved};
 use tables::Counts;
 
 // Full size of a table of bits: a word for each component that a round can evaluate.
@@ -41,7 +42,7 @@ pub fn round(
     moved: &mut [u64],
     counts: SlowCounts,
     time: u64,
-) -> SlowAnswer
+) -> Result<SlowCounts, Refusal>
     ensures { let before = slow_tables_of inputs.old outputs.old current.old following.old
         standing.old counts in
         let after = slow_tables_of inputs.new outputs.new current.new following.new
@@ -52,7 +53,7 @@ pub fn round(
     let mut indexes = [0u16; 256];
     let mut components = [0u64; 2048];
     let long = are_full(inputs, outputs, current, following, standing) & (WORDS <= moved.len());
-    match prepare(
+    let count = prepare(
         file,
         long,
         inputs,
@@ -64,32 +65,21 @@ pub fn round(
         &mut index,
         &mut indexes,
         &mut components,
-    ) {
-        Prepared::Refused(refusal) => SlowAnswer::Refused(refusal),
-        Prepared::Ready(count) => SlowAnswer::Done(slow_counts(drawn_round(
-            file,
-            &index,
-            &indexes,
-            &components,
-            inputs,
-            outputs,
-            current,
-            following,
-            standing,
-            moved,
-            counts_for(counts, count),
-            time,
-        ))),
-    }
-}
-
-// What a run comes to.
-#[derive(Clone, Copy)]
-struct Run {
-    counts: Counts,
-    rounds: u16,
-    evaluations: u32,
-    moved: u32,
+    )?;
+    Ok(slow_counts(drawn_round(
+        file,
+        &index,
+        &indexes,
+        &components,
+        inputs,
+        outputs,
+        current,
+        following,
+        standing,
+        moved,
+        counts_for(counts, count),
+        time,
+    )))
 }
 
 // Rounds, one after the other, at most `limit` of them, until the first that leaves calm.
@@ -106,7 +96,7 @@ fn drawn_run(
     counts: Counts,
     time: u64,
     limit: u16,
-) -> Run
+) -> Ran
     requires { IsPrepared file.now index.now indexes.now components.now counts.components (slow_tables_of inputs.old outputs.old
         current.old following.old standing.old (slow_counts_of counts)) × (counts.wires ≡ 0) }
     ensures { record {
@@ -138,7 +128,7 @@ fn drawn_run(
         rounds += 1;
         calm = net_calm(components, current, following, standing, reached);
     }
-    Run {
+    Ran {
         counts: reached,
         rounds,
         evaluations,
@@ -157,7 +147,7 @@ pub fn run_until_calm(
     counts: SlowCounts,
     time: u64,
     limit: u16,
-) -> SlowRan
+) -> Result<SlowRan, Refusal>
     ensures { let before = slow_tables_of inputs.old outputs.old current.old following.old
         standing.old counts in
         let after = slow_tables_of inputs.new outputs.new current.new following.new
@@ -168,7 +158,7 @@ pub fn run_until_calm(
     let mut indexes = [0u16; 256];
     let mut components = [0u64; 2048];
     let long = are_full(inputs, outputs, current, following, standing);
-    match prepare(
+    let count = prepare(
         file,
         long,
         inputs,
@@ -180,30 +170,25 @@ pub fn run_until_calm(
         &mut index,
         &mut indexes,
         &mut components,
-    ) {
-        Prepared::Refused(refusal) => SlowRan::Refused(refusal),
-        Prepared::Ready(count) => {
-            let made = drawn_run(
-                file,
-                &index,
-                &indexes,
-                &components,
-                inputs,
-                outputs,
-                current,
-                following,
-                standing,
-                counts_for(counts, count),
-                time,
-                limit,
-            );
-            let reached = made.counts;
-            SlowRan::Done {
-                counts: slow_counts(reached),
-                rounds: made.rounds,
-                evaluations: made.evaluations,
-                moved: made.moved,
-            }
-        }
-    }
+    )?;
+    let made = drawn_run(
+        file,
+        &index,
+        &indexes,
+        &components,
+        inputs,
+        outputs,
+        current,
+        following,
+        standing,
+        counts_for(counts, count),
+        time,
+        limit,
+    );
+    Ok(SlowRan {
+        counts: slow_counts(made.counts),
+        rounds: made.rounds,
+        evaluations: made.evaluations,
+        moved: made.moved,
+    })
 }

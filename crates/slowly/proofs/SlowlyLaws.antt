@@ -14,10 +14,8 @@ use Rattle.lists.specs.Lists.{overlay, refusal, ◌if◌}
 use Rattle.lists.proofs.TestsLaws.{and_right_false, or_left, or_right}
 use Rattle.kinds.specs.declared.Kind.TheVariants.{Switch, Input}
 use Rattle.kinds.specs.Kinds.{is, input_width, output_width}
-use Rattle.kinds.specs.Given.{Given, done, spoken, refused_by}
+use Rattle.kinds.specs.Given.{Given, done, spoken, refused_by, Verdict}
 use Rattle.value.specs.Value.{fits, of_width}
-use Rattle.component.specs.declared.Verdict.{Verdict}
-use Rattle.component.specs.declared.Verdict.TheVariants.{Accepted, Refused}
 use Rattle.component.specs.Record.{record_at, record_count, sized}
 use Rattle.flatten.specs.Verdict.{refused, verdict_gives, and_then}
 use Rattle.meeting.specs.Meeting.{judgement}
@@ -28,12 +26,11 @@ use Rattle.words.specs.Words.{values_in}
 use Rattle.words.specs.Said.{short}
 use Rattle.words.proofs.PlainLaws.{refusal_small}
 use Rattle.slow.specs.declared.SlowCounts.{SlowCounts}
-use Rattle.slow.specs.declared.SlowAnswer.{SlowAnswer}
-use Rattle.slow.specs.declared.SlowAnswer.TheVariants.{Done, Refused as Declined}
 use Rattle.slow.specs.declared.SlowRan.{SlowRan}
-use Rattle.slow.specs.declared.SlowRan.TheVariants.{Done as RanOut, Refused as NotRun}
 use Rattle.slow.specs.Slow.{SlowTables, slow_full, drawn, led_into, slow_right, slow_number, slow_edit_number, slow_verdict, slow_load_verdict, slow_round_verdict, slow_edit_verdict, slow_run_verdict, slow_words, slow_gives, slow_ran_gives, slow_counts_after, slow_counts_after_run, SlowRounds}
 use Rattle.slowly.specs.Slowly.{slow_counts_in, few_slow, CallSlow, few_slow_counts, slow_changed, CallSlowRounds, CallSlowRuns, few_to_run_slowly, ran_slowly}
+use Rattle.std.specs.Prelude.{Result, Ok, Err}
+use Rattle.kinds.specs.declared.answers.Refusal.{Refusal}
 
 -- Five stores are the words of the counts at the front.
 pub counts_laid : (ws : List ℕ) (m : SlowCounts) → 5 ≤ length ws
@@ -47,22 +44,22 @@ counts_laid (a ∷ b ∷ c ∷ []) m h = absurd (omega arith)
 counts_laid (a ∷ b ∷ c ∷ d ∷ []) m h = absurd (omega arith)
 
 -- The count words after a call.
-counts_after_lem : (a : SlowAnswer) (ws : List ℕ) → slow_counts_in (overlay (values_in (slow_gives a)) ws) ≡ slow_counts_after a (slow_counts_in ws)
+counts_after_lem : (a : Result SlowCounts Refusal) (ws : List ℕ) → slow_counts_in (overlay (values_in (slow_gives a)) ws) ≡ slow_counts_after a (slow_counts_in ws)
 unfolding slow_counts_in overlay
-counts_after_lem (Done m) ws = refl
-counts_after_lem (Declined x) ws = refl
+counts_after_lem (Ok m) ws = refl
+counts_after_lem (Err x) ws = refl
 
-counts_after_run_lem : (a : SlowRan) (ws : List ℕ) → slow_counts_in (overlay (drop 3 (values_in (slow_ran_gives a))) ws) ≡ slow_counts_after_run a (slow_counts_in ws)
+counts_after_run_lem : (a : Result SlowRan Refusal) (ws : List ℕ) → slow_counts_in (overlay (drop 3 (values_in (slow_ran_gives a))) ws) ≡ slow_counts_after_run a (slow_counts_in ws)
 unfolding slow_counts_in overlay
-counts_after_run_lem (RanOut m k e n) ws = refl
-counts_after_run_lem (NotRun x) ws = refl
+counts_after_run_lem (Ok a) ws = refl
+counts_after_run_lem (Err x) ws = refl
 
 -- A load, a round or an edit.
-module _ (P : SlowTables → SlowAnswer → SlowTables → Type 0) (few : Bool) (ws : List ℕ) (lent : SlowCounts → SlowTables) where
+module _ (P : SlowTables → Result SlowCounts Refusal → SlowTables → Type 0) (few : Bool) (ws : List ℕ) (lent : SlowCounts → SlowTables) where
   pub call_short : few ≡ true → CallSlow P few ws ws lent lent 131072
   call_short e = few_slow_counts e refl refl refl
 
-  pub call_made : (a : SlowAnswer) (m : SlowCounts) (ws' : List ℕ) (left : SlowCounts → SlowTables) (r : ℕ) → few ≡ false → m ≡ slow_counts_in ws
+  pub call_made : (a : Result SlowCounts Refusal) (m : SlowCounts) (ws' : List ℕ) (left : SlowCounts → SlowTables) (r : ℕ) → few ≡ false → m ≡ slow_counts_in ws
       → P (lent m) a (left (slow_counts_after a m)) → r ≡ spoken (slow_gives a) → ws' ≡ overlay (values_in (slow_gives a)) ws
       → CallSlow P few ws ws' lent left r
   call_made a m ws' left r h q p n w =
@@ -75,18 +72,18 @@ module _ (file : List ℕ) (t : ℕ) (ws bs : List ℕ) (lent : SlowCounts → S
   pub round_short : few_slow file ws ≡ true → CallSlowRounds file t ws ws bs bs lent lent 131072
   round_short e = (call_short _ (few_slow file ws) ws lent e, λ h. refl)
 
-  pub round_made : (a : SlowAnswer) (m : SlowCounts) (ws' bs' : List ℕ) (left : SlowCounts → SlowTables) (r : ℕ) → few_slow file ws ≡ false
+  pub round_made : (a : Result SlowCounts Refusal) (m : SlowCounts) (ws' bs' : List ℕ) (left : SlowCounts → SlowTables) (r : ℕ) → few_slow file ws ≡ false
       → m ≡ slow_counts_in ws → SlowRounds file t bs (lent m) a (left (slow_counts_after a m)) bs' → r ≡ spoken (slow_gives a)
       → ws' ≡ overlay (values_in (slow_gives a)) ws → CallSlowRounds file t ws ws' bs bs' lent left r
   round_made a m ws' bs' left r h q p n w =
       (call_made _ (few_slow file ws) ws lent a m ws' left r h q p n w, λ e. absurd (true≢false (sym e ∙ h)))
 
 -- Run until calm.
-module _ (P : SlowTables → SlowRan → SlowTables → Type 0) (few : Bool) (ws fs : List ℕ) (lent : SlowCounts → SlowTables) where
+module _ (P : SlowTables → Result SlowRan Refusal → SlowTables → Type 0) (few : Bool) (ws fs : List ℕ) (lent : SlowCounts → SlowTables) where
   pub run_short : few ≡ true → CallSlowRuns P few ws ws fs fs lent lent 131072
   run_short h = few_to_run_slowly h refl refl refl refl
 
-  pub run_made : (a : SlowRan) (m : SlowCounts) (ws' fs' : List ℕ) (left : SlowCounts → SlowTables) (r : ℕ) → few ≡ false → m ≡ slow_counts_in ws
+  pub run_made : (a : Result SlowRan Refusal) (m : SlowCounts) (ws' fs' : List ℕ) (left : SlowCounts → SlowTables) (r : ℕ) → few ≡ false → m ≡ slow_counts_in ws
       → P (lent m) a (left (slow_counts_after_run a m)) → r ≡ spoken (slow_ran_gives a) → ws' ≡ overlay (drop 3 (values_in (slow_ran_gives a))) ws
       → fs' ≡ overlay (take 3 (values_in (slow_ran_gives a))) fs → CallSlowRuns P few ws ws' fs fs' lent left r
   run_made a m ws' fs' left r h q p n w f =
@@ -159,8 +156,8 @@ module _ (file : List ℕ) (v : Verdict) (s : IsSlow file v) (g : Given) (xs : L
       (cond_small long (and_then (judgement file) k) (refused 2 0) (by_judgement (judgement file) refl) (omega arith)) (omega arith)
     where
       by_judgement : (u : Verdict) → judgement file ≡ u → spoken_of (and_then u k) < 4294967296
-      by_judgement (Refused r) j = judged_small file (Refused r) j
-      by_judgement Accepted j = cond_small (eqb k 0) Accepted (Refused (refused_by k)) (omega arith) (omega (arith, h))
+      by_judgement (Err r) j = judged_small file (Err r) j
+      by_judgement (Ok _) j = cond_small (eqb k 0) (Ok tt) (Err (refused_by k)) (omega arith) (omega (arith, h))
 
   pub said_small : spoken g < 4294967296
   said_small =

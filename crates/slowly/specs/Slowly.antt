@@ -13,9 +13,10 @@ use Rattle.component.specs.Record.{sized}
 use Rattle.words.specs.Words.{values_in}
 use Rattle.words.specs.Said.{short, says_short}
 use Rattle.slow.specs.declared.SlowCounts.{SlowCounts}
-use Rattle.slow.specs.declared.SlowAnswer.{SlowAnswer}
 use Rattle.slow.specs.declared.SlowRan.{SlowRan}
 use Rattle.slow.specs.Slow.{SlowTables, slow_gives, slow_ran_gives, SlowRounds}
+use Rattle.std.specs.Prelude.{Result}
+use Rattle.kinds.specs.declared.answers.Refusal.{Refusal}
 
 -- The counts that words hold.
 unfoldable pub slow_counts_in : List ℕ → SlowCounts
@@ -27,10 +28,10 @@ abbrev pub few_slow : List ℕ → List ℕ → Bool
 few_slow file ws = sized file && short ws 5
 
 -- A load, a round or an edit, where P is the engine's promise: its answer is said, and its counts are laid over the count words.
-pub data CallSlow (P : SlowTables → SlowAnswer → SlowTables → Type 0) (few : Bool) (ws ws' : List ℕ) (lent left : SlowCounts → SlowTables) (r : ℕ) :
+pub data CallSlow (P : SlowTables → Result SlowCounts Refusal → SlowTables → Type 0) (few : Bool) (ws ws' : List ℕ) (lent left : SlowCounts → SlowTables) (r : ℕ) :
     Type 0 where
   few_slow_counts : few ≡ true → r ≡ says_short → ws' ≡ ws → left (slow_counts_in ws) ≡ lent (slow_counts_in ws) → CallSlow P few ws ws' lent left r
-  slow_changed : (a : SlowAnswer) → few ≡ false → P (lent (slow_counts_in ws)) a (left (slow_counts_in ws')) → r ≡ spoken (slow_gives a)
+  slow_changed : (a : Result SlowCounts Refusal) → few ≡ false → P (lent (slow_counts_in ws)) a (left (slow_counts_in ws')) → r ≡ spoken (slow_gives a)
       → ws' ≡ overlay (values_in (slow_gives a)) ws → CallSlow P few ws ws' lent left r
 
 -- A round at time t, which is lent a table of bits besides: bs before, bs' after. Too few words leave it as it was.
@@ -39,10 +40,10 @@ CallSlowRounds file t ws ws' bs bs' lent left r =
     CallSlow (λ S a U. SlowRounds file t bs S a U bs') (few_slow file ws) ws ws' lent left r × (few_slow file ws ≡ true → bs' ≡ bs)
 
 -- Run until calm: rounds, evaluations and bits set, the first three values, are laid over fs, the counts over the count words.
-pub data CallSlowRuns (P : SlowTables → SlowRan → SlowTables → Type 0) (few : Bool) (ws ws' fs fs' : List ℕ) (lent left : SlowCounts → SlowTables) (r : ℕ) :
+pub data CallSlowRuns (P : SlowTables → Result SlowRan Refusal → SlowTables → Type 0) (few : Bool) (ws ws' fs fs' : List ℕ) (lent left : SlowCounts → SlowTables) (r : ℕ) :
     Type 0 where
   few_to_run_slowly : few ≡ true → r ≡ says_short → ws' ≡ ws → fs' ≡ fs → left (slow_counts_in ws) ≡ lent (slow_counts_in ws)
       → CallSlowRuns P few ws ws' fs fs' lent left r
-  ran_slowly : (a : SlowRan) → few ≡ false → P (lent (slow_counts_in ws)) a (left (slow_counts_in ws')) → r ≡ spoken (slow_ran_gives a)
+  ran_slowly : (a : Result SlowRan Refusal) → few ≡ false → P (lent (slow_counts_in ws)) a (left (slow_counts_in ws')) → r ≡ spoken (slow_ran_gives a)
       → ws' ≡ overlay (drop 3 (values_in (slow_ran_gives a))) ws → fs' ≡ overlay (take 3 (values_in (slow_ran_gives a))) fs
       → CallSlowRuns P few ws ws' fs fs' lent left r

@@ -4,12 +4,11 @@ ghost use Rattle.lists.specs.Lists.{overlay};
 ghost use Rattle.kinds.specs.Given.{spoken};
 ghost use Rattle.words.specs.Words.{values_in};
 ghost use Rattle.slow.specs.declared.SlowCounts.{SlowCounts};
-ghost use Rattle.slow.specs.declared.SlowAnswer.TheVariants.{Done};
-ghost use Rattle.slow.specs.declared.SlowRan.TheVariants.{Done as RanOut};
 ghost use Rattle.slow.specs.Slow.{slow_words, slow_gives, slow_ran_gives};
 ghost use Rattle.slowly.specs.Slowly.{slow_counts_in};
 
-use slow::{SlowAnswer, SlowCounts, SlowRan};
+use kinds::Refusal;
+use slow::{SlowCounts, SlowRan};
 use words::count_at;
 
 // The counts that words hold.
@@ -38,40 +37,35 @@ fn lay(words: &mut [u64], counts: SlowCounts)
 }
 
 // Lays the counts of an answer that changed the tables, and says its number and position. Where it is done there are five words.
-pub(crate) fn keep(words: &mut [u64], answer: SlowAnswer) -> u32
-    requires { ((m : SlowCounts) → answer ≡ Done m → 5 ≤ length words.old) × (spoken (slow_gives answer) < 4294967296) }
+pub(crate) fn keep(words: &mut [u64], answer: Result<SlowCounts, Refusal>) -> u32
+    requires { ((m : SlowCounts) → answer ≡ Ok m → 5 ≤ length words.old) × (spoken (slow_gives answer) < 4294967296) }
     ensures { (result ≡ spoken (slow_gives answer)) × (words.new ≡ overlay (values_in (slow_gives answer)) words.old) }
 {
     match answer {
-        SlowAnswer::Done(counts) => {
+        Ok(counts) => {
             lay(words, counts);
             0
         }
-        SlowAnswer::Refused(refusal) => 65536 * refusal.number + refusal.position,
+        Err(refusal) => 65536 * refusal.number + refusal.position,
     }
 }
 
 // The counts of a run, and its three words, likewise.
-pub(crate) fn keep_run(words: &mut [u64], found: &mut [u64], answer: SlowRan) -> u32
-    requires { ((m : SlowCounts) (k e n : ℕ) → answer ≡ RanOut m k e n → (5 ≤ length words.old) × (3 ≤ length found.old))
+pub(crate) fn keep_run(words: &mut [u64], found: &mut [u64], answer: Result<SlowRan, Refusal>) -> u32
+    requires { ((ran : SlowRan) → answer ≡ Ok ran → (5 ≤ length words.old) × (3 ≤ length found.old))
         × (spoken (slow_ran_gives answer) < 4294967296) }
     ensures { (result ≡ spoken (slow_ran_gives answer))
         × (words.new ≡ overlay (drop 3 (values_in (slow_ran_gives answer))) words.old)
         × (found.new ≡ overlay (take 3 (values_in (slow_ran_gives answer))) found.old) }
 {
     match answer {
-        SlowRan::Done {
-            counts,
-            rounds,
-            evaluations,
-            moved,
-        } => {
-            lay(words, counts);
-            found[0] = rounds as u64;
-            found[1] = evaluations as u64;
-            found[2] = moved as u64;
+        Ok(ran) => {
+            lay(words, ran.counts);
+            found[0] = ran.rounds as u64;
+            found[1] = ran.evaluations as u64;
+            found[2] = ran.moved as u64;
             0
         }
-        SlowRan::Refused(refusal) => 65536 * refusal.number + refusal.position,
+        Err(refusal) => 65536 * refusal.number + refusal.position,
     }
 }

@@ -7,9 +7,9 @@ use lib.ListN.{get_or}
 use Rattle.kinds.specs.Given.{Given}
 use Rattle.kinds.proofs.GivenLaws.{done_values, done_declined, declined_refusal}
 use Rattle.tables.specs.declared.Counts.{Counts}
-use Rattle.tables.specs.declared.Answer.{Answer}
-use Rattle.tables.specs.declared.Answer.TheVariants.{Done, Refused}
 use Rattle.tables.specs.Tables.{Tables, count_words, answer_gives, Changes}
+use Rattle.std.specs.Prelude.{Result, Ok, Err}
+use Rattle.kinds.specs.declared.answers.Refusal.{Refusal}
 
 -- The counts whose values are these.
 abbrev counted : List ℕ → Counts
@@ -27,11 +27,11 @@ counted xs =
 pub count_words-is : (m k : Counts) → count_words m ≡ count_words k → m ≡ k
 count_words-is m k e = ap counted e
 
-pub answer_gives-is : (a b : Answer) → answer_gives a ≡ answer_gives b → a ≡ b
-answer_gives-is (Done m) (Done k) e = ap Done (count_words-is m k (done_values (count_words m) (count_words k) e))
-answer_gives-is (Done m) (Refused r) e = absurd (done_declined (count_words m) r e)
-answer_gives-is (Refused r) (Done m) e = absurd (done_declined (count_words m) r (sym e))
-answer_gives-is (Refused r) (Refused s) e = ap Refused (declined_refusal r s e)
+pub answer_gives-is : (a b : Result Counts Refusal) → answer_gives a ≡ answer_gives b → a ≡ b
+answer_gives-is (Ok m) (Ok k) e = ap Ok (count_words-is m k (done_values (count_words m) (count_words k) e))
+answer_gives-is (Ok m) (Err r) e = absurd (done_declined (count_words m) r e)
+answer_gives-is (Err r) (Ok m) e = absurd (done_declined (count_words m) r (sym e))
+answer_gives-is (Err r) (Err s) e = ap Err (declined_refusal r s e)
 
 -- Any two outcomes that the promise of a call allows are equal.
 pub changes_determined : {A : Type 0} (gives : A → Given) → ((a b : A) → gives a ≡ gives b → a ≡ b) → (given : List ℕ → Given) (new : Tables)

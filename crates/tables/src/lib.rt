@@ -8,7 +8,6 @@ mod sizes;
 mod wires;
 mod words;
 
-use kinds::Refusal;
 pub use named::{append_new, copy, strike};
 pub use rows::{
     fields_at, fields_fit, first_input, first_output, has_id, id_word, input_count, is_kind,
@@ -48,9 +47,3 @@ pub struct Counts {
     pub standing: usize,
 }
 
-// The answer to a call that changes the tables: the new counts, or the refusal.
-#[derive(Clone, Copy)]
-pub enum Answer {
-    Done(Counts),
-    Refused(Refusal),
-}

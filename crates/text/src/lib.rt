@@ -32,10 +32,8 @@ pub fn put_bytes(out: &mut [u8], at: usize, bytes: &[u8]) -> usize
     ensures out_after { out.new ≡ written out.old at bytes.now }
 {
     let mut next = within(out, at);
-    let mut i: usize = 0;
-    while i < bytes.len() {
-        next = put(out, next, bytes[i]);
-        i += 1;
+    for byte in bytes {
+        next = put(out, next, *byte);
     }
     next
 }
@@ -65,10 +63,8 @@ pub fn put_numbers(out: &mut [u8], at: usize, numbers: &[u64]) -> usize
     ensures out_after { out.new ≡ written out.old at (spaced numbers.now) }
 {
     let mut next = within(out, at);
-    let mut i: usize = 0;
-    while i < numbers.len() {
-        next = put_spaced(out, next, numbers[i]);
-        i += 1;
+    for number in numbers {
+        next = put_spaced(out, next, *number);
     }
     next
 }
@@ -86,10 +82,8 @@ pub fn put_shorts(out: &mut [u8], at: usize, numbers: &[u16]) -> usize
     ensures out_after { out.new ≡ written out.old at (spaced numbers.now) }
 {
     let mut next = within(out, at);
-    let mut i: usize = 0;
-    while i < numbers.len() {
-        next = put_spaced(out, next, wide(numbers[i]));
-        i += 1;
+    for number in numbers {
+        next = put_spaced(out, next, wide(*number));
     }
     next
 }

@@ -9,9 +9,10 @@ use Rattle.std.specs.Prelude.{ℕ, ◌≡◌, Bool, true, false, List, length, l
 use Rattle.lists.specs.Lists.{overlay}
 use Rattle.kinds.specs.Given.{declined, refused_by, spoken}
 use Rattle.tables.specs.declared.Counts.{Counts}
-use Rattle.tables.specs.declared.Answer.{Answer}
 use Rattle.tables.specs.Tables.{Tables, answer_gives}
 use Rattle.words.specs.Words.{counts_in, values_in}
+use Rattle.std.specs.Prelude.{Result}
+use Rattle.kinds.specs.declared.answers.Refusal.{Refusal}
 
 -- Fewer than n words are lent.
 abbrev pub short : List ℕ → ℕ → Bool
@@ -22,7 +23,7 @@ abbrev pub says_short : ℕ
 says_short = spoken (declined (refused_by 2))
 
 -- A load, a round or an edit, where P is the engine's promise: its answer is said, and its counts are laid over the count words.
-pub data CallChanges (P : Tables → Answer → Tables → Type 0) (few : Bool) (ws ws' : List ℕ) (lent left : Counts → Tables) (r : ℕ) : Type 0 where
+pub data CallChanges (P : Tables → Result Counts Refusal → Tables → Type 0) (few : Bool) (ws ws' : List ℕ) (lent left : Counts → Tables) (r : ℕ) : Type 0 where
   few_counts : few ≡ true → r ≡ says_short → ws' ≡ ws → left (counts_in ws) ≡ lent (counts_in ws) → CallChanges P few ws ws' lent left r
-  changed : (a : Answer) → few ≡ false → P (lent (counts_in ws)) a (left (counts_in ws')) → r ≡ spoken (answer_gives a)
+  changed : (a : Result Counts Refusal) → few ≡ false → P (lent (counts_in ws)) a (left (counts_in ws')) → r ≡ spoken (answer_gives a)
       → ws' ≡ overlay (values_in (answer_gives a)) ws → CallChanges P few ws ws' lent left r

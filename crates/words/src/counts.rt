@@ -5,7 +5,8 @@ ghost use Rattle.kinds.specs.Given.{spoken};
 ghost use Rattle.tables.specs.Tables.{count_words, answer_gives};
 ghost use Rattle.words.specs.Words.{counts_in, values_in};
 
-use tables::{Answer, Counts};
+use kinds::Refusal;
+use tables::Counts;
 
 // A word of a table, as a count; past the table's end 0 stands for it.
 pub fn count_at(words: &[u64], at: usize) -> usize
@@ -48,29 +49,29 @@ pub(crate) fn lay(words: &mut [u64], counts: Counts)
 }
 
 // Lays the counts of an answer that changed the tables, and says its number. Crate changing calls it where seven count words are lent.
-pub fn keep(words: &mut [u64], answer: Answer) -> u32
+pub fn keep(words: &mut [u64], answer: Result<Counts, Refusal>) -> u32
     requires { (7 ≤ length words.old) × ((answer_gives answer).number < 65536) }
     ensures { (result ≡ 65536 * (answer_gives answer).number) × (words.new ≡ overlay (values_in (answer_gives answer)) words.old) }
 {
     match answer {
-        Answer::Done(counts) => {
+        Ok(counts) => {
             lay(words, counts);
             0
         }
-        Answer::Refused(refusal) => 65536 * refusal.number,
+        Err(refusal) => 65536 * refusal.number,
     }
 }
 
 // The same of a load, whose refusals have a position. Crate host calls it likewise.
-pub fn keep_loaded(words: &mut [u64], answer: Answer) -> u32
+pub fn keep_loaded(words: &mut [u64], answer: Result<Counts, Refusal>) -> u32
     requires { (7 ≤ length words.old) × (spoken (answer_gives answer) < 4294967296) }
     ensures { (result ≡ spoken (answer_gives answer)) × (words.new ≡ overlay (values_in (answer_gives answer)) words.old) }
 {
     match answer {
-        Answer::Done(counts) => {
+        Ok(counts) => {
             lay(words, counts);
             0
         }
-        Answer::Refused(refusal) => 65536 * refusal.number + refusal.position,
+        Err(refusal) => 65536 * refusal.number + refusal.position,
     }
 }

@@ -16,28 +16,28 @@ use Rattle.listing.proofs.list.Goals as goal
 pub put_net-wired-requires : goal.put_net-wired-requires
 put_net-wired-requires c =
     let r = c.load-answer in
-    let T = tables_of r.new.components r.new.inputs r.new.outputs r.new.wires r.new.current r.new.following r.new.standing c.in-Done.counts in
+    let T = tables_of r.new.components r.new.inputs r.new.outputs r.new.wires r.new.current r.new.following r.new.standing c.in-Ok.counts in
     let bytes : IsBytes c.args.file.now = λ i. omega (arith, c.type_inv.file i) in
-    let is_net : net_number T ≡ 0 = listed_net c.args.file.now r.result T (r.ensures fresh.counts) _ c.in-Done.is bytes in
+    let is_net : net_number T ≡ 0 = listed_net c.args.file.now r.result T (r.ensures fresh.counts) _ c.in-Ok.is bytes in
     (net_rows T is_net, net_wires T is_net)
 
 pub put_rounds-requires : goal.put_rounds-requires
 put_rounds-requires c =
     let r = c.load-answer in
-    let T = tables_of r.new.components r.new.inputs r.new.outputs r.new.wires r.new.current r.new.following r.new.standing c.in-Done.counts in
+    let T = tables_of r.new.components r.new.inputs r.new.outputs r.new.wires r.new.current r.new.following r.new.standing c.in-Ok.counts in
     let bytes : IsBytes c.args.file.now = λ i. omega (arith, c.type_inv.file i) in
-    let is_net : net_number T ≡ 0 = listed_net c.args.file.now r.result T (r.ensures fresh.counts) _ c.in-Done.is bytes in
+    let is_net : net_number T ≡ 0 = listed_net c.args.file.now r.result T (r.ensures fresh.counts) _ c.in-Ok.is bytes in
     (inside c.put_net-wired.ensures, is_net)
 
-pub returns-in-Done : goal.returns-in-Done
-returns-in-Done c =
+pub returns-in-Ok : goal.returns-in-Ok
+returns-in-Ok c =
     let r = c.load-answer in
-    let T = tables_of r.new.components r.new.inputs r.new.outputs r.new.wires r.new.current r.new.following r.new.standing c.in-Done.counts in
-    named_as (listed_done c.args.file.now r.result T (r.ensures fresh.counts) _ c.in-Done.is)
+    let T = tables_of r.new.components r.new.inputs r.new.outputs r.new.wires r.new.current r.new.following r.new.standing c.in-Ok.counts in
+    named_as (listed_done c.args.file.now r.result T (r.ensures fresh.counts) _ c.in-Ok.is)
     (both {ys = round_lines 16 1 T} c.put_net-wired.ensures c.put_rounds.ensures)
 
-pub returns-in-Refused : goal.returns-in-Refused
-returns-in-Refused c =
+pub returns-in-Err : goal.returns-in-Err
+returns-in-Err c =
     let r = c.load-answer in
     let T = tables_of r.new.components r.new.inputs r.new.outputs r.new.wires r.new.current r.new.following r.new.standing fresh.counts in
-    named_as (listed_refused c.args.file.now r.result T (r.ensures fresh.counts) _ c.in-Refused.is) c.put_refused.ensures
+    named_as (listed_refused c.args.file.now r.result T (r.ensures fresh.counts) _ c.in-Err.is) c.put_refused.ensures

@@ -8,28 +8,28 @@ use lib.ListN.{get_or, drop}
 use Rattle.text.proofs.TextLaws.{ToCome, begun, put_piece, ended, byte_first, none_left}
 use Rattle.text.proofs.put_bytes.Goals as goal
 
-pub loop-i-init : goal.loop-i-init
-loop-i-init c =
+pub loop-byte-init : goal.loop-byte-init
+loop-byte-init c =
     let a = c.args in
     (omega arith, begun a.out.now a.bytes.now a.at c.within-next.result c.within-next.ensures)
 
-pub loop-i-preserved : goal.loop-i-preserved
-loop-i-preserved c =
+pub loop-byte-preserved : goal.loop-byte-preserved
+loop-byte-preserved c =
     let a = c.args in
-    let s = c.loop-i in
+    let s = c.loop-byte in
     let r = c.put-next in (
       omega arith,
-      put_piece a.out.now a.bytes.now s.out r.new.out (get_or a.bytes.now s.i 0 ∷ [])
-          (drop (s.i + 1) a.bytes.now) a.at s.next r.result
+      put_piece a.out.now a.bytes.now s.out r.new.out (get_or a.bytes.now s.byte-index 0 ∷ [])
+          (drop (s.byte-index + 1) a.bytes.now) a.at s.next r.result
           (subst (ToCome a.out.now a.at a.bytes.now s.out s.next)
-          (byte_first a.bytes.now s.i (omega arith)) s.invariant.1)
+          (byte_first a.bytes.now s.byte-index (omega arith)) s.invariant.1)
           r.ensures.value r.ensures.out_after,
     )
 
 pub returns : goal.returns
 returns c =
     let a = c.args in
-    let s = c.loop-i in
-    let e = ended a.out.now a.bytes.now s.out (drop s.i a.bytes.now) a.at s.next s.invariant.1
-    (none_left a.bytes.now s.i s.invariant.0 (omega arith)) in
+    let s = c.loop-byte in
+    let e = ended a.out.now a.bytes.now s.out (drop s.byte-index a.bytes.now) a.at s.next s.invariant.1
+    (none_left a.bytes.now s.byte-index s.invariant.0 (omega arith)) in
     record { value = e.0; out_after = e.1 }

@@ -6,24 +6,24 @@ use Rattle.text.specs.Text.{spaced}
 use Rattle.text.proofs.TextLaws.{begun, put_next, ended_spaced}
 use Rattle.text.proofs.put_numbers.Goals as goal
 
-pub loop-i-init : goal.loop-i-init
-loop-i-init c =
+pub loop-number-init : goal.loop-number-init
+loop-number-init c =
     let a = c.args in
     (omega arith, begun a.out.now (spaced a.numbers.now) a.at c.within-next.result c.within-next.ensures)
 
-pub loop-i-preserved : goal.loop-i-preserved
-loop-i-preserved c =
+pub loop-number-preserved : goal.loop-number-preserved
+loop-number-preserved c =
     let a = c.args in
-    let s = c.loop-i in
+    let s = c.loop-number in
     let r = c.put_spaced-next in (
       omega arith,
-      put_next a.out.now s.out r.new.out a.numbers.now a.at s.i _ s.next r.result
+      put_next a.out.now s.out r.new.out a.numbers.now a.at s.number-index _ s.next r.result
           (omega arith) refl s.invariant.1 r.ensures.value r.ensures.out_after,
     )
 
 pub returns : goal.returns
 returns c =
     let a = c.args in
-    let s = c.loop-i in
-    let e = ended_spaced a.out.now s.out a.numbers.now a.at s.i s.next s.invariant.0 (omega arith) s.invariant.1 in
+    let s = c.loop-number in
+    let e = ended_spaced a.out.now s.out a.numbers.now a.at s.number-index s.next s.invariant.0 (omega arith) s.invariant.1 in
     record { value = e.0; out_after = e.1 }

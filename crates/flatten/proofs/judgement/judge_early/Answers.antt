@@ -4,15 +4,17 @@ use Prim.Native.Nat.{◌/◌}
 use native.Mathlib.Omega.{arith}
 use lib.ListN.{length}
 use Rattle.component.specs.Record.{record_at}
+use Rattle.kinds.proofs.GivenLaws.{handed_on}
 use Rattle.flatten.proofs.JudgementLaws.{judged_here, passed_next, judged_refused, judged_passed}
 use Rattle.flatten.proofs.judgement.judge_early.Goals as goal
 
-pub returns-in-Refused : goal.returns-in-Refused
-returns-in-Refused c =
+pub returns-in_err-refused_at : goal.returns-in_err-refused_at
+returns-in_err-refused_at c =
     let a = c.args in
     let l = c.loop-k in
-    judged_refused (record_at a.file.now) (length a.file.now / 24) 12 _
-    (judged_here a.file.now (length a.file.now / 24) l.k l.invariant.2 _ c.refused_at.ensures _ (omega (arith, l.invariant.0)) (omega (arith, c.loop-k-test.true)) c.in-Refused.is)
+    rw (handed_on c.from_residual.result _ c.from_residual.ensures.1)
+    (judged_refused (record_at a.file.now) (length a.file.now / 24) 12 _
+    (judged_here a.file.now (length a.file.now / 24) l.k l.invariant.2 _ c.refused_at.ensures _ (omega (arith, l.invariant.0)) (omega (arith, c.loop-k-test.true)) c.in_err-refused_at.was))
 
 pub loop-k-preserved : goal.loop-k-preserved
 loop-k-preserved c =
@@ -20,7 +22,7 @@ loop-k-preserved c =
     let l = c.loop-k in (
       omega (arith, l.invariant.0),
       omega (arith, c.loop-k-test.true),
-      passed_next a.file.now (length a.file.now / 24) l.k l.invariant.2 _ c.refused_at.ensures (omega (arith, l.invariant.0)) (omega (arith, c.loop-k-test.true)) c.in_default.is,
+      passed_next a.file.now (length a.file.now / 24) l.k l.invariant.2 _ c.refused_at.ensures (omega (arith, l.invariant.0)) (omega (arith, c.loop-k-test.true)) c.in_ok-refused_at.was,
     )
 
 pub returns : goal.returns

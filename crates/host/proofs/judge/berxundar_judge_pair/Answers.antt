@@ -3,30 +3,29 @@
 use mathlib.Core.Path.{sym, ap, ◌∙◌}
 use native.Mathlib.Omega.{arith}
 use mathlib.Core.List.{[]}
-use Rattle.kinds.specs.Given.{spoken_pair}
-use Rattle.component.specs.declared.Verdict.{Verdict}
+use Rattle.kinds.specs.Given.{spoken_pair, Verdict}
 use Rattle.flatten.specs.Verdict.{verdict_gives}
 use Rattle.meeting.proofs.MeetingLaws.{judges_judgement, judgement_small}
 use Rattle.host.proofs.judge.berxundar_judge_pair.Goals as goal
 
 pub overflow_add-result : goal.overflow_add-result
 overflow_add-result c =
-    let s = judgement_small c.args.file.now c.in-Refused.refusal
-    (sym (judges_judgement _ _ c.judge.ensures) ∙ c.in-Refused.is) in
+    let s = judgement_small c.args.file.now c.in-Err.refusal
+    (sym (judges_judgement _ _ c.judge.ensures) ∙ c.in-Err.is) in
     omega (arith, s.number, s.position)
 
-pub overflow_add-result-in-Refused : goal.overflow_add-result-in-Refused
-overflow_add-result-in-Refused c =
-    let s = judgement_small c.args.file.now c.in-Refused.refusal
-    (sym (judges_judgement _ _ c.judge.ensures) ∙ c.in-Refused.is) in
+pub overflow_add-result-in-Err : goal.overflow_add-result-in-Err
+overflow_add-result-in-Err c =
+    let s = judgement_small c.args.file.now c.in-Err.refusal
+    (sym (judges_judgement _ _ c.judge.ensures) ∙ c.in-Err.is) in
     omega (arith, s.number, s.position, s.earlier)
 
-pub returns-in-Accepted : goal.returns-in-Accepted
-returns-in-Accepted c =
+pub returns-in-Ok : goal.returns-in-Ok
+returns-in-Ok c =
     ap (λ (v : Verdict). spoken_pair (verdict_gives v []))
-    (sym c.in-Accepted.is ∙ judges_judgement _ _ c.judge.ensures)
+    (sym c.in-Ok.is ∙ judges_judgement _ _ c.judge.ensures)
 
-pub returns-in-Refused : goal.returns-in-Refused
-returns-in-Refused c =
+pub returns-in-Err : goal.returns-in-Err
+returns-in-Err c =
     ap (λ (v : Verdict). spoken_pair (verdict_gives v []))
-    (sym c.in-Refused.is ∙ judges_judgement _ _ c.judge.ensures)
+    (sym c.in-Err.is ∙ judges_judgement _ _ c.judge.ensures)

@@ -3,9 +3,13 @@
 use mathlib.Core.Path.{ap}
 use Rattle.value.specs.declared.Value.{Value}
 use Rattle.kinds.specs.declared.table.Fields.{Fields}
-use Rattle.look.specs.declared.Looked.TheVariants.{Shown}
 use Rattle.look.proofs.ShowLaws.{first_room, second_room, both_shown}
 use Rattle.look.proofs.showing.show.Goals as goal
+use Rattle.look.specs.declared.Looked.{Looked}
+
+-- What a component of these fields shows.
+abbrev looked : Fields → Looked
+looked f = record { inputs = f.inputs; outputs = f.outputs }
 
 pub show_side-requires : goal.show_side-requires
 show_side-requires c =
@@ -41,7 +45,7 @@ returns c =
     let fields = c.fields_at-fields.ensures in
     let first = c.show_side.ensures in
     let second = c.show_side-2.ensures in record {
-      value = ap (λ (f : Fields). Shown f.inputs f.outputs) fields;
+      value = ap looked fields;
       numbers_after = both_shown a.file.now a.components.now a.inputs.now a.outputs.now c.requires.file_value.0 a.c _ (ap (λ (f : Fields). f.inputs) fields) (λ (v : Value). v.number) a.numbers.now _ c.requires.file_value.2 first.numbers_after _ second.numbers_after;
       widths_after = both_shown a.file.now a.components.now a.inputs.now a.outputs.now c.requires.file_value.0 a.c _ (ap (λ (f : Fields). f.inputs) fields) (λ (v : Value). v.width) a.widths.now _ c.requires.file_value.3 first.widths_after _ second.widths_after;
     }

@@ -2,6 +2,7 @@
 -- Assumes nothing.
 use mathlib.Core.Path.{refl}
 use native.Mathlib.Omega.{arith}
+use Rattle.kinds.proofs.GivenLaws.{handed_on}
 use Rattle.mend.proofs.MendLaws.{mends_size, few, mends_short, fits_out, fits_list, mends_refused, mends_done}
 use Rattle.mend.proofs.mending.mend.Goals as goal
 
@@ -18,11 +19,12 @@ returns-then-out-file c =
 pub judge_mended-requires : goal.judge_mended-requires
 judge_mended-requires c = let a = c.args in (few a.file.now a.out.now a.dropped.now c.if-n.false, refl)
 
-pub returns-in-Refused : goal.returns-in-Refused
-returns-in-Refused c =
+pub returns-in_err-judge_mended : goal.returns-in_err-judge_mended
+returns-in_err-judge_mended c =
     let a = c.args in
-    mends_refused a.file.now a.out.now a.dropped.now c.if-n.false c.if-out-file.false c.judge_mended.result c.judge_mended.ensures.judges _
-    c.in-Refused.is
+    rw (handed_on c.from_residual.result _ c.from_residual.ensures.1)
+    (mends_refused a.file.now a.out.now a.dropped.now c.if-n.false c.if-out-file.false c.judge_mended.result c.judge_mended.ensures.judges _
+    c.in_err-judge_mended.was)
 
 pub copy_kept-bytes-requires : goal.copy_kept-bytes-requires
 copy_kept-bytes-requires c =
@@ -42,4 +44,4 @@ returns c =
     let k = c.copy_kept-bytes in
     let l = c.list_dropped-positions in
     mends_done a.file.now a.out.now a.dropped.now c.if-n.false c.if-out-file.false j.result j.ensures.judges k.result l.result _ _
-    c.in_default.is k.ensures.0 k.ensures.1 l.ensures.0 l.ensures.1
+    c.in_ok-judge_mended.was k.ensures.0 k.ensures.1 l.ensures.0 l.ensures.1

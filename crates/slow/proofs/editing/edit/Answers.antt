@@ -1,16 +1,18 @@
 -- `edit`: refused by its checks, or the port set and the component in the current list.
 -- Assumes nothing.
 use native.Mathlib.Omega.{arith}
+use Rattle.kinds.proofs.GivenLaws.{handed_on}
 use Rattle.simulator.specs.Edit.{goes_first}
 use Rattle.slow.proofs.EditingLaws.{edits_refused, edits_index, edits_room_first, edits_first}
 use Rattle.slow.proofs.editing.edit.Goals as goal
 
-pub returns-in-Refused : goal.returns-in-Refused
-returns-in-Refused c =
+pub returns-in_err-set_or_refuse : goal.returns-in_err-set_or_refuse
+returns-in_err-set_or_refuse c =
     let a = c.args in
     let q = c.set_or_refuse.ensures in
-    edits_refused a.file.now a.inputs.now a.outputs.now a.current.now a.following.now a.standing.now a.counts a.index.0
-    a.number _ q.0 _ _ q.1 q.2 goes_first _ c.in-Refused.is
+    rw (handed_on c.from_residual.result _ c.from_residual.ensures.1)
+    (edits_refused a.file.now a.inputs.now a.outputs.now a.current.now a.following.now a.standing.now a.counts a.index.0
+    a.number _ q.0 _ _ q.1 q.2 goes_first _ c.in_err-set_or_refuse.was)
 
 pub overflow_cast-index : goal.overflow_cast-index
 overflow_cast-index c =
@@ -19,7 +21,7 @@ overflow_cast-index c =
     omega (
       arith,
       edits_index a.file.now a.inputs.now a.outputs.now a.current.now a.following.now a.standing.now a.counts
-          a.index.0 a.number _ q.0 _ _ q.1 q.2 c.in_default.is,
+          a.index.0 a.number _ q.0 _ _ q.1 q.2 c.in_ok-set_or_refuse.was,
     )
 
 pub append_new-requires : goal.append_new-requires
@@ -27,7 +29,7 @@ append_new-requires c =
     let a = c.args in
     let q = c.set_or_refuse.ensures in
     edits_room_first a.file.now a.inputs.now a.outputs.now a.current.now a.following.now a.standing.now a.counts
-    a.index.0 a.number _ q.0 _ _ q.1 q.2 c.in_default.is
+    a.index.0 a.number _ q.0 _ _ q.1 q.2 c.in_ok-set_or_refuse.was
 
 pub returns : goal.returns
 returns c =
@@ -35,4 +37,4 @@ returns c =
     let q = c.set_or_refuse.ensures in
     let e = c.append_new.ensures in
     edits_first a.file.now a.inputs.now a.outputs.now a.current.now a.following.now a.standing.now a.counts
-    a.index.0 a.number _ q.0 _ _ q.1 q.2 c.in_default.is _ _ e.0 e.1
+    a.index.0 a.number _ q.0 _ _ q.1 q.2 c.in_ok-set_or_refuse.was _ _ e.0 e.1

@@ -6,6 +6,7 @@ use mathlib.Core.List.{[]}
 use lib.ListN.{length}
 use lib.Dec.{leb}
 use borrow.Author.Tests.{leb-true}
+use Rattle.kinds.proofs.GivenLaws.{handed_on}
 use Rattle.lists.proofs.TestsLaws.{and_left, and_right}
 use Rattle.component.specs.Record.{record_at, record_count}
 use Rattle.tables.specs.Tables.{tables_of}
@@ -26,9 +27,9 @@ drawn_round-requires c =
     let said = c.prepare.ensures.0
     ∙ ap (λ (b : Bool). slow_verdict a.file.now (b && leb 256 (length a.moved.now)) (slow_number (record_at a.file.now) (record_count a.file.now) S))
     (c.are_full.ensures a.counts) in
-    let p = c.prepare.ensures.1 _ c.in-Ready.is in
+    let p = c.prepare.ensures.1 _ c.in_ok-count.was in
     let e = c.counts_for.ensures in
-    let v = ap prepared_verdict (sym c.in-Ready.is) ∙ said in record {
+    let v = ap prepared_verdict (sym c.in_ok-count.was) ∙ said in record {
       drawing = (
         prepared_drawing a.file.now _ _ _ _ _ _ _ _ _ _ p,
         prepared_count a.file.now _ _ _ _ _ _ _ _ _ _ p _ e,
@@ -43,24 +44,25 @@ drawn_round-requires c =
       );
     }
 
-pub returns-in-Refused : goal.returns-in-Refused
-returns-in-Refused c =
+pub returns-in_err-count : goal.returns-in_err-count
+returns-in_err-count c =
     let a = c.args in
     let S = slow_tables_of a.inputs.now a.outputs.now a.current.now a.following.now a.standing.now a.counts in
     let said = c.prepare.ensures.0
     ∙ ap (λ (b : Bool). slow_verdict a.file.now (b && leb 256 (length a.moved.now)) (slow_number (record_at a.file.now) (record_count a.file.now) S))
     (c.are_full.ensures a.counts) in
-    round_refused c.args.file.now S c.args.moved.now c.args.time _
-    (ap prepared_verdict (sym c.in-Refused.is) ∙ said)
+    rw (handed_on c.from_residual.result _ c.from_residual.ensures.1)
+    (round_refused c.args.file.now S c.args.moved.now c.args.time _
+    (ap prepared_verdict (sym c.in_err-count.was) ∙ said))
 
-pub returns-in-Ready : goal.returns-in-Ready
-returns-in-Ready c =
+pub returns : goal.returns
+returns c =
     let a = c.args in
     let S = slow_tables_of a.inputs.now a.outputs.now a.current.now a.following.now a.standing.now a.counts in
     let said = c.prepare.ensures.0
     ∙ ap (λ (b : Bool). slow_verdict a.file.now (b && leb 256 (length a.moved.now)) (slow_number (record_at a.file.now) (record_count a.file.now) S))
     (c.are_full.ensures a.counts) in
-    let p = c.prepare.ensures.1 _ c.in-Ready.is in
+    let p = c.prepare.ensures.1 _ c.in_ok-count.was in
     let r = c.drawn_round in
     let T = tables_of c.prepare.new.components a.inputs.now a.outputs.now [] a.current.now a.following.now
     a.standing.now c.counts_for.result in
@@ -69,6 +71,6 @@ returns-in-Ready c =
     let e = prepared_is a.file.now _ _ _ _ _ _ _ _ _ _ p _ c.counts_for.ensures in
     rw c.slow_counts.ensures
     (round_done a.file.now S a.moved.now a.time (slow_of U) r.new.moved
-    (ap prepared_verdict (sym c.in-Ready.is) ∙ said)
+    (ap prepared_verdict (sym c.in_ok-count.was) ∙ said)
     (ap slow_of (round_drawn a.file.now T S e a.time U r.ensures.0))
     (bits_drawn a.file.now T S e a.time a.moved.now r.new.moved r.ensures.1))

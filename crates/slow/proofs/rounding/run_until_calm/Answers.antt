@@ -3,6 +3,7 @@
 use mathlib.Core.Path.{refl, sym, ap, ◌∙◌}
 use mathlib.Core.Bool.{Bool}
 use mathlib.Core.List.{[]}
+use Rattle.kinds.proofs.GivenLaws.{handed_on}
 use Rattle.component.specs.Record.{record_at, record_count}
 use Rattle.tables.specs.Tables.{Tables, tables_of}
 use Rattle.simulator.specs.Calls.{run_by}
@@ -17,20 +18,21 @@ prepare-requires c = record { index_len = (refl, refl, refl); counts_value = λ 
 pub drawn_run-made-requires : goal.drawn_run-made-requires
 drawn_run-made-requires c =
     let a = c.args in
-    prepared_for a.file.now _ _ _ _ _ _ _ _ _ _ (c.prepare.ensures.1 _ c.in-Ready.is) _ c.counts_for.ensures
+    prepared_for a.file.now _ _ _ _ _ _ _ _ _ _ (c.prepare.ensures.1 _ c.in_ok-count.was) _ c.counts_for.ensures
 
-pub returns-in-Refused : goal.returns-in-Refused
-returns-in-Refused c =
+pub returns-in_err-count : goal.returns-in_err-count
+returns-in_err-count c =
     let a = c.args in
     let S = slow_tables_of a.inputs.now a.outputs.now a.current.now a.following.now a.standing.now a.counts in
     let said = c.prepare.ensures.0
     ∙ ap (λ (b : Bool). slow_verdict a.file.now b (slow_number (record_at a.file.now) (record_count a.file.now) S))
     (c.are_full-long.ensures a.counts) in
-    run_refused c.args.file.now S c.args.time c.args.limit _
-    (ap prepared_verdict (sym c.in-Refused.is) ∙ said)
+    rw (handed_on c.from_residual.result _ c.from_residual.ensures.1)
+    (run_refused c.args.file.now S c.args.time c.args.limit _
+    (ap prepared_verdict (sym c.in_err-count.was) ∙ said))
 
-pub returns-in-Ready : goal.returns-in-Ready
-returns-in-Ready c =
+pub returns : goal.returns
+returns c =
     let a = c.args in
     let S = slow_tables_of a.inputs.now a.outputs.now a.current.now a.following.now a.standing.now a.counts in
     let said = c.prepare.ensures.0
@@ -38,13 +40,13 @@ returns-in-Ready c =
     (c.are_full-long.ensures a.counts) in
     let at = record_at a.file.now in
     let n = record_count a.file.now in
-    let p = c.prepare.ensures.1 _ c.in-Ready.is in
+    let p = c.prepare.ensures.1 _ c.in_ok-count.was in
     let r = c.drawn_run-made in
     let U = tables_of c.prepare.new.components r.new.inputs r.new.outputs []
     r.new.current r.new.following r.new.standing r.result.counts in
     rw c.slow_counts.ensures
     (run_done a.file.now S a.time a.limit U r.result.rounds r.result.evaluations r.result.moved
-    (ap prepared_verdict (sym c.in-Ready.is) ∙ said)
+    (ap prepared_verdict (sym c.in_ok-count.was) ∙ said)
     (r.ensures
     ∙ ap (λ (T : Tables). run_by (slow_round_of at n a.time) (slow_bits at n a.time) a.limit T)
     (prepared_is a.file.now _ _ _ _ _ _ _ _ _ _ p _ c.counts_for.ensures)))

@@ -34,8 +34,8 @@ keep_run-requires c =
     let r = c.run_until_calm-answer in
     let few = ap (λ (b : Bool). b && lack c.before.before.before.before.before.before.before.before.before.before.before.before.before.before.before.before.before.before.before.before.before.before.before.before.before.before.before.before.before.before) (sym c.is_sized.ensures) ∙ c.if-is_sized-counts.false in
     let is = run_is c.args.file.now (came c.before.before.before.before.before.before.before.before.before.before.before.before.before.before.before.before.before.before.before.before.before.before.before.before.before.before.before.before.before.before c.counts_in.result) in (
-      λ m k j n e. room_run c.args.file.now c.args.counts.now c.args.found.now few
-          (done_sized c.args.file.now _ is (slow_ran_gives r.result) _ r.ensures.0 (k ∷ j ∷ n ∷ slow_words m) (ap slow_ran_gives e)),
+      λ ran e. room_run c.args.file.now c.args.counts.now c.args.found.now few
+          (done_sized c.args.file.now _ is (slow_ran_gives r.result) _ r.ensures.0 (ran.rounds ∷ ran.evaluations ∷ ran.moved ∷ slow_words ran.counts) (ap slow_ran_gives e)),
       said_small c.args.file.now _ is (slow_ran_gives r.result) _ r.ensures.0,
     )
 

@@ -2,22 +2,22 @@
 -- Assumes nothing.
 use Prim.Native.Nat.{◌<◌}
 use native.Mathlib.Omega.{arith}
-use Rattle.questions.specs.declared.Index.TheVariants.{Refused}
 use Rattle.questions.specs.Questions.{index_gives}
 use Rattle.words.proofs.WordsLaws.{one_laid, none_laid}
 use Rattle.words.proofs.answers.lay_index.Goals as goal
+use Rattle.std.specs.Prelude.{Err}
 
 pub overflow_mul-result : goal.overflow_mul-result
 overflow_mul-result c =
-    let h : (index_gives (Refused c.in-Refused.refusal)).number < 65536 = rw c.in-Refused.is at c.requires.1 in
+    let h : (index_gives (Err c.in-Err.refusal)).number < 65536 = rw c.in-Err.is at c.requires.1 in
     omega arith
 
-pub returns-in-Is : goal.returns-in-Is
-returns-in-Is c =
-    let e = c.in-Is.is in
-    (rw e, rw e (one_laid c.args.found.now c.in-Is.index.0 c.requires.0))
+pub returns-in-Ok : goal.returns-in-Ok
+returns-in-Ok c =
+    let e = c.in-Ok.is in
+    (rw e, rw e (one_laid c.args.found.now c.in-Ok.index.0 c.requires.0))
 
-pub returns-in-Refused : goal.returns-in-Refused
-returns-in-Refused c =
-    let e = c.in-Refused.is in
+pub returns-in-Err : goal.returns-in-Err
+returns-in-Err c =
+    let e = c.in-Err.is in
     (rw e, rw e (none_laid c.args.found.now))

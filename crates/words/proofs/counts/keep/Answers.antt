@@ -2,22 +2,22 @@
 -- Assumes nothing.
 use native.Mathlib.Omega.{arith}
 use Prim.Native.Nat.{◌<◌}
-use Rattle.tables.specs.declared.Answer.TheVariants.{Refused}
 use Rattle.tables.specs.Tables.{answer_gives}
 use Rattle.words.proofs.WordsLaws.{none_laid}
 use Rattle.words.proofs.counts.keep.Goals as goal
+use Rattle.std.specs.Prelude.{Err}
 
 pub overflow_mul-result : goal.overflow_mul-result
 overflow_mul-result c =
-    let h : (answer_gives (Refused c.in-Refused.refusal)).number < 65536 = rw c.in-Refused.is at c.requires.1 in
+    let h : (answer_gives (Err c.in-Err.refusal)).number < 65536 = rw c.in-Err.is at c.requires.1 in
     omega arith
 
-pub returns-in-Done : goal.returns-in-Done
-returns-in-Done c =
-    let e = c.in-Done.is in
+pub returns-in-Ok : goal.returns-in-Ok
+returns-in-Ok c =
+    let e = c.in-Ok.is in
     (rw e, rw e c.lay.ensures)
 
-pub returns-in-Refused : goal.returns-in-Refused
-returns-in-Refused c =
-    let e = c.in-Refused.is in
+pub returns-in-Err : goal.returns-in-Err
+returns-in-Err c =
+    let e = c.in-Err.is in
     (rw e, rw e (none_laid c.args.words.now))
