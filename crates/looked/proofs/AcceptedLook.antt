@@ -45,7 +45,7 @@ and_then-passed : (v : Verdict) (k : ℕ) → and_then v k ≡ Ok tt → (v ≡ 
 and_then-passed (Err r) k e = absurd (not_accepted r e)
 and_then-passed (Ok _) k e = by_number (eqb k 0) refl e
   where
-    by_number : (b : Bool) → eqb k 0 ≡ b → cond b (Ok tt) (Err (refused_by k)) ≡ Ok tt → ((Ok tt) ≡ Ok tt) × (k ≡ 0)
+    by_number : (b : Bool) → eqb k 0 ≡ b → ◌≡◌ {A = Verdict} (cond b (Ok tt) (Err (refused_by k))) (Ok tt) → ◌≡◌ {A = Verdict} (Ok tt) (Ok tt) × (k ≡ 0)
     by_number true z e = (refl, eqb-true k 0 z)
     by_number false z e = absurd (refused_not k 0 e)
 
