@@ -10,6 +10,3 @@ use Rattle.checks.proofs.id_before.Given as goal
 abbrev pub invariant-loop-q : goal.invariant-loop-q
 invariant-loop-q l =
     any (tested l.file (has_id l.id.0)) (from l.q (l.p - l.q)) ≡ any (tested l.file (has_id l.id.0)) (from 0 l.p)
-
-abbrev pub decreases-loop-q : goal.decreases-loop-q
-decreases-loop-q l = l.p - l.q
