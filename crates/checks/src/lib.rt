@@ -220,12 +220,7 @@ fn id_before(file: &[u8], p: usize, id: Id) -> bool
     requires { Readable file.now }
     ensures { result ≡ any (λ q. has_id id.0 (record_at file.now q)) (from 0 p) }
 {
-    for q in 0..p {
-        if has_id(file, q, id) {
-            return true;
-        }
-    }
-    false
+    (0..p).any(|q| has_id(file, q, id))
 }
 
 // The inputs and the outputs of some primitives.
