@@ -90,9 +90,8 @@ fn holds(file: &[u8], f: usize, o: usize, q: usize) -> bool
     requires { Readable file.now }
     ensures { result ≡ holds (record_at file.now) f o q }
 {
-    let mut left = f;
     let mut inner = q;
-    while 0 < left {
+    for _ in 0..f {
         if inner == 0 {
             return false;
         }
@@ -104,7 +103,6 @@ fn holds(file: &[u8], f: usize, o: usize, q: usize) -> bool
             return true;
         }
         inner = outer;
-        left -= 1;
     }
     false
 }
@@ -146,9 +144,8 @@ fn deeper(file: &[u8], d: u8, p: usize) -> bool
     requires { Readable file.now }
     ensures { result ≡ deeper (record_at file.now) d p }
 {
-    let mut left = d;
     let mut inner = p;
-    while 0 < left {
+    for _ in 0..d {
         if inner == 0 {
             return false;
         }
@@ -156,7 +153,6 @@ fn deeper(file: &[u8], d: u8, p: usize) -> bool
             return false;
         };
         inner = owner as usize;
-        left -= 1;
     }
     true
 }
@@ -224,14 +220,7 @@ fn id_before(file: &[u8], p: usize, id: Id) -> bool
     requires { Readable file.now }
     ensures { result ≡ any (λ q. has_id id.0 (record_at file.now q)) (from 0 p) }
 {
-    let mut q: usize = 0;
-    while q < p {
-        if has_id(file, q, id) {
-            return true;
-        }
-        q += 1;
-    }
-    false
+    (0..p).any(|q| has_id(file, q, id))
 }
 
 // The inputs and the outputs of some primitives.
@@ -371,12 +360,10 @@ pub fn earlier_of(file: &[u8], p: usize) -> usize
     let Entry::Of { owner, to, input } = entry_at(file, p) else {
         return p;
     };
-    let mut q: usize = 0;
-    while q < p {
+    for q in 0..p {
         if same_entry(file, q, owner, to, input) {
             return q;
         }
-        q += 1;
     }
     p
 }

@@ -39,15 +39,14 @@ pub fn first10(file: &[u8]) -> usize
     requires { Readable file.now }
     ensures { IsFirst (fails10 (record_at file.now)) (record_count file.now) result }
 {
+    let n = file.len() / 24;
     let mut marks = [0u8; 4096];
-    let mut p: usize = 0;
-    while p < file.len() / 24 {
+    for p in 0..n {
         if id_again(file, &mut marks, p) {
             return p;
         }
-        p += 1;
     }
-    p
+    n
 }
 
 // 11: the primitives so far, this one counted, have too many inputs or outputs. Crate flatten calls it likewise.
@@ -55,19 +54,18 @@ pub fn first11(file: &[u8]) -> usize
     requires { Readable file.now }
     ensures { IsFirst (fails11 (record_at file.now)) (record_count file.now) result }
 {
+    let n = file.len() / 24;
     let mut inputs: usize = 0;
     let mut outputs: usize = 0;
-    let mut p: usize = 0;
-    while p < file.len() / 24 {
+    for p in 0..n {
         let ports = ports_at(file, p);
         inputs += ports.inputs;
         outputs += ports.outputs;
         if (1024 < inputs) | (1024 < outputs) {
             return p;
         }
-        p += 1;
     }
-    p
+    n
 }
 
 // The mark of input `input` of a child, of 16,384: those that a drawing has which the checks so far have passed have one each. Crate mend calls it
@@ -106,13 +104,12 @@ pub fn first13(file: &[u8], index: &[u16]) -> usize
     requires { IsIndex file.now index.now }
     ensures { IsFirst (fails13 (record_at file.now)) (record_count file.now) result }
 {
+    let n = file.len() / 24;
     let mut marks = [0u8; 16384];
-    let mut p: usize = 0;
-    while p < file.len() / 24 {
+    for p in 0..n {
         if enters_again(file, index, &mut marks, p) {
             return p;
         }
-        p += 1;
     }
-    p
+    n
 }

@@ -28,15 +28,6 @@ use Rattle.component.proofs.RecordLaws.{refused_is, taken_form, taken_owner}
 use Rattle.component.proofs.ScanLaws.{tested}
 use Rattle.index.specs.Index.{nth_owned, before, numbered, IsNumbered, IsIndex}
 
--- One word more of a table is x.
-pub clear_step : (t : List ℕ) (i x : ℕ) → i < length t → ((k : ℕ) → k < i → get_or t k 0 ≡ x)
-    → (k : ℕ) → k < i + 1 → get_or (set t i x) k 0 ≡ x
-clear_step t i x h e k l = by_place (dec_lt k i)
-  where
-    by_place : Dec (k < i) → get_or (set t i x) k 0 ≡ x
-    by_place (yes g) = get_or-set_other t i k x 0 (λ z. omega arith) ∙ e k g
-    by_place (no g) = let z : k ≡ i = omega arith in rw z (get_or-set_same t i x 0 h)
-
 -- A record of a kind and of an owner: refused; taken apart.
 module _ (t : Record) (form o : ℕ) (h : 1 ≤ form) (r : Reading) (e : said r ≡ t) where
   pub owned_refused : {k : ℕ} → r ≡ Refused k → false ≡ owned_as form o t

@@ -55,15 +55,13 @@ fn nth_owned(file: &[u8], n: usize, form: u8, first: usize, o: usize, k: usize) 
     ensures { result ≡ nth_owned file.now n form first o k }
 {
     let mut left = k;
-    let mut q = first;
-    while q < n {
+    for q in first..n {
         if is_owned(file, q, form, o) {
             if left == 0 {
                 return q;
             }
             left -= 1;
         }
-        q += 1;
     }
     n
 }
@@ -72,11 +70,7 @@ fn nth_owned(file: &[u8], n: usize, form: u8, first: usize, o: usize, k: usize) 
 fn clear(table: &mut [u16], x: u16)
     ensures { IsClear x table.old table.new }
 {
-    let mut i: usize = 0;
-    while i < table.len() {
-        table[i] = x;
-        i += 1;
-    }
+    table.fill(x);
 }
 
 // Counts a record of the kind, where the table has a word for its owner: its own word, of the first w, is how many were before it.
@@ -107,10 +101,8 @@ fn fill_numbers(file: &[u8], n: usize, form: u8, first: usize, w: usize, table: 
     ensures { IsNumbered file.now n w form first table.new }
 {
     clear(table, 0);
-    let mut q = first;
-    while q < n {
+    for q in first..n {
         number(table, w, form, known_at(file, q), q);
-        q += 1;
     }
 }
 
@@ -142,10 +134,8 @@ fn fill_ends(file: &[u8], n: usize, ends: &mut [u16])
 {
     clear(&mut ends[0..256], n as u16);
     clear(&mut ends[256..512], 0);
-    let mut q: usize = 0;
-    while q < n {
+    for q in 0..n {
         widen(ends, known_at(file, q), q as u16);
-        q += 1;
     }
 }
 
@@ -163,17 +153,12 @@ fn guess_starts(index: &mut [u16], n: usize)
     ensures { KeptBelow 2304 index.old index.new }
 {
     let mut sum: usize = 0;
-    let mut o: usize = 0;
-    while o < n {
-        if 256 <= o {
-            return;
-        }
+    for o in 0..n.min(256) {
         if 256 <= sum {
             return;
         }
         index[2560 + o] = sum as u16;
         sum += word(index, 256 + o);
-        o += 1;
     }
 }
 
@@ -198,13 +183,11 @@ fn guess_children(file: &[u8], index: &mut [u16])
     ensures { KeptBelow 2304 index.old index.new }
 {
     guess_starts(index, file.len() / 24);
-    let mut q: usize = 1;
-    while q < 256 {
+    for q in 1..256 {
         let Stands::Component { owner, .. } = component_at(file, q) else {
             return;
         };
         guess_child(index, q, owner);
-        q += 1;
     }
 }
 
@@ -227,9 +210,7 @@ fn guess_maps(file: &[u8], n: usize, index: &mut [u16])
     requires { Readable file.now × (n ≤ 1024) × (length index.old ≡ 3072) }
     ensures { KeptBelow 2304 index.old index.new }
 {
-    let mut q = n;
-    while 0 < q {
-        q -= 1;
+    for q in (0..n).rev() {
         let Reading::Taken { owner, says } = known_at(file, q) else {
             return;
         };

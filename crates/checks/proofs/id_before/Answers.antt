@@ -1,26 +1,23 @@
--- `id_before`: the invariant: whether one of the records to come has the id is the answer.
+-- `id_before`: whether one of the positions before passes, in the library's words and in those of the definition.
 -- Assumes nothing.
+use mathlib.Core.Path.{refl, ◌∙◌}
 use native.Mathlib.Nat.{sub-zero}
+use borrow.Author.Rules.{rules}
+use borrow.Author.Tests.{tests}
+use Rattle.std.proofs.iter.Serving.{serving}
+use Rattle.std.proofs.lemmas.Iterator.{YieldsList-from_range}
+use Rattle.std.proofs.lemmas.Iterator.Search.{any_from_yields_List}
+use Rattle.component.proofs.ScanLaws.{tested}
 use Rattle.component.specs.Reading.{has_id}
-use Rattle.component.proofs.ScanLaws.{scan_any_here, scan_any_next, scan_any_none}
+use Rattle.checks.proofs.ChecksLaws.{any_range}
 use Rattle.checks.proofs.id_before.Goals as goal
 
-pub loop-q-init : goal.loop-q-init
-loop-q-init c = rw (sub-zero)
+pub any-requires-clause-callable : goal.any-requires-clause-callable
+any-requires-clause-callable c = grind serving
 
--- this one
-pub returns-then-has_id : goal.returns-then-has_id
-returns-then-has_id c =
-    let a = c.args in
-    search (scan_any_here a.file.now (has_id a.id.0))
-
-pub loop-q-preserved : goal.loop-q-preserved
-loop-q-preserved c =
-    let a = c.args in
-    search (scan_any_next a.file.now (has_id a.id.0))
-
--- none
 pub returns : goal.returns
 returns c =
-    let a = c.args in
-    search (scan_any_none a.file.now (has_id a.id.0))
+    let test = tested c.args.file.now (has_id c.args.id.0) in
+    any_from_yields_List test _ _ _ c.any.ensures.ran (YieldsList-from_range 0 c.args.p c.args.p refl (sub-zero c.args.p))
+    (λ x b q k. search (rules, tests))
+    ∙ any_range test 0 c.args.p

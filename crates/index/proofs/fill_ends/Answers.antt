@@ -1,7 +1,5 @@
 -- `fill_ends`: the invariant is `Widening`: the stretches hold the input maps passed so far.
 -- Assumes nothing.
-use mathlib.Core.Path.{sym, ◌∙◌}
-use native.Mathlib.Omega.{arith}
 use Rattle.index.proofs.WideningLaws.{widening_cleared, widening_step, widening_end}
 use Rattle.index.proofs.fill_ends.Goals as goal
 
@@ -10,22 +8,11 @@ loop-q-init c =
     widening_cleared c.args.file.now c.args.n c.args.ends.now c.clear.new.table c.clear-2.new.table c.requires.2 c.clear.ensures.size
     c.clear-2.ensures.size c.clear-2.ensures.word
 
-pub overflow_cast-q : goal.overflow_cast-q
-overflow_cast-q c = omega (arith, c.requires.1)
-
-pub widen-requires : goal.widen-requires
-widen-requires c =
-    let e = c.requires.1 in
-    (c.loop-q.invariant.size, omega arith)
-
 pub loop-q-preserved : goal.loop-q-preserved
 loop-q-preserved c =
     let a = c.args in
     widening_step a.file.now a.n c.loop-q.q c.loop-q.ends c.loop-q.invariant _ c.known_at.ensures _
     c.loop-q-test.true c.widen.ensures
-
-pub shape_of-ends : goal.shape_of-ends
-shape_of-ends c = c.loop-q.invariant.size ∙ sym c.requires.2
 
 pub returns : goal.returns
 returns c =

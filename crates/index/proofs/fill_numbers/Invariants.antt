@@ -1,11 +1,7 @@
 -- `fill_numbers`: the invariant is `Numbering`: the words say what the records passed so far say.
 -- Assumes nothing.
-use Prim.Native.Nat.{◌-◌}
 use Rattle.index.proofs.NumberingLaws.{Numbering}
 use Rattle.index.proofs.fill_numbers.Given as goal
 
 abbrev pub invariant-loop-q : goal.invariant-loop-q
 invariant-loop-q l = Numbering l.file l.n l.w l.form l.first l.q l.table
-
-abbrev pub decreases-loop-q : goal.decreases-loop-q
-decreases-loop-q l = l.n - l.q

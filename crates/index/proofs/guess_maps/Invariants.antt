@@ -1,11 +1,7 @@
 -- `guess_maps`: each step keeps the words below.
 -- Assumes nothing.
-use Prim.Native.Nat.{◌≤◌}
 use Rattle.index.specs.Index.{KeptBelow}
 use Rattle.index.proofs.guess_maps.Given as goal
 
 abbrev pub invariant-loop-q : goal.invariant-loop-q
-invariant-loop-q l = (l.q ≤ l.n) × KeptBelow 2304 l.initial.index l.index
-
-abbrev pub decreases-loop-q : goal.decreases-loop-q
-decreases-loop-q l = l.q
+invariant-loop-q l = KeptBelow 2304 l.initial.index l.index

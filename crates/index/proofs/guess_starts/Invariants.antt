@@ -1,11 +1,7 @@
 -- `guess_starts`: every write stands behind the words that are kept.
 -- Assumes nothing.
-use Prim.Native.Nat.{◌-◌}
 use Rattle.index.specs.Index.{KeptBelow}
 use Rattle.index.proofs.guess_starts.Given as goal
 
 abbrev pub invariant-loop-o : goal.invariant-loop-o
 invariant-loop-o l = KeptBelow 2304 l.initial.index l.index
-
-abbrev pub decreases-loop-o : goal.decreases-loop-o
-decreases-loop-o l = l.n - l.o

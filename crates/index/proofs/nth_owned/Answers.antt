@@ -1,13 +1,9 @@
 -- `nth_owned`: the invariant: the one sought, with those still to pass, among the records to come is the answer.
 -- Assumes nothing.
-use mathlib.Core.Path.{refl}
 use Rattle.component.specs.Record.{owned_as}
 use Rattle.component.proofs.ScanLaws.{scan_kth_here, scan_kth_counts, scan_kth_next, scan_kth_none}
 use Rattle.index.proofs.nth_owned.Goals as goal
 use Rattle.index.proofs.nth_owned.Goals.{else-is_owned, then-is_owned+else-left-eq0}
-
-pub loop-q-init : goal.loop-q-init
-loop-q-init c = refl
 
 -- this one
 pub returns-then-left-eq0 : goal.returns-then-left-eq0

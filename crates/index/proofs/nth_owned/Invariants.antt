@@ -12,6 +12,3 @@ use Rattle.index.proofs.nth_owned.Given as goal
 abbrev pub invariant-loop-q : goal.invariant-loop-q
 invariant-loop-q l =
     get_or (keep (tested l.file (owned_as l.form l.o)) (from l.q (l.n - l.q))) l.left l.n ≡ nth_owned l.file l.n l.form l.first l.o l.k
-
-abbrev pub decreases-loop-q : goal.decreases-loop-q
-decreases-loop-q l = l.n - l.q

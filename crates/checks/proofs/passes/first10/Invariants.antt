@@ -1,7 +1,5 @@
 -- `first10`: the invariant: no record before p fails, and the ids before p are marked.
 -- Assumes nothing.
-use Prim.Native.Nat.{◌-◌, ◌/◌, ◌≤◌}
-use lib.ListN.{length}
 use Rattle.lists.specs.Marks.{IsMarked}
 use Rattle.component.specs.Record.{record_at}
 use Rattle.component.specs.Drawing.{is_component, fails10}
@@ -10,7 +8,6 @@ use Rattle.checks.proofs.PassesLaws.{NoneBefore}
 use Rattle.checks.proofs.passes.first10.Given as goal
 
 abbrev pub invariant-loop-p : goal.invariant-loop-p
-invariant-loop-p l = (l.p ≤ length l.file / 24) × NoneBefore (fails10 (record_at l.file)) l.p × IsMarked 4096 (is_component (record_at l.file)) (id_mark (record_at l.file)) 0 l.p l.marks
-
-abbrev pub decreases-loop-p : goal.decreases-loop-p
-decreases-loop-p l = length l.file / 24 - l.p
+invariant-loop-p l =
+    NoneBefore (fails10 (record_at l.file)) l.p
+    × IsMarked 4096 (is_component (record_at l.file)) (id_mark (record_at l.file)) 0 l.p l.marks
