@@ -28,12 +28,10 @@ fn any_differs(file: &[u8], targets: &[u16], count: usize, width: u64) -> bool
     requires { Readable file.now × (target_place count ≤ length targets.now) }
     ensures { result ≡ any (unlike (record_at file.now) width) (targets_in targets.now count) }
 {
-    let mut k: usize = 0;
-    while k < count {
+    for k in 0..count {
         if differs(file, target_at(targets, k), width) {
             return true;
         }
-        k += 1;
     }
     false
 }
@@ -72,12 +70,11 @@ pub(crate) fn first15(file: &[u8], index: &[u16]) -> usize
     ensures { IsFirst (fails15 (record_at file.now) (record_count file.now)) (record_count file.now) result }
 {
     let mut targets = [0u16; 2048];
-    let mut p: usize = 0;
-    while p < file.len() / 24 {
+    let n = file.len() / 24;
+    for p in 0..n {
         if yields_unlike(file, index, &mut targets, p) {
             return p;
         }
-        p += 1;
     }
-    p
+    n
 }

@@ -11,6 +11,3 @@ use Rattle.flatten.proofs.widths.any_differs.Given as goal
 abbrev pub invariant-loop-k : goal.invariant-loop-k
 invariant-loop-k l =
     any (λ j. unlike (record_at l.file) l.width (target_in l.targets j)) (from l.k (l.count - l.k)) ≡ any (unlike (record_at l.file) l.width) (targets_in l.targets l.count)
-
-abbrev pub decreases-loop-k : goal.decreases-loop-k
-decreases-loop-k l = l.count - l.k
