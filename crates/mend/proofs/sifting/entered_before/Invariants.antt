@@ -13,6 +13,3 @@ abbrev pub invariant-loop-q : goal.invariant-loop-q
 invariant-loop-q l =
     any (λ j. marked_kept l.kept j && enters l.owner l.to.0 l.input (loose_at l.file j)) (from l.q (l.p - l.q))
     ≡ any (λ j. marked_kept l.kept j && enters l.owner l.to.0 l.input (loose_at l.file j)) (from 0 l.p)
-
-abbrev pub decreases-loop-q : goal.decreases-loop-q
-decreases-loop-q l = l.p - l.q
