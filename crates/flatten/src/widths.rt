@@ -28,12 +28,7 @@ fn any_differs(file: &[u8], targets: &[u16], count: usize, width: u64) -> bool
     requires { Readable file.now × (target_place count ≤ length targets.now) }
     ensures { result ≡ any (unlike (record_at file.now) width) (targets_in targets.now count) }
 {
-    for k in 0..count {
-        if differs(file, target_at(targets, k), width) {
-            return true;
-        }
-    }
-    false
+    (0..count).any(|k| differs(file, target_at(targets, k), width))
 }
 
 // Whether the connection at p yields a wire whose ends differ in width; its targets are listed in the table. The checks before 15 have passed, so that

@@ -89,12 +89,7 @@ fn entered_before(
             return true;
         }
     }
-    for q in 0..p {
-        if kept_enters(file, kept, q, owner, to, input) {
-            return true;
-        }
-    }
-    false
+    (0..p).any(|q| kept_enters(file, kept, q, owner, to, input))
 }
 
 // The mark at a place: 0 where it is not set.
