@@ -1,10 +1,11 @@
 -- Laws of check 15, one for each way out of a function of src/widths.rt.
 -- Assumes nothing.
-use mathlib.Core.Path.{◌≡◌, sym, ap, ◌∙◌}
-use mathlib.Core.Bool.{Bool, false, not}
+use mathlib.Core.Path.{◌≡◌, refl, sym, ap, ◌∙◌}
+use mathlib.Core.Bool.{Bool, false, not, ◌||◌}
 use mathlib.Core.List.{List, [], ◌∷◌}
-use Prim.Native.Nat.{ℕ, ◌-◌, ◌/◌}
-use native.Mathlib.Nat.{sub-zero}
+use Prim.Native.Nat.{ℕ, zero, suc, ◌+◌, ◌/◌}
+use native.Mathlib.Numerals.{add-one}
+use Rattle.std.specs.List.{list_any, range_with_len}
 use borrow.Author.Tests.{eq-eqb, ne_eqb}
 use lib.Dec.{eqb}
 use lib.ListN.{length}
@@ -32,17 +33,23 @@ use Rattle.flatten.specs.Searches.{unlike}
 use Rattle.flatten.specs.Targets.{target_in, targets_in}
 use Rattle.flatten.proofs.DescentLaws.{source_is, form_is}
 
--- The search for a target of another width starts at the first.
-pub differs_start : (s t : List ℕ) (w m : ℕ)
-    → any (λ k. unlike (record_at s) w (target_in t k)) (from 0 (m - 0)) ≡ any (unlike (record_at s) w) (targets_in t m)
-differs_start s t w m =
-    ap (λ (j : ℕ). any (λ k. unlike (record_at s) w (target_in t k)) (from 0 j)) (sub-zero m)
-    ∙ sym (any_map (unlike (record_at s) w) (target_in t) (from 0 m))
+-- What `any` finds over a range, in the words of crate lists.
+range_from : (q n : ℕ) → range_with_len q n ≡ from q n
+range_from q zero = refl
+range_from q (suc n) = ap (λ (xs : List ℕ). q ∷ xs) (range_from (q + 1) n ∙ ap (λ (p : ℕ). from p n) (add-one q))
 
--- What a target is found to be, where t is the one at entry k.
-pub differs_at : (s ts : List ℕ) (w k : ℕ) (t : Pin) (b x : Bool) → t ≡ target_in ts k → b ≡ unlike (record_at s) w t → b ≡ x
-    → unlike (record_at s) w (target_in ts k) ≡ x
-differs_at s ts w k t b x e d h = ap (unlike (record_at s) w) (sym e) ∙ sym d ∙ h
+any_list : (f : ℕ → Bool) (xs : List ℕ) → list_any f xs ≡ any f xs
+any_list f [] = refl
+any_list f (x ∷ xs) = ap (λ (b : Bool). f x || b) (any_list f xs)
+
+pub any_range : (f : ℕ → Bool) (m : ℕ) (b : Bool) → b ≡ list_any f (range_with_len 0 m) → b ≡ any f (from 0 m)
+any_range f m b e = e ∙ ap (list_any f) (range_from 0 m) ∙ any_list f (from 0 m)
+
+-- The search for a target of another width.
+pub differs_any : (s t : List ℕ) (w m : ℕ) (b : Bool) → b ≡ list_any (λ k. unlike (record_at s) w (target_in t k)) (range_with_len 0 m)
+    → b ≡ any (unlike (record_at s) w) (targets_in t m)
+differs_any s t w m b e =
+    any_range (λ k. unlike (record_at s) w (target_in t k)) m b e ∙ sym (any_map (unlike (record_at s) w) (target_in t) (from 0 m))
 
 -- The ends of a wire differ in width.
 abbrev pub differing : (ℕ → Record) → Lead → Bool

@@ -88,14 +88,11 @@ pub fn list_targets(
         return at + 1;
     }
     let maps = stretch_of(index, file.len() / 24, c);
-    let end = maps.end;
     let mut next = at;
-    let mut q = maps.first;
-    while q < end {
+    for q in maps.first..maps.end {
         if let Entered::To(inner, input) = enter(file, index, c, i, q) {
             next = list_targets(file, index, depth - 1, inner, input, targets, next);
         }
-        q += 1;
     }
     next
 }

@@ -18,14 +18,13 @@ fn first_alone(file: &[u8], k: u32) -> usize
     requires { (3 ≤ k) × (k < 10) × PassedBefore (record_at file.now) (record_count file.now) k }
     ensures { IsFirst (fails_at (record_at file.now) (record_count file.now) k) (record_count file.now) result }
 {
-    let mut p: usize = 0;
-    while p < file.len() / 24 {
+    let n = file.len() / 24;
+    for p in 0..n {
         if check_alone(file, k, p) != 0 {
             return p;
         }
-        p += 1;
     }
-    p
+    n
 }
 
 // The same of the checks 12 and 14, with the index filled.
@@ -33,14 +32,13 @@ fn first_indexed(file: &[u8], index: &[u16], k: u32) -> usize
     requires { IsIndex file.now index.now × ((k ≡ 12) ⊎ (k ≡ 14)) × PassedBefore (record_at file.now) (record_count file.now) k }
     ensures { IsFirst (fails_at (record_at file.now) (record_count file.now) k) (record_count file.now) result }
 {
-    let mut q: usize = 0;
-    while q < file.len() / 24 {
+    let n = file.len() / 24;
+    for q in 0..n {
         if check_indexed(file, index, k, q) != 0 {
             return q;
         }
-        q += 1;
     }
-    q
+    n
 }
 
 // The same of the checks before the index is filled, 3 to 11.
@@ -88,10 +86,8 @@ fn judge_early(file: &[u8]) -> Result<(), Refusal>
     requires { record_count file.now ≤ 1024 }
     ensures { Judged 12 (record_at file.now) (record_count file.now) result }
 {
-    let mut k: u32 = 3;
-    while k < 12 {
+    for k in 3..12 {
         refused_at(file, k, first_early(file, k))?;
-        k += 1;
     }
     Ok(())
 }
@@ -101,10 +97,8 @@ fn judge_late(file: &[u8], index: &[u16]) -> Result<(), Refusal>
     requires { IsIndex file.now index.now × PassedBefore (record_at file.now) (record_count file.now) 12 }
     ensures { Judged 16 (record_at file.now) (record_count file.now) result }
 {
-    let mut k: u32 = 12;
-    while k < 16 {
+    for k in 12..16 {
         refused_at(file, k, first_late(file, index, k))?;
-        k += 1;
     }
     Ok(())
 }

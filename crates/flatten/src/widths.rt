@@ -28,14 +28,7 @@ fn any_differs(file: &[u8], targets: &[u16], count: usize, width: u64) -> bool
     requires { Readable file.now × (target_place count ≤ length targets.now) }
     ensures { result ≡ any (unlike (record_at file.now) width) (targets_in targets.now count) }
 {
-    let mut k: usize = 0;
-    while k < count {
-        if differs(file, target_at(targets, k), width) {
-            return true;
-        }
-        k += 1;
-    }
-    false
+    (0..count).any(|k| differs(file, target_at(targets, k), width))
 }
 
 // Whether the connection at p yields a wire whose ends differ in width; its targets are listed in the table. The checks before 15 have passed, so that
@@ -72,12 +65,11 @@ pub(crate) fn first15(file: &[u8], index: &[u16]) -> usize
     ensures { IsFirst (fails15 (record_at file.now) (record_count file.now)) (record_count file.now) result }
 {
     let mut targets = [0u16; 2048];
-    let mut p: usize = 0;
-    while p < file.len() / 24 {
+    let n = file.len() / 24;
+    for p in 0..n {
         if yields_unlike(file, index, &mut targets, p) {
             return p;
         }
-        p += 1;
     }
-    p
+    n
 }

@@ -118,7 +118,7 @@ module _ (file : List ℕ) where
         )
 
     -- and one
-    pub dropped_part : (length file % 24 ≡ 0 → ⊥) → (set u k p ≡ overlay (dropped file) t) × (k + 1 ≡ length (dropped file))
+    pub dropped_part : (length file % 24 ≡ 0 → ⊥) → (set u k n ≡ overlay (dropped file) t) × (k + 1 ≡ length (dropped file))
     unfolding dropped
     dropped_part z =
         let xs = joined lists (from 0 n) in
@@ -126,7 +126,7 @@ module _ (file : List ℕ) where
         rw (ne_eqb (length file % 24) 0 z) (ap (λ (ys : List ℕ). ys ++ (n ∷ [])) (sym whole_dropped)) in
         let place : k ≡ 0 + length xs = omega (arith, laid_count lists t p u k h n e) in
         let table : u ≡ sets t 0 xs = h.table ∙ ap (λ (q : ℕ). sets t 0 (joined lists (from 0 q))) e in (
-          ap (λ (l : List ℕ). set l k p) table ∙ ap (λ (j : ℕ). set (sets t 0 xs) j p) place ∙ ap (set (sets t 0 xs) (0 + length xs)) e
+          ap (λ (l : List ℕ). set l k n) table ∙ ap (λ (j : ℕ). set (sets t 0 xs) j n) place
               ∙ sets_next t 0 xs n ∙ ap (sets t 0) d
               ∙ sets_overlay (dropped file) t (omega (arith, room, dropped_room, ap length (sym d), length-append xs (n ∷ []))),
           omega (arith, place, ap length (sym d), length-append xs (n ∷ [])),

@@ -1,36 +1,30 @@
--- Laws of records copied into a buffer: one byte more; the 24 bytes of a record; a component's record; what stands there in the end.
+-- Laws of records copied into a buffer: the 24 bytes of a record; a component's record; what stands there in the end.
 -- Assumes nothing.
 use mathlib.Core.Path.{◌≡◌, refl, sym, ap, ◌∙◌}
 use mathlib.Core.Bool.{Bool, true, false, cond}
-use mathlib.Core.List.{List, [], ◌∷◌, ◌++◌}
+use mathlib.Core.List.{List, [], ◌∷◌, ◌++◌, append_assoc}
 use Prim.Native.Nat.{ℕ, zero, suc, ◌+◌, ◌-◌, ◌*◌, ◌≤◌, ◌<◌}
-use native.Mathlib.Numerals.{add-one}
 use native.Mathlib.Nat.{mul-zero, mul-suc, mul-add}
 use native.Mathlib.Omega.{arith}
-use lib.ListN.{length, get_or, set, take, length-set, length-append}
-use lib.Seq.{sets, take_all, take-suc, length-take-le, set-set, set_comm}
+use lib.ListN.{length, set, take, drop, length-set, length-append}
+use lib.Seq.{sets, sets-eq, drop-drop, set-set, set_comm}
 use Rattle.lists.specs.Lists.{from, keep, joined}
-use Rattle.lists.proofs.LayingLaws.{sets_next, joined_snoc, joined_keep, Laid, laid_length, laid_step}
+use borrow.Rule.Slice.PartMut.{put_mid}
+use Rattle.lists.proofs.LayingLaws.{joined_snoc, joined_keep, Laid, laid_length, laid_step}
 use Rattle.component.specs.Record.{part_at, record_count}
 use Rattle.component.proofs.LooseLaws.{part_length}
 use Rattle.mend.specs.Sifting.{plain_part}
 
--- One byte more.
-pub copy_step : (t u xs : List ℕ) (at i x : ℕ) → u ≡ sets t at (take i xs) → i < length xs → x ≡ get_or xs i 0
-    → set u (at + i) x ≡ sets t at (take (i + 1) xs)
-copy_step t u xs at i x e h k =
-    let n : at + i ≡ at + length (take i xs) = omega (arith, length-take-le i xs (omega (arith, h))) in
-    ap (λ (l : List ℕ). set l (at + i) x) e
-    ∙ ap (λ (j : ℕ). set (sets t at (take i xs)) j x) n
-    ∙ sets_next t at (take i xs) x
-    ∙ ap (λ (y : ℕ). sets t at (take i xs ++ (y ∷ []))) k
-    ∙ ap (sets t at) (sym (take-suc xs i 0 h))
-    ∙ ap (λ (j : ℕ). sets t at (take j xs)) (sym (add-one i))
-
--- All 24.
-pub copy_whole : (t u s : List ℕ) (at p i : ℕ) → p < record_count s → i ≡ 24 → u ≡ sets t at (take i (part_at s p)) → u ≡ sets t at (part_at s p)
-copy_whole t u s at p i h e d =
-    d ∙ ap (sets t at) (ap (λ (j : ℕ). take j (part_at s p)) e ∙ take_all 24 (part_at s p) (omega (arith, part_length s p h)))
+-- The 24 bytes of a record, put in the place of as many.
+pub copy_part : (t u s : List ℕ) (at p k j : ℕ) → p < record_count s → at + 24 ≤ length t → k ≡ 24 → j ≡ 24 → u ≡ take j (drop (24 * p) s)
+    → put_mid at k t u ≡ sets t at (part_at s p)
+copy_part t u s at p k j h room kz jz e =
+    let xs = part_at s p in
+    let n = part_length s p h in
+    let past : at + k ≡ at + length xs = omega (arith, kz, n) in
+    ap (put_mid at k t) (e ∙ ap (λ (i : ℕ). take i (drop (24 * p) s)) jz)
+    ∙ ap (λ (l : List ℕ). take at t ++ (xs ++ l)) (drop-drop k at t ∙ ap (λ (i : ℕ). drop i t) past)
+    ∙ sym (append_assoc (take at t) xs (drop (at + length xs) t)) ∙ sym (sets-eq xs t at (omega (arith, room, n)))
 
 -- A word written over words that were written.
 sets_before : (l ys : List ℕ) (k i x : ℕ) → i < k → set (sets l k ys) i x ≡ sets (set l i x) k ys

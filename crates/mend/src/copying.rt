@@ -12,11 +12,7 @@ fn copy_record(file: &[u8], p: usize, buffer: &mut [u8], at: usize)
     ensures { buffer.new ≡ sets buffer.old at (part_at file.now p) }
 {
     let first = 24 * p;
-    let mut i: usize = 0;
-    while i < 24 {
-        buffer[at + i] = file[first + i];
-        i += 1;
-    }
+    buffer[at..at + 24].copy_from_slice(&file[first..first + 24]);
 }
 
 // The same of a component's record, with field D at 0, as check 3 wants it.
@@ -35,13 +31,11 @@ pub(crate) fn copy_components(file: &[u8], buffer: &mut [u8]) -> usize
     ensures { (buffer.new ≡ overlay (parts_of file.now) buffer.old) × (result ≡ length (parts_of file.now)) }
 {
     let mut at: usize = 0;
-    let mut p: usize = 0;
-    while p < file.len() / 24 {
+    for p in 0..file.len() / 24 {
         if file[24 * p] == 1 {
             copy_component(file, p, buffer, at);
             at += 24;
         }
-        p += 1;
     }
     at
 }
@@ -53,13 +47,11 @@ pub(crate) fn copy_kept(file: &[u8], kept: &[u8], buffer: &mut [u8]) -> usize
     ensures { (buffer.new ≡ overlay (mended file.now) buffer.old) × (result ≡ length (mended file.now)) }
 {
     let mut at: usize = 0;
-    let mut p: usize = 0;
-    while p < file.len() / 24 {
+    for p in 0..file.len() / 24 {
         if kept[p] != 0 {
             copy_record(file, p, buffer, at);
             at += 24;
         }
-        p += 1;
     }
     at
 }
@@ -69,17 +61,16 @@ pub(crate) fn list_dropped(file: &[u8], kept: &[u8], list: &mut [u16]) -> usize
     requires { IsSifted file.now (record_count file.now) kept.now × (record_count file.now ≤ 1024) × (1025 ≤ length list.old) }
     ensures { (list.new ≡ overlay (dropped file.now) list.old) × (result ≡ length (dropped file.now)) }
 {
+    let n = file.len() / 24;
     let mut count: usize = 0;
-    let mut p: usize = 0;
-    while p < file.len() / 24 {
+    for p in 0..n {
         if kept[p] == 0 {
             list[count] = p as u16;
             count += 1;
         }
-        p += 1;
     }
     if file.len() % 24 != 0 {
-        list[count] = p as u16;
+        list[count] = n as u16;
         count += 1;
     }
     count

@@ -89,14 +89,7 @@ fn entered_before(
             return true;
         }
     }
-    let mut q: usize = 0;
-    while q < p {
-        if kept_enters(file, kept, q, owner, to, input) {
-            return true;
-        }
-        q += 1;
-    }
-    false
+    (0..p).any(|q| kept_enters(file, kept, q, owner, to, input))
 }
 
 // The mark at a place: 0 where it is not set.
@@ -149,10 +142,8 @@ pub(crate) fn sift(file: &[u8], parts: &[u8], kept: &mut [u8])
     let mut index = [0u16; 3072];
     index::fill_index(parts, &mut index);
     let mut marks = [0u16; 16384];
-    let mut p: usize = 0;
-    while p < file.len() / 24 {
+    for p in 0..file.len() / 24 {
         let stays = is_kept(file, parts, &index, kept, &mut marks, p);
         kept[p] = stays as u8;
-        p += 1;
     }
 }

@@ -15,7 +15,4 @@ decreases-list_targets l = l.depth
 abbrev pub invariant-loop-q : goal.invariant-loop-q
 invariant-loop-q l =
     Listing l.fn.targets l.fn.at (inputs_below (record_at l.fn.file) (record_count l.fn.file) l.fn.depth l.fn.c l.fn.i) l.targets l.next
-    (joined (given (record_at l.fn.file) (record_count l.fn.file) (l.fn.depth - 1) l.fn.c l.fn.i) (from l.q (l.end - l.q)))
-
-abbrev pub decreases-loop-q : goal.decreases-loop-q
-decreases-loop-q l = l.end - l.q
+    (joined (given (record_at l.fn.file) (record_count l.fn.file) (l.fn.depth - 1) l.fn.c l.fn.i) (from l.q (l.q-end - l.q)))

@@ -13,7 +13,7 @@ use Rattle.flatten.proofs.JudgementLaws.{readable_before, fails_here, passes_her
 use Rattle.flatten.proofs.judgement.first_alone.Goals as goal
 
 pub loop-p-init : goal.loop-p-init
-loop-p-init c = (omega arith, none_start (fails_at (record_at c.args.file.now) (length c.args.file.now / 24) c.args.k))
+loop-p-init c = none_start (fails_at (record_at c.args.file.now) (length c.args.file.now / 24) c.args.k)
 
 pub check_alone-requires : goal.check_alone-requires
 check_alone-requires c =
@@ -22,15 +22,14 @@ check_alone-requires c =
 
 pub returns-then-check_alone-ne0 : goal.returns-then-check_alone-ne0
 returns-then-check_alone-ne0 c =
-    first_this (fails_at (record_at c.args.file.now) (length c.args.file.now / 24) c.args.k) _ _ c.loop-p.invariant.1 true
+    first_this (fails_at (record_at c.args.file.now) (length c.args.file.now / 24) c.args.k) _ _ c.loop-p.invariant true
     (fails_here (record_at c.args.file.now) _ c.args.k c.loop-p.p _ c.check_alone.ensures c.requires.0 (omega (arith, c.requires.1)) c.if-check_alone-ne0.true) refl c.loop-p-test.true
 
 pub loop-p-preserved : goal.loop-p-preserved
-loop-p-preserved c = (
-  omega arith,
-  none_next (fails_at (record_at c.args.file.now) (length c.args.file.now / 24) c.args.k) c.loop-p.p 0 c.loop-p.invariant.1 false
-      (passes_here (record_at c.args.file.now) _ c.args.k c.loop-p.p _ c.check_alone.ensures c.requires.0 (omega (arith, c.requires.1)) c.if-check_alone-ne0.false) refl,
-)
+loop-p-preserved c =
+    none_next (fails_at (record_at c.args.file.now) (length c.args.file.now / 24) c.args.k) c.loop-p.p 0 c.loop-p.invariant false
+    (passes_here (record_at c.args.file.now) _ c.args.k c.loop-p.p _ c.check_alone.ensures c.requires.0 (omega (arith, c.requires.1)) c.if-check_alone-ne0.false) refl
 
 pub returns : goal.returns
-returns c = first_none (fails_at (record_at c.args.file.now) (length c.args.file.now / 24) c.args.k) _ _ c.loop-p.invariant.1 c.loop-p-test.false c.loop-p.invariant.0
+returns c =
+    first_none (fails_at (record_at c.args.file.now) (length c.args.file.now / 24) c.args.k) _ _ (λ j h. c.loop-p.invariant j (omega (arith, h))) (omega arith) (omega arith)

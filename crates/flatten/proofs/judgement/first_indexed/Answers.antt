@@ -18,7 +18,7 @@ kind (inl z) = (omega arith, omega arith)
 kind (inr z) = (omega arith, omega arith)
 
 pub loop-q-init : goal.loop-q-init
-loop-q-init c = (omega arith, none_start (fails_at (record_at c.args.file.now) (length c.args.file.now / 24) c.args.k))
+loop-q-init c = none_start (fails_at (record_at c.args.file.now) (length c.args.file.now / 24) c.args.k)
 
 pub check_indexed-requires : goal.check_indexed-requires
 check_indexed-requires c =
@@ -27,15 +27,14 @@ check_indexed-requires c =
 
 pub returns-then-check_indexed-ne0 : goal.returns-then-check_indexed-ne0
 returns-then-check_indexed-ne0 c =
-    first_this (fails_at (record_at c.args.file.now) (length c.args.file.now / 24) c.args.k) _ _ c.loop-q.invariant.1 true
+    first_this (fails_at (record_at c.args.file.now) (length c.args.file.now / 24) c.args.k) _ _ c.loop-q.invariant true
     (fails_here (record_at c.args.file.now) _ c.args.k c.loop-q.q _ c.check_indexed.ensures (omega (arith, kind c.requires.1)) (kind c.requires.1).1 c.if-check_indexed-ne0.true) refl c.loop-q-test.true
 
 pub loop-q-preserved : goal.loop-q-preserved
-loop-q-preserved c = (
-  omega arith,
-  none_next (fails_at (record_at c.args.file.now) (length c.args.file.now / 24) c.args.k) c.loop-q.q 0 c.loop-q.invariant.1 false
-      (passes_here (record_at c.args.file.now) _ c.args.k c.loop-q.q _ c.check_indexed.ensures (omega (arith, kind c.requires.1)) (kind c.requires.1).1 c.if-check_indexed-ne0.false) refl,
-)
+loop-q-preserved c =
+    none_next (fails_at (record_at c.args.file.now) (length c.args.file.now / 24) c.args.k) c.loop-q.q 0 c.loop-q.invariant false
+    (passes_here (record_at c.args.file.now) _ c.args.k c.loop-q.q _ c.check_indexed.ensures (omega (arith, kind c.requires.1)) (kind c.requires.1).1 c.if-check_indexed-ne0.false) refl
 
 pub returns : goal.returns
-returns c = first_none (fails_at (record_at c.args.file.now) (length c.args.file.now / 24) c.args.k) _ _ c.loop-q.invariant.1 c.loop-q-test.false c.loop-q.invariant.0
+returns c =
+    first_none (fails_at (record_at c.args.file.now) (length c.args.file.now / 24) c.args.k) _ _ (λ j h. c.loop-q.invariant j (omega (arith, h))) (omega arith) (omega arith)

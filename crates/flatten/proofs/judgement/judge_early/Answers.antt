@@ -14,16 +14,13 @@ returns-in_err-refused_at c =
     let l = c.loop-k in
     rw (handed_on c.from_residual.result _ c.from_residual.ensures.1)
     (judged_refused (record_at a.file.now) (length a.file.now / 24) 12 _
-    (judged_here a.file.now (length a.file.now / 24) l.k l.invariant.2 _ c.refused_at.ensures _ (omega (arith, l.invariant.0)) (omega (arith, c.loop-k-test.true)) c.in_err-refused_at.was))
+    (judged_here a.file.now (length a.file.now / 24) l.k l.invariant _ c.refused_at.ensures _ (omega arith) (omega arith) c.in_err-refused_at.was))
 
 pub loop-k-preserved : goal.loop-k-preserved
 loop-k-preserved c =
     let a = c.args in
-    let l = c.loop-k in (
-      omega (arith, l.invariant.0),
-      omega (arith, c.loop-k-test.true),
-      passed_next a.file.now (length a.file.now / 24) l.k l.invariant.2 _ c.refused_at.ensures (omega (arith, l.invariant.0)) (omega (arith, c.loop-k-test.true)) c.in_ok-refused_at.was,
-    )
+    let l = c.loop-k in
+    passed_next a.file.now (length a.file.now / 24) l.k l.invariant _ c.refused_at.ensures (omega arith) (omega arith) c.in_ok-refused_at.was
 
 pub returns : goal.returns
-returns c = judged_passed (record_at c.args.file.now) _ 12 c.loop-k.k c.loop-k.invariant.2 c.loop-k.invariant.1 c.loop-k-test.false
+returns c = judged_passed (record_at c.args.file.now) _ 12 c.loop-k.k c.loop-k.invariant (omega arith) (omega arith)

@@ -1,13 +1,10 @@
 -- `judge_late`: the invariant: the checks made so far have passed.
 -- Assumes nothing.
-use Prim.Native.Nat.{◌-◌, ◌/◌, ◌≤◌}
+use Prim.Native.Nat.{◌/◌}
 use lib.ListN.{length}
 use Rattle.component.specs.Record.{record_at}
 use Rattle.flatten.specs.Searches.{PassedBefore}
 use Rattle.flatten.proofs.judgement.judge_late.Given as goal
 
 abbrev pub invariant-loop-k : goal.invariant-loop-k
-invariant-loop-k l = (12 ≤ l.k) × (l.k ≤ 16) × PassedBefore (record_at l.file) (length l.file / 24) l.k
-
-abbrev pub decreases-loop-k : goal.decreases-loop-k
-decreases-loop-k l = 16 - l.k
+invariant-loop-k l = PassedBefore (record_at l.file) (length l.file / 24) l.k

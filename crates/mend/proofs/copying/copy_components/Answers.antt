@@ -12,14 +12,14 @@ use Rattle.mend.proofs.copying.copy_components.Goals as goal
 use Rattle.mend.proofs.copying.copy_components.Goals.{else-file-p-eq1, then-file-p-eq1}
 
 pub loop-p-init : goal.loop-p-init
-loop-p-init c = (omega arith, omega arith, laid_start _ _)
+loop-p-init c = (omega arith, laid_start _ _)
 
 pub copy_component-requires : goal.copy_component-requires
 copy_component-requires c =
     let l = c.loop-p in
     let f = c.args.file.now in (
       omega arith,
-      pick_room (is_component (loose_at f)) (component_part f) 24 (record_count f) (plain_length f) c.args.buffer.now l.p l.buffer l.at l.invariant.2
+      pick_room (is_component (loose_at f)) (component_part f) 24 (record_count f) (plain_length f) c.args.buffer.now l.p l.buffer l.at l.invariant.1
           (omega arith) c.requires.1,
     )
 
@@ -32,22 +32,20 @@ loop-p-preserved c =
     elim c.if-file-p-eq1.branch [
       | then-file-p-eq1 w ↦ rw (w.buffer-is, w.at-is) (
         omega arith,
-        omega arith,
-        pick_here T (component_part f) 24 (record_count f) (plain_length f) c.args.buffer.now l.p l.buffer l.at l.invariant.2 (omega arith) _
+        pick_here T (component_part f) 24 (record_count f) (plain_length f) c.args.buffer.now l.p l.buffer l.at l.invariant.1 (omega arith) _
             (byte ∙ eq-eqb _ 1 w.if-file-p-eq1.true) w.copy_component.ensures,
       )
       | else-file-p-eq1 w ↦ rw (w.buffer-is, w.at-is) (
         omega arith,
-        omega arith,
-        pick_not T (component_part f) 24 (record_count f) (plain_length f) c.args.buffer.now l.p l.buffer l.at l.invariant.2 (omega arith)
+        pick_not T (component_part f) 24 (record_count f) (plain_length f) c.args.buffer.now l.p l.buffer l.at l.invariant.1 (omega arith)
             (byte ∙ ne_eqb _ 1 w.if-file-p-eq1.false),
       )
     ]
 
 pub shape_of-buffer : goal.shape_of-buffer
-shape_of-buffer c = laid_length _ _ _ _ _ c.loop-p.invariant.2
+shape_of-buffer c = laid_length _ _ _ _ _ c.loop-p.invariant.1
 
 pub returns : goal.returns
 returns c =
     let l = c.loop-p in
-    parts_laid c.args.file.now c.args.buffer.now l.buffer l.p l.at l.invariant.2 (omega arith) c.requires.1
+    parts_laid c.args.file.now c.args.buffer.now l.buffer l.p l.at l.invariant.1 (omega arith) c.requires.1

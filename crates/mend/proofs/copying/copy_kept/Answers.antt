@@ -11,14 +11,14 @@ use Rattle.mend.proofs.copying.copy_kept.Goals as goal
 use Rattle.mend.proofs.copying.copy_kept.Goals.{else-kept-p-ne0, then-kept-p-ne0}
 
 pub loop-p-init : goal.loop-p-init
-loop-p-init c = (omega arith, omega arith, laid_start _ _)
+loop-p-init c = (omega arith, laid_start _ _)
 
 pub copy_record-requires : goal.copy_record-requires
 copy_record-requires c =
     let l = c.loop-p in
     let f = c.args.file.now in (
       omega arith,
-      pick_room (stays f) (part_at f) 24 (record_count f) (part_length f) c.args.buffer.now l.p l.buffer l.at l.invariant.2 (omega arith) c.requires.2,
+      pick_room (stays f) (part_at f) 24 (record_count f) (part_length f) c.args.buffer.now l.p l.buffer l.at l.invariant.1 (omega arith) c.requires.2,
     )
 
 pub loop-p-preserved : goal.loop-p-preserved
@@ -29,22 +29,20 @@ loop-p-preserved c =
     elim c.if-kept-p-ne0.branch [
       | then-kept-p-ne0 w ↦ rw (w.buffer-is, w.at-is) (
         omega arith,
-        omega arith,
-        pick_here (stays f) (part_at f) 24 (record_count f) (part_length f) c.args.buffer.now l.p l.buffer l.at l.invariant.2 below _
+        pick_here (stays f) (part_at f) 24 (record_count f) (part_length f) c.args.buffer.now l.p l.buffer l.at l.invariant.1 below _
             (marked_stays f c.args.kept.now l.p c.requires.0 below w.if-kept-p-ne0.true) w.copy_record.ensures,
       )
       | else-kept-p-ne0 w ↦ rw (w.buffer-is, w.at-is) (
         omega arith,
-        omega arith,
-        pick_not (stays f) (part_at f) 24 (record_count f) (part_length f) c.args.buffer.now l.p l.buffer l.at l.invariant.2 below
+        pick_not (stays f) (part_at f) 24 (record_count f) (part_length f) c.args.buffer.now l.p l.buffer l.at l.invariant.1 below
             (unmarked_goes f c.args.kept.now l.p c.requires.0 below w.if-kept-p-ne0.false),
       )
     ]
 
 pub shape_of-buffer : goal.shape_of-buffer
-shape_of-buffer c = laid_length _ _ _ _ _ c.loop-p.invariant.2
+shape_of-buffer c = laid_length _ _ _ _ _ c.loop-p.invariant.1
 
 pub returns : goal.returns
 returns c =
     let l = c.loop-p in
-    kept_laid c.args.file.now c.args.buffer.now l.buffer l.p l.at l.invariant.2 (omega arith) c.requires.2
+    kept_laid c.args.file.now c.args.buffer.now l.buffer l.p l.at l.invariant.1 (omega arith) c.requires.2

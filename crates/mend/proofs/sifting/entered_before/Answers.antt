@@ -1,15 +1,18 @@
--- `entered_before`: the guess, or the invariant: whether one of the records to come does is the answer.
+-- `entered_before`: the guess, or the chain, whose closure computes of each record before p whether it does.
 -- Assumes nothing.
-use mathlib.Core.Path.{refl, sym, ◌∙◌}
+use Rattle.std.proofs.Common.{rules}
+use mathlib.Core.Path.{sym, ◌∙◌}
 use mathlib.Core.Bool.{Bool, ◌&&◌}
 use Prim.Native.Nat.{ℕ}
-use native.Mathlib.Nat.{sub-zero}
 use native.Mathlib.Omega.{arith}
+use borrow.Author.Tests.{tests}
+use Rattle.std.proofs.lemmas.Iterator.{YieldsList-from_range}
+use Rattle.std.proofs.lemmas.Iterator.Search.{any_from_yields_List}
 use Rattle.lists.specs.Lists.{from}
-use Rattle.lists.proofs.ListsLaws.{any_here, any_next, any_none}
 use Rattle.lists.proofs.MembersLaws.{any_some, from0_complete}
 use Rattle.component.specs.Record.{loose_at}
 use Rattle.component.specs.Reading.{enters}
+use Rattle.flatten.proofs.WidthsLaws.{any_range}
 use Rattle.mend.specs.Sifting.{marked_kept}
 use Rattle.mend.proofs.sifting.entered_before.Goals as goal
 
@@ -19,23 +22,9 @@ returns-then-kept_enters c =
     sym (any_some f c.args.guess (from 0 c.args.p) (sym c.kept_enters.ensures ∙ c.if-kept_enters.true)
     (from0_complete c.args.p c.args.guess (omega arith)))
 
-pub loop-q-init : goal.loop-q-init
-loop-q-init c = rw (sub-zero c.args.p) refl
-
-pub returns-then-kept_enters-2 : goal.returns-then-kept_enters-2
-returns-then-kept_enters-2 c =
-    let l = c.loop-q in
-    let f : ℕ → Bool = λ j. marked_kept c.args.kept.now j && enters c.args.owner c.args.to.0 c.args.input (loose_at c.args.file.now j) in
-    any_here f l.q c.args.p _ l.invariant (omega arith) (sym c.kept_enters-in-loop-q.ensures ∙ c.if-kept_enters-2.true)
-
-pub loop-q-preserved : goal.loop-q-preserved
-loop-q-preserved c =
-    let l = c.loop-q in
-    let f : ℕ → Bool = λ j. marked_kept c.args.kept.now j && enters c.args.owner c.args.to.0 c.args.input (loose_at c.args.file.now j) in
-    any_next f l.q c.args.p _ l.invariant (omega arith) (sym c.kept_enters-in-loop-q.ensures ∙ c.if-kept_enters-2.false)
-
 pub returns : goal.returns
 returns c =
-    let l = c.loop-q in
-    let f : ℕ → Bool = λ j. marked_kept c.args.kept.now j && enters c.args.owner c.args.to.0 c.args.input (loose_at c.args.file.now j) in
-    any_none f l.q c.args.p _ l.invariant (omega arith)
+    let a = c.args in
+    any_range (λ j. marked_kept a.kept.now j && enters a.owner a.to.0 a.input (loose_at a.file.now j)) a.p _
+    (any_from_yields_List (λ j. marked_kept a.kept.now j && enters a.owner a.to.0 a.input (loose_at a.file.now j)) _ _ _ c.any.ensures.ran
+    (YieldsList-from_range 0 a.p a.p (cc) (omega arith)) (λ x b q k. search (rules, tests)))

@@ -26,29 +26,28 @@ fill_index-requires c =
 
 pub loop-p-init : goal.loop-p-init
 loop-p-init c =
-    (omega arith, sifted_start c.args.file.now c.args.kept.now c.requires.2, marks_start 16384 _ _ 0)
+    (sifted_start c.args.file.now c.args.kept.now c.requires.2, marks_start 16384 _ _ 0)
 
 pub is_kept-stays-requires : goal.is_kept-stays-requires
 is_kept-stays-requires c =
     let l = c.loop-p in
-    (c.requires.0, c.fill_index.ensures, l.invariant.1, omega arith, l.invariant.2)
+    (c.requires.0, c.fill_index.ensures, l.invariant.0, omega arith, l.invariant.1)
 
 pub bounds-kept-p : goal.bounds-kept-p
-bounds-kept-p c = let l = c.loop-p in omega (arith, l.invariant.1.size)
+bounds-kept-p c = let l = c.loop-p in omega (arith, l.invariant.0.size)
 
 pub loop-p-preserved : goal.loop-p-preserved
 loop-p-preserved c =
     let l = c.loop-p in
     let r = c.is_kept-stays in (
-      omega arith,
-      sifted_step c.args.file.now l.kept l.p (bool_byte r.result) l.invariant.1 (omega arith) (byte_says r.result ∙ r.ensures.value),
+      sifted_step c.args.file.now l.kept l.p (bool_byte r.result) l.invariant.0 (omega arith) (byte_says r.result ∙ r.ensures.value),
       r.ensures.marked,
     )
 
 pub shape_of-kept : goal.shape_of-kept
-shape_of-kept c = c.loop-p.invariant.1.size ∙ sym c.requires.2
+shape_of-kept c = c.loop-p.invariant.0.size ∙ sym c.requires.2
 
 pub returns : goal.returns
 returns c =
     let l = c.loop-p in
-    subst (λ (k : ℕ). IsSifted c.args.file.now k l.kept) (omega arith) l.invariant.1
+    subst (λ (k : ℕ). IsSifted c.args.file.now k l.kept) (omega arith) l.invariant.0
