@@ -3,10 +3,11 @@
 use mathlib.Core.Path.{◌≡◌, refl, sym, ap, ◌∙◌, subst}
 use Prim.Native.Nat.{ℕ, zero, suc, ◌+◌, ◌-◌, ◌<◌, ◌≤◌}
 use native.Mathlib.Omega.{arith}
-use mathlib.Core.Bool.{true}
+use mathlib.Core.Bool.{Bool, true, ◌||◌}
 use mathlib.Core.List.{List, map}
 use lib.ListN.{length}
 use lib.Dec.{eqb}
+use Rattle.std.specs.List.{range_with_len, list_any}
 use Rattle.lists.specs.Lists.{from, any}
 use Rattle.lists.proofs.MembersLaws.{length_nil}
 use Rattle.component.specs.declared.Record.{Record}
@@ -61,12 +62,18 @@ module _ (s : List ℕ) (accepted : verdict s ≡ Ok tt) (m c i : ℕ) (depth : 
         ∙ ap (λ (j : ℕ). last_of z (targets_in u j)) (sym more)
         ∙ ap (last_of z) (listed_read t goals u k listed (omega (arith, behind_room, full)) ∙ is_behind)
 
--- Whether nothing is behind some input: all inputs are to be looked at.
-pub dangling_start : (at : ℕ → Record) (n c k : ℕ) → k ≡ inputs_of (at c)
-    → any (λ j. eqb (length (behind at n c j)) 0) (from 0 (k - 0)) ≡ dangling at n c
+-- Whether nothing is behind some input: all inputs are looked at.
+any_range : (f : ℕ → Bool) (q k : ℕ) → list_any f (range_with_len q k) ≡ any f (from q k)
+any_range f q zero = refl
+any_range f q (suc k) =
+    let z : q + 1 ≡ suc q = omega arith in
+    ap (λ (b : Bool). f q || b) (any_range f (q + 1) k ∙ ap (λ (j : ℕ). any f (from j k)) z)
+
+pub dangling_searched : (at : ℕ → Record) (n c k : ℕ) → k ≡ inputs_of (at c)
+    → list_any (λ i. eqb (length (behind at n c i)) 0) (range_with_len 0 k) ≡ dangling at n c
 unfolding dangling
-dangling_start at n c k e =
-    let z : k - 0 ≡ inputs_of (at c) = omega (arith, e) in ap (λ (j : ℕ). any (λ j. eqb (length (behind at n c j)) 0) (from 0 j)) z
+dangling_searched at n c k e =
+    any_range (λ i. eqb (length (behind at n c i)) 0) 0 k ∙ ap (λ (j : ℕ). any (λ i. eqb (length (behind at n c i)) 0) (from 0 j)) e
 
 -- What the side says.
 pub shown_input : (at : ℕ → Record) (n c i : ℕ) (side : Side) (x : Pin) → side ≡ Inputs → x ≡ last_of (pin n 0) (behind at n c i)

@@ -1,14 +1,15 @@
 -- Whether two lists of words are the same: word by word, and by what was laid. Entries of one width w are laid in order; `f` gives the words of one.
 -- Assumes nothing.
 use mathlib.Core.Path.{◌≡◌, refl, sym, ap, ◌∙◌}
-use Prim.Native.Nat.{ℕ, suc, ◌+◌, ◌*◌, ◌<◌, ◌≤◌}
+use Prim.Native.Nat.{ℕ, suc, ◌*◌, ◌≤◌}
 use native.Mathlib.Omega.{arith}
 use mathlib.Core.Bool.{Bool, true, false, ◌&&◌, false≢true}
 use mathlib.Core.List.{List, [], ◌∷◌}
-use lib.ListN.{length, get_or, take, drop, drop_of_length-le}
-use lib.Seq.{drop-cons, get_or-take, length-take-le}
+use lib.ListN.{length, take}
+use lib.Seq.{length-take-le}
 use lib.Dec.{eqb}
-use borrow.Author.Tests.{eq-eqb, ne_eqb, eqb-true}
+use lib.Pointwise.{pointwise}
+use borrow.Author.Tests.{eqb-true}
 use Rattle.lists.specs.Lists.{joined, overlay}
 use Rattle.lists.proofs.TestsLaws.{and_left, and_right}
 use Rattle.lists.proofs.OverlayLaws.{overlay_front, overlay_length, joined_width}
@@ -37,34 +38,12 @@ same_sound (x ∷ xs) (y ∷ ys) h =
     let b = same_sound xs ys (and_right (eqb x y) _ h) in
     λ j. a j ∷ b j
 
--- A loop over the first m words of two tables: they differ here; they do not; there are no more.
-module _ (a b : List ℕ) (m k : ℕ) (x : Bool) (inv : same (drop k (take m a)) (drop k (take m b)) ≡ x) where
-  module _ (ha : m ≤ length a) (hb : m ≤ length b) (h : k < m) where
-    here : same (drop k (take m a)) (drop k (take m b))
-        ≡ (eqb (get_or a k 0) (get_or b k 0) && same (drop (suc k) (take m a)) (drop (suc k) (take m b)))
-    here =
-        rw (
-          drop-cons (take m a) k 0 (omega (arith, length-take-le m a ha)),
-          drop-cons (take m b) k 0 (omega (arith, length-take-le m b hb)),
-          get_or-take m a k 0 h,
-          get_or-take m b k 0 h,
-        )
-
-    pub same_differs : (get_or a k 0 ≡ get_or b k 0 → ⊥) → false ≡ x
-    same_differs e = sym (here ∙ rw (ne_eqb (get_or a k 0) (get_or b k 0) e)) ∙ inv
-
-    pub same_next : get_or a k 0 ≡ get_or b k 0 → same (drop (k + 1) (take m a)) (drop (k + 1) (take m b)) ≡ x
-    same_next e =
-        let z : k + 1 ≡ suc k = omega arith in
-        rw z (sym (here ∙ rw (eq-eqb (get_or a k 0) (get_or b k 0) e)) ∙ inv)
-
-  pub same_end : m ≤ length a → m ≤ length b → m ≤ k → true ≡ x
-  same_end ha hb h =
-      sym (rw (
-        drop_of_length-le (take m a) {i = k} (omega (arith, length-take-le m a ha)),
-        drop_of_length-le (take m b) {i = k} (omega (arith, length-take-le m b hb)),
-      ))
-      ∙ inv
+-- Lists of words are compared word by word.
+pub same_pointwise : (xs ys : List ℕ) → pointwise eqb xs ys ≡ same xs ys
+same_pointwise [] [] = refl
+same_pointwise [] (y ∷ ys) = refl
+same_pointwise (x ∷ xs) [] = refl
+same_pointwise (x ∷ xs) (y ∷ ys) = ap (λ (b : Bool). eqb x y && b) (same_pointwise xs ys)
 
 -- Entries laid over a table, and the first m entries of another.
 module _ {A : Type 0} (f : A → List ℕ) (w : ℕ) (each : (a : A) → length (f a) ≡ w) (xs : List A) (cs : List ℕ) (k m : ℕ)
@@ -81,9 +60,9 @@ module _ {A : Type 0} (f : A → List ℕ) (w : ℕ) (each : (a : A) → length 
     pub laid_room : length (joined f xs) ≤ length z → w * m ≤ length t
     laid_room h = omega (arith, full, ap (λ (l : List ℕ). length l) laid, overlay_length (joined f xs) z h)
 
-    pub laid_same : (b : Bool) → b ≡ same (take (w * m) cs) (take (w * m) t) → b ≡ same (take (w * m) cs) (joined f xs)
+    pub laid_same : (b : Bool) → b ≡ pointwise eqb (take (w * m) cs) (take (w * m) t) → b ≡ same (take (w * m) cs) (joined f xs)
     laid_same b h =
-        h ∙ ap (λ (j : ℕ). same (take (w * m) cs) (take j t)) full
+        h ∙ same_pointwise (take (w * m) cs) (take (w * m) t) ∙ ap (λ (j : ℕ). same (take (w * m) cs) (take j t)) full
         ∙ ap (λ (l : List ℕ). same (take (w * m) cs) (take (length (joined f xs)) l)) laid
         ∙ ap (same (take (w * m) cs)) (overlay_front (joined f xs) z)
 

@@ -26,14 +26,7 @@ pub fn is_dangling(file: &[u8], index: &[u16], c: usize) -> bool
     ensures { result ≡ dangling (record_at file.now) (record_count file.now) c }
 {
     let count = fields_at(file, c).inputs;
-    let mut i: u16 = 0;
-    while i < count {
-        if is_open(file, index, c, i) {
-            return true;
-        }
-        i += 1;
-    }
-    false
+    (0..count).any(|i| is_open(file, index, c, i))
 }
 
 // The primitive input that the maps of input i of component c reach last; input 0 of component n, the number of records, where they reach none.

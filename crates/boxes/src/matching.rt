@@ -12,36 +12,6 @@ ghost use Rattle.net.specs.Parts.{lent};
 use laying::{lay_components, lay_wires};
 use tables::Counts;
 
-// Whether two tables of words have the same first words.
-fn same_words(a: &[u64], b: &[u64], count: usize) -> bool
-    requires { (count ≤ length a.now) × (count ≤ length b.now) }
-    ensures { result ≡ same (take count a.now) (take count b.now) }
-{
-    let mut k: usize = 0;
-    while k < count {
-        if a[k] != b[k] {
-            return false;
-        }
-        k += 1;
-    }
-    true
-}
-
-// The same for words of 16 bits.
-fn same_shorts(a: &[u16], b: &[u16], count: usize) -> bool
-    requires { (count ≤ length a.now) × (count ≤ length b.now) }
-    ensures { result ≡ same (take count a.now) (take count b.now) }
-{
-    let mut k: usize = 0;
-    while k < count {
-        if a[k] != b[k] {
-            return false;
-        }
-        k += 1;
-    }
-    true
-}
-
 // Whether the first `count` components of a table are those that a load of the file gives.
 fn components_match(file: &[u8], components: &[u64], count: usize) -> bool
     requires { (verdict file.now ≡ Ok tt) × (8 * count ≤ length components.now) }
@@ -54,7 +24,7 @@ fn components_match(file: &[u8], components: &[u64], count: usize) -> bool
     if all.components != count {
         return false;
     }
-    same_words(components, &laid, 8 * count)
+    components[..8 * count] == laid[..8 * count]
 }
 
 // Whether the first `count` wires of a table are those that a load of the file gives.
@@ -67,7 +37,7 @@ fn wires_match(file: &[u8], index: &[u16], wires: &[u16], count: usize) -> bool
     if lay_wires(file, index, &mut laid) != count {
         return false;
     }
-    same_shorts(wires, &laid, 4 * count)
+    wires[..4 * count] == laid[..4 * count]
 }
 
 // Whether the tables hold the components and the wires that a load of the file gives. Crate look calls it for an accepted file, with the index

@@ -26,12 +26,10 @@ fn child_named(file: &[u8], c: usize, id: Id) -> usize
     ensures { result ≡ child_named (record_at file.now) (record_count file.now) c id.0 }
 {
     let n = file.len() / 24;
-    let mut q: usize = 1;
-    while q < n {
+    for q in 1..n {
         if is_named(file, c, id, q) {
             return q;
         }
-        q += 1;
     }
     n
 }
@@ -44,13 +42,11 @@ pub fn place_of(file: &[u8], path: &[u32]) -> usize
 {
     let n = file.len() / 24;
     let mut c: usize = 0;
-    let mut k: usize = 0;
-    while k < path.len() {
-        c = child_named(file, c, Id(path[k]));
+    for id in path {
+        c = child_named(file, c, Id(*id));
         if c == n {
             return n;
         }
-        k += 1;
     }
     c
 }

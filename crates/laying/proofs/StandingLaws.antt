@@ -3,14 +3,15 @@
 use mathlib.Core.Path.{◌≡◌, refl, sym, ap, ◌∙◌}
 use mathlib.Core.Bool.{Bool, true, false, cond, not, ◌||◌}
 use mathlib.Core.List.{List, [], ◌∷◌, ◌++◌, map}
-use Prim.Native.Nat.{ℕ, ◌+◌, ◌≤◌, ◌<◌}
+use Prim.Native.Nat.{ℕ, zero, suc, ◌+◌, ◌-◌, ◌≤◌, ◌<◌}
 use native.Mathlib.Numerals.{add-one}
 use native.Mathlib.Decide.{dec_lt}
 use native.Mathlib.Omega.{arith}
 use borrow.Author.Tests.{le-ltb}
 use borrow.Author.Tests.{not-true, not-false}
-use lib.ListN.{length, get_or, set, length-map, length-append}
-use lib.Seq.{sets, get_or-set_same, get_or-set_other}
+use lib.ListN.{length, get_or, set, take, replicate, length-map, length-append, length-replicate}
+use lib.Seq.{sets, get_or-set_same, get_or-set_other, get_or-take, length-take-le}
+use Rattle.std.proofs.lemmas.List.{get_or_append_left, get_or-append_right, get_or-replicate}
 use Rattle.lists.specs.Lists.{from, keep, joined, overlay}
 use Rattle.lists.proofs.MembersLaws.{keep_length, from_length}
 use Rattle.kinds.specs.declared.Kind.TheVariants.{Clock, Const}
@@ -29,7 +30,7 @@ use Rattle.laying.specs.declared.names.Stood.{Stood}
 use Rattle.laying.specs.declared.rows.Drawn.{Drawn}
 use Rattle.laying.specs.declared.rows.Drawn.TheVariants.{Primitive, Other}
 use Rattle.laying.specs.Laid.{primitives, standing_at_load}
-use Rattle.laying.specs.Laying.{seen_if, seen, standing_if, standing_by, stood_by, standing_at}
+use Rattle.laying.specs.Laying.{IsFlat, seen_if, seen, standing_if, standing_by, stood_by, standing_at}
 use Rattle.lists.proofs.LayingLaws.{joined_keep, Laid, laid_room, laid_step, laid_end, laid_count}
 use Rattle.laying.proofs.PassesLaws.{primitives_before-few}
 use Rattle.std.specs.Prelude.{Ok}
@@ -182,7 +183,35 @@ module _ (s : List ℕ) (accepted : verdict s ≡ Ok tt) where
               (ap (λ (x : Stood). x.count) em ∙ stood_count drawn k)
 
 -- Past the records the flat index stays.
-pub flat_past : (s : List ℕ) (c x : ℕ) → record_count s ≤ c → x ≡ flat (record_at s) (record_count s) c → x ≡ flat (record_at s) (record_count s) (c + 1)
-flat_past s c x h e =
-    let z : is_primitive (record_at s c) ≡ false = rw (le-ltb c (record_count s) h) in
-    flat_same (record_at s) (record_count s) c x z e
+pub flat_past : (s : List ℕ) (c x d : ℕ) → record_count s ≤ c → x ≡ flat (record_at s) (record_count s) c
+    → x ≡ flat (record_at s) (record_count s) (c + d)
+flat_past s c x zero h e =
+    let z : c ≡ c + 0 = omega arith in e ∙ ap (flat (record_at s) (record_count s)) z
+flat_past s c x (suc d) h e =
+    let z : is_primitive (record_at s (c + d)) ≡ false = rw (le-ltb (c + d) (record_count s) (omega arith)) in
+    let more : c + d + 1 ≡ c + suc d = omega arith in
+    flat_same (record_at s) (record_count s) (c + d) x z (flat_past s c x d h e) ∙ ap (flat (record_at s) (record_count s)) more
+
+-- Words of a table that are flat indexes up to place c, and behind them that of c: past the records all are.
+module _ (s u v w : List ℕ) (c x : ℕ) (place : c ≤ 256) (past : c < 256 → record_count s ≤ c) (size : length u ≡ 256)
+    (e : x ≡ flat (record_at s) (record_count s) c) (words : (k : ℕ) → k < c → get_or u k 0 ≡ flat (record_at s) (record_count s) k)
+    (filled : v ≡ replicate (256 - c) x) (none : length w ≡ 0) where
+  front : length (take c u) ≡ c
+  front = length-take-le c u (omega arith)
+
+  back : length v ≡ 256 - c
+  back = ap (λ (l : List ℕ). length l) filled ∙ length-replicate {A = ℕ} (256 - c) x
+
+  pub flat_filled : IsFlat (record_at s) (record_count s) (take c u ++ (v ++ w))
+  flat_filled = record {
+    size = omega (arith, length-append (take c u) (v ++ w), length-append v w, front, back, none);
+    word = λ k l. by_place k l (dec_lt k c);
+  }
+    where
+      by_place : (k : ℕ) → k < 256 → Dec (k < c) → get_or (take c u ++ (v ++ w)) k 0 ≡ flat (record_at s) (record_count s) k
+      by_place k l (yes g) = get_or_append_left (take c u) (v ++ w) 0 k (omega (arith, front)) ∙ get_or-take c u k 0 g ∙ words k g
+      by_place k l (no g) =
+          let there : c + (k - c) ≡ k = omega arith in
+          get_or-append_right (take c u) (v ++ w) c k 0 front (omega arith) ∙ get_or_append_left v w 0 (k - c) (omega (arith, back))
+          ∙ ap (λ (l : List ℕ). get_or l (k - c) 0) filled ∙ get_or-replicate (256 - c) (k - c) x 0 (omega arith)
+          ∙ flat_past s c x (k - c) (past (omega arith)) e ∙ ap (flat (record_at s) (record_count s)) there

@@ -28,10 +28,8 @@ pub fn count_up(list: &mut [u16], count: usize)
     requires { (count ≤ length list.old) × (count ≤ 256) }
     ensures { list.new ≡ sets list.old 0 (from 0 count) }
 {
-    let mut i: usize = 0;
-    while i < count {
-        list[i] = i as u16;
-        i += 1;
+    for (i, entry) in list[..count].iter_mut().enumerate() {
+        *entry = i as u16;
     }
 }
 
@@ -77,10 +75,8 @@ pub fn lay_standing(file: &[u8], standing: &mut [u16]) -> usize
         components: 0,
         count: 0,
     };
-    let mut p: usize = 0;
-    while p < n {
+    for p in 0..n {
         stood = stand(standing, drawn_at(file, p), stood);
-        p += 1;
     }
     stood.count
 }
@@ -103,16 +99,11 @@ pub fn index_flat(file: &[u8], flat: &mut [u16])
 {
     let rows = few(file.len() / 24);
     let mut count: u16 = 0;
-    let mut c: usize = 0;
-    while c < rows {
-        flat[c] = count;
+    for (c, entry) in flat[..rows].iter_mut().enumerate() {
+        *entry = count;
         if is_primitive_at(file, c) {
             count += 1;
         }
-        c += 1;
     }
-    while c < 256 {
-        flat[c] = count;
-        c += 1;
-    }
+    flat[rows..].fill(count);
 }

@@ -87,10 +87,8 @@ pub fn lay_components(file: &[u8], components: &mut [u64]) -> Before
         inputs: 0,
         outputs: 0,
     };
-    let mut p: usize = 0;
-    while p < n {
+    for p in 0..n {
         before = lay_component(components, drawn_at(file, p), before);
-        p += 1;
     }
     before
 }
@@ -101,11 +99,7 @@ pub fn zeros(ports: &mut [u64], at: usize, count: usize)
     requires { at + count ≤ length ports.old }
     ensures { ports.new ≡ sets ports.old at (replicate count 0) }
 {
-    let mut i: usize = 0;
-    while i < count {
-        ports[at + i] = 0;
-        i += 1;
-    }
+    ports[at..at + count].fill(0);
 }
 
 // Lays the outputs of a primitive behind those before: all 0, a Const's output its value. The answer is the place behind them.
@@ -133,9 +127,7 @@ pub fn lay_outputs(file: &[u8], outputs: &mut [u64])
 {
     let n = file.len() / 24;
     let mut at: usize = 0;
-    let mut p: usize = 0;
-    while p < n {
+    for p in 0..n {
         at = lay_output(outputs, at, drawn_at(file, p));
-        p += 1;
     }
 }

@@ -54,10 +54,8 @@ fn lay_leads(
     ensures { Written wires.old (wire_place at)
         (joined (lead_by indexes.now from) (targets_in targets.now count)) wires.new (wire_place result) }
 {
-    let mut k: usize = 0;
-    while k < count {
+    for k in 0..count {
         lay_lead(indexes, from, target_at(targets, k), wires, at + k);
-        k += 1;
     }
     at + count
 }
@@ -108,10 +106,8 @@ fn connect_all(file: &[u8], index: &[u16], indexes: &[u16], wires: &mut [u16]) -
 {
     let mut targets = [0u16; 2048];
     let mut at: usize = 0;
-    let mut p: usize = 0;
-    while p < file.len() / 24 {
+    for p in 0..file.len() / 24 {
         at = connect(file, index, indexes, &mut targets, p, wires, at);
-        p += 1;
     }
     at
 }

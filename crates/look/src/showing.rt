@@ -65,15 +65,13 @@ fn show_side(
     ensures widths_after { widths.new ≡ sets widths.old at (widths_on (record_at file.now) (record_count file.now)
         (ported components.now inputs.now outputs.now) side c) }
 {
-    let mut i: u16 = 0;
-    while i < count {
+    for i in 0..count {
         let value = value_shown(
             file, index, indexes, components, inputs, outputs, side, c, i,
         );
         let k = at + i as usize;
         numbers[k] = value.number;
         widths[k] = value.width;
-        i += 1;
     }
 }
 

@@ -12,6 +12,3 @@ use Rattle.boxes.proofs.path.child_named.Given as goal
 abbrev pub invariant-loop-q : goal.invariant-loop-q
 invariant-loop-q l =
     get_or (keep (named (record_at l.file) l.c l.id.0) (from l.q (l.n - l.q))) 0 l.n ≡ child_named (record_at l.file) (record_count l.file) l.c l.id.0
-
-abbrev pub decreases-loop-q : goal.decreases-loop-q
-decreases-loop-q l = l.n - l.q

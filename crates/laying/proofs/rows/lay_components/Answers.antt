@@ -20,12 +20,6 @@ lay_component-before-requires c =
     l.before l.invariant.1 l.invariant.2
     _ c.drawn_at.ensures c.loop-p-test.true
 
-pub overflow_add-p : goal.overflow_add-p
-overflow_add-p c = omega arith
-
-pub loop-p-smaller : goal.loop-p-smaller
-loop-p-smaller c = omega arith
-
 pub loop-p-preserved : goal.loop-p-preserved
 loop-p-preserved c =
     let l = c.loop-p in

@@ -1,7 +1,7 @@
 -- `lay_components`: the entries of the primitives passed so far are laid, and what stands before the next is known.
 -- Assumes nothing.
 use mathlib.Core.Path.{◌≡◌}
-use Prim.Native.Nat.{◌-◌, ◌≤◌}
+use Prim.Native.Nat.{◌≤◌}
 use Rattle.component.specs.Record.{record_at, record_count}
 use Rattle.laying.specs.Laying.{before_at, row_at}
 use Rattle.lists.proofs.LayingLaws.{Laid}
@@ -12,6 +12,3 @@ abbrev pub invariant-loop-p : goal.invariant-loop-p
 invariant-loop-p l =
     (l.p ≤ record_count l.file) × (l.before ≡ before_at (record_at l.file) (record_count l.file) l.p)
     × Laid (row_at (record_at l.file) (record_count l.file)) l.p l.initial.components l.components (row_place l.before.components)
-
-abbrev pub decreases-loop-p : goal.decreases-loop-p
-decreases-loop-p l = l.n - l.p

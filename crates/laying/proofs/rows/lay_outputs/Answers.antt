@@ -19,12 +19,6 @@ lay_output-at-requires c =
     l.invariant.1
     _ c.drawn_at.ensures c.loop-p-test.true
 
-pub overflow_add-p : goal.overflow_add-p
-overflow_add-p c = omega arith
-
-pub loop-p-smaller : goal.loop-p-smaller
-loop-p-smaller c = omega arith
-
 pub loop-p-preserved : goal.loop-p-preserved
 loop-p-preserved c =
     let l = c.loop-p in (

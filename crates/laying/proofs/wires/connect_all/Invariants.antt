@@ -1,7 +1,7 @@
 -- `connect_all`: the wires of the records passed so far are laid.
 -- Assumes nothing.
 use mathlib.Core.Path.{◌≡◌}
-use Prim.Native.Nat.{◌-◌, ◌/◌, ◌≤◌}
+use Prim.Native.Nat.{◌/◌, ◌≤◌}
 use lib.ListN.{length}
 use Rattle.component.specs.Record.{record_at}
 use Rattle.laying.specs.Laying.{wires_given}
@@ -11,8 +11,5 @@ use Rattle.laying.proofs.wires.connect_all.Given as goal
 
 abbrev pub invariant-loop-p : goal.invariant-loop-p
 invariant-loop-p l =
-    (l.p ≤ length l.file / 24) × (length l.targets ≡ 2048) × Laid (wires_given (record_at l.file) (length l.file / 24)) l.p l.initial.wires l.wires (wire_place l.at)
-
-abbrev pub decreases-loop-p : goal.decreases-loop-p
-decreases-loop-p l =
-    length l.file / 24 - l.p
+    (l.p ≤ length l.file / 24) × (length l.targets ≡ 2048)
+    × Laid (wires_given (record_at l.file) (length l.file / 24)) l.p l.initial.wires l.wires (wire_place l.at)

@@ -1,7 +1,7 @@
 -- `show_side`: the ports passed are shown.
 -- Assumes nothing.
 use mathlib.Core.Path.{◌≡◌}
-use Prim.Native.Nat.{◌-◌, ◌≤◌}
+use Prim.Native.Nat.{◌≤◌}
 use mathlib.Core.List.{map}
 use lib.ListN.{length}
 use lib.Seq.{sets}
@@ -17,6 +17,3 @@ invariant-loop-i l =
     (l.i ≤ l.count) × (length l.numbers ≡ length l.initial.numbers) × (length l.widths ≡ length l.initial.widths)
     × (l.numbers ≡ sets l.initial.numbers l.at (map (λ (v : Value). v.number) (map shows (from 0 l.i))))
     × (l.widths ≡ sets l.initial.widths l.at (map (λ (v : Value). v.width) (map shows (from 0 l.i))))
-
-abbrev pub decreases-loop-i : goal.decreases-loop-i
-decreases-loop-i l = l.count - l.i
