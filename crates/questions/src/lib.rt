@@ -50,12 +50,10 @@ fn search_id(components: &[u64], count: usize, id: Id) -> Result<FlatIdx, Refusa
     requires { RowsInside components.now count }
     ensures { index_gives result ≡ index_found (first (λ i. eqb (id_in components.now i) id.0) (from 0 count)) }
 {
-    let mut i: usize = 0;
-    while i < count {
+    for i in 0..count {
         if tables::has_id(components, i, id) {
             return Ok(FlatIdx(i));
         }
-        i += 1;
     }
     Err(refused_by(17))
 }
@@ -65,14 +63,12 @@ fn mark_ends(wires: &[u16], count: usize, near: Tip, far: Tip, i: usize, marks: 
     requires { ((k : ℕ) → k < count → end_of wires.now k far < length marks.old) × WiresInside wires.now count }
     ensures { (j : ℕ) → get_or marks.new j 0 ≡ cond (meets wires.now count near far i j) 1 (get_or marks.old j 0) }
 {
-    let mut k: usize = 0;
-    while k < count {
+    for k in 0..count {
         let wire = tables::wire_at(wires, k);
         if comp_at(wire, near) == i {
             let at = comp_at(wire, far);
             marks[at] = 1;
         }
-        k += 1;
     }
 }
 
@@ -83,13 +79,11 @@ fn list_marked(marks: &[u8], count: usize, list: &mut [u16]) -> usize
         (list.new ≡ overlay (marked_below marks.now count) list.old) }
 {
     let mut listed: usize = 0;
-    let mut j: usize = 0;
-    while j < count {
-        if marks[j] == 1 {
+    for (j, mark) in marks[..count].iter().enumerate() {
+        if *mark == 1 {
             list[listed] = j as u16;
             listed += 1;
         }
-        j += 1;
     }
     listed
 }

@@ -17,13 +17,11 @@ fn is_driven(wires: &[u16], count: usize, i: usize) -> bool
     requires { WiresInside wires.now count }
     ensures { result ≡ entered wires.now count i }
 {
-    let mut k: usize = 0;
-    while k < count {
+    for k in 0..count {
         let wire = tables::wire_at(wires, k);
         if wire.dst.comp.0 == i {
             return true;
         }
-        k += 1;
     }
     false
 }

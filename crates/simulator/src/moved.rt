@@ -16,10 +16,8 @@ pub fn count_moved(bits: &[u64], count: usize) -> u32
     ensures { result ≡ total bits_set (take count bits.now) }
 {
     let mut moved: u32 = 0;
-    let mut k: usize = 0;
-    while k < count {
-        moved += bits_set(bits[k]);
-        k += 1;
+    for word in &bits[..count] {
+        moved += bits_set(*word);
     }
     moved
 }

@@ -19,13 +19,11 @@ fn any_into(indexes: &[u16], targets: &[u16], count: usize, i: usize) -> bool
         × ((k : ℕ) → k < count → (target_in targets.now k).comp < 256) }
     ensures { result ≡ any (λ (t : Pin). eqb (end_by indexes.now t).comp.0 i) (targets_in targets.now count) }
 {
-    let mut k: usize = 0;
-    while k < count {
+    for k in 0..count {
         let to = flat_pin(indexes, target_at(targets, k));
         if to.comp.0 == i {
             return true;
         }
-        k += 1;
     }
     false
 }
@@ -59,12 +57,10 @@ pub(crate) fn is_led_into(file: &[u8], index: &[u16], indexes: &[u16], i: usize)
     ensures { result ≡ led_into (record_at file.now) (record_count file.now) i }
 {
     let mut targets = [0u16; 2048];
-    let mut p: usize = 0;
-    while p < file.len() / 24 {
+    for p in 0..file.len() / 24 {
         if enters(file, index, indexes, &mut targets, i, p) {
             return true;
         }
-        p += 1;
     }
     false
 }

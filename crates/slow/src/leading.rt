@@ -42,14 +42,12 @@ fn send_to(
         × ListMarked (bare components.now) result following.new listed.new }
 {
     let mut reached = filled;
-    let mut k: usize = 0;
-    while k < count {
+    for k in 0..count {
         let to = flat_pin(indexes, target_at(targets, k));
         let wire = Wire { src: from, dst: to };
         reached = send_along(
             components, inputs, outputs, following, listed, reached, wire,
         );
-        k += 1;
     }
     reached
 }
@@ -128,8 +126,7 @@ pub(crate) fn send_leaving(
 {
     let mut targets = [0u16; 2048];
     let mut reached = filled;
-    let mut p: usize = 0;
-    while p < file.len() / 24 {
+    for p in 0..file.len() / 24 {
         reached = send_connection(
             file,
             index,
@@ -144,7 +141,6 @@ pub(crate) fn send_leaving(
             i,
             p,
         );
-        p += 1;
     }
     reached
 }

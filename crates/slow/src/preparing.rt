@@ -86,15 +86,13 @@ fn values_fit(components: &[u64], inputs: &[u64], outputs: &[u64], count: usize)
         × InputsInside components.now inputs.now i × OutputsInside components.now outputs.now i }
     ensures { result ≡ every (values_fit_at components.now inputs.now outputs.now) (from 0 count) }
 {
-    let mut i: usize = 0;
-    while i < count {
+    for i in 0..count {
         let f = tables::fields_at(components, i);
         let inward = kinds::input_width(f);
         let outward = kinds::output_width(f);
         if !row_fits(components, inputs, outputs, inward, outward, i) {
             return false;
         }
-        i += 1;
     }
     true
 }
@@ -105,12 +103,10 @@ fn consts_held(components: &[u64], outputs: &[u64], count: usize) -> bool
         × OutputsInside components.now outputs.now i }
     ensures { result ≡ every (held_at components.now outputs.now) (from 0 count) }
 {
-    let mut i: usize = 0;
-    while i < count {
+    for i in 0..count {
         if !row_held(components, outputs, i) {
             return false;
         }
-        i += 1;
     }
     true
 }

@@ -112,16 +112,14 @@ fn visit_all(
         × (result.following ≤ length following.new) × (result.standing ≤ length standing.new) }
 {
     let mut reached = sizes;
-    let mut k: usize = 0;
-    while k < count {
-        let i = tables::entry(list, k);
+    for (k, entry) in list[..count].iter().enumerate() {
+        let i = *entry as usize;
         let visited = visit(
             file, index, indexes, components, inputs, outputs, following, listed, standing, stood,
             reached, i, time,
         );
         reached = visited.sizes;
         moved[k] = visited.moved;
-        k += 1;
     }
     reached
 }

@@ -2,7 +2,7 @@
 -- was.
 -- Assumes nothing.
 use mathlib.Core.Path.{◌≡◌, refl, sym, ap, ◌∙◌}
-use Prim.Native.Nat.{ℕ, ◌-◌}
+use Prim.Native.Nat.{ℕ}
 use native.Mathlib.Omega.{arith}
 use lib.ListN.{length-set}
 use Rattle.tables.specs.declared.Wire.{Wire}
@@ -30,14 +30,11 @@ far-end : (c : AfterCompAtAt) →
 far-end c = c.comp_at-at.ensures ∙ ap (λ (w : Wire). comp_at w c.args.far) c.wire_at-wire.ensures
 
 pub loop-k-init : goal.loop-k-init
-loop-k-init c = (omega arith, refl, λ j. refl)
+loop-k-init c = (refl, λ j. refl)
 
 pub bounds-marks-at : goal.bounds-marks-at
 bounds-marks-at c =
     omega (arith, far-end c.before, c.requires.0 c.loop-k.k c.loop-k-test.true)
-
-pub loop-k-smaller : goal.loop-k-smaller
-loop-k-smaller c = omega arith
 
 pub loop-k-preserved : goal.loop-k-preserved
 loop-k-preserved c =
@@ -48,16 +45,14 @@ loop-k-preserved c =
     λ x e. e ∙ ap (λ (w : Wire). comp_at w a.far) c.wire_at-wire.ensures in
     elim c.if-comp_at-i.branch [
       | then-comp_at-i w ↦ rw w.marks-is (
-        omega arith,
-        simp length-set l.invariant.1,
-        mark_here a.wires.now a.marks.now l.marks a.near a.far a.i l.k l.invariant.2 w.comp_at-at.result
+        simp length-set l.invariant.0,
+        mark_here a.wires.now a.marks.now l.marks a.near a.far a.i l.k l.invariant.1 w.comp_at-at.result
             (sym n ∙ w.if-comp_at-i.true) (far _ w.comp_at-at.ensures)
-            (omega (arith, far _ w.comp_at-at.ensures, l.invariant.1, c.requires.0 l.k c.loop-k-test.true)),
+            (omega (arith, far _ w.comp_at-at.ensures, l.invariant.0, c.requires.0 l.k c.loop-k-test.true)),
       )
       | else-comp_at-i w ↦ rw w.marks-is (
-        omega arith,
-        l.invariant.1,
-        mark_none a.wires.now a.marks.now l.marks a.near a.far a.i l.k l.invariant.2
+        l.invariant.0,
+        mark_none a.wires.now a.marks.now l.marks a.near a.far a.i l.k l.invariant.1
             (λ e. w.if-comp_at-i.false (n ∙ e)),
       )
     ]
@@ -69,4 +64,4 @@ pub returns : goal.returns
 returns c =
     let l = c.loop-k in
     let e : l.k ≡ c.args.count = omega arith in
-    rw e at l.invariant.2
+    rw e at l.invariant.1

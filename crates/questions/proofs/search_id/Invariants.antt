@@ -3,7 +3,7 @@
 use mathlib.Core.Path.{◌≡◌}
 use mathlib.Core.Bool.{Bool}
 use mathlib.Core.List.{List}
-use Prim.Native.Nat.{ℕ, ◌-◌, ◌≤◌}
+use Prim.Native.Nat.{ℕ, ◌-◌}
 use lib.Dec.{eqb}
 use Rattle.lists.specs.Lists.{from, first}
 use Rattle.tables.specs.Words.{id_in}
@@ -14,8 +14,4 @@ has_id cs id i = eqb (id_in cs i) id
 
 abbrev pub invariant-loop-i : goal.invariant-loop-i
 invariant-loop-i l =
-    (l.i ≤ l.count) × (first (has_id l.components l.id.0) (from l.i (l.count - l.i)) ≡ first (has_id l.components l.id.0)
-    (from 0 l.count))
-
-abbrev pub decreases-loop-i : goal.decreases-loop-i
-decreases-loop-i l = l.count - l.i
+    first (has_id l.components l.id.0) (from l.i (l.count - l.i)) ≡ first (has_id l.components l.id.0) (from 0 l.count)

@@ -2,7 +2,6 @@
 -- Assumes nothing.
 use borrow.Author.Tests.{eq-eqb, ne_eqb}
 use mathlib.Core.Path.{◌≡◌, sym, ap, ◌∙◌}
-use Prim.Native.Nat.{◌-◌}
 use native.Mathlib.Omega.{arith}
 use Rattle.lists.specs.Lists.{any}
 use Rattle.lists.proofs.ListsLaws.{any_here, any_next, any_none}
@@ -25,7 +24,8 @@ to-there c = ap (λ (w : Wire). w.dst.comp.0) c.wire_at-wire.ensures
 
 pub loop-k-init : goal.loop-k-init
 loop-k-init c =
-    let a = c.args in (omega arith, ap (any (enters a.wires.now a.i)) (from_start a.count))
+    let a = c.args in
+    ap (any (enters a.wires.now a.i)) (from_start a.count)
 
 pub wire_at-wire-requires : goal.wire_at-wire-requires
 wire_at-wire-requires c = omega (arith, c.loop-k-test.true, c.requires)
@@ -34,20 +34,18 @@ pub returns-then-wire-i : goal.returns-then-wire-i
 returns-then-wire-i c =
     let a = c.args in
     let l = c.loop-k in
-    any_here (enters a.wires.now a.i) l.k a.count _ l.invariant.1 (omega arith)
+    any_here (enters a.wires.now a.i) l.k a.count _ l.invariant (omega arith)
     (eq-eqb (wire_in a.wires.now l.k).dst.comp.0 a.i (sym (to-there c.before.before.before) ∙ c.if-wire-i.true))
 
 pub loop-k-preserved : goal.loop-k-preserved
 loop-k-preserved c =
     let a = c.args in
-    let l = c.loop-k in (
-      omega arith,
-      any_next (enters a.wires.now a.i) l.k a.count _ l.invariant.1 (omega arith)
-          (ne_eqb (wire_in a.wires.now l.k).dst.comp.0 a.i (λ e. c.if-wire-i.false (to-there c.before.before.before ∙ e))),
-    )
+    let l = c.loop-k in
+    any_next (enters a.wires.now a.i) l.k a.count _ l.invariant (omega arith)
+    (ne_eqb (wire_in a.wires.now l.k).dst.comp.0 a.i (λ e. c.if-wire-i.false (to-there c.before.before.before ∙ e)))
 
 pub returns : goal.returns
 returns c =
     let a = c.args in
     let l = c.loop-k in
-    any_none (enters a.wires.now a.i) l.k a.count _ l.invariant.1 (omega arith)
+    any_none (enters a.wires.now a.i) l.k a.count _ l.invariant (omega arith)

@@ -3,7 +3,7 @@
 use mathlib.Core.Path.{◌≡◌}
 use mathlib.Core.Bool.{Bool}
 use mathlib.Core.List.{List}
-use Prim.Native.Nat.{ℕ, ◌-◌, ◌≤◌}
+use Prim.Native.Nat.{ℕ, ◌-◌}
 use lib.Dec.{eqb}
 use Rattle.lists.specs.Lists.{from, any}
 use Rattle.tables.specs.Words.{wire_in}
@@ -14,7 +14,4 @@ enters ws i k = eqb (wire_in ws k).dst.comp.0 i
 
 abbrev pub invariant-loop-k : goal.invariant-loop-k
 invariant-loop-k l =
-    (l.k ≤ l.count) × (any (enters l.wires l.i) (from l.k (l.count - l.k)) ≡ any (enters l.wires l.i) (from 0 l.count))
-
-abbrev pub decreases-loop-k : goal.decreases-loop-k
-decreases-loop-k l = l.count - l.k
+    any (enters l.wires l.i) (from l.k (l.count - l.k)) ≡ any (enters l.wires l.i) (from 0 l.count)

@@ -30,11 +30,9 @@ here c = c.flat_pin-to.ensures.0 ∙ ap (end_by c.args.indexes.now) c.target_at.
 
 pub loop-k-init : goal.loop-k-init
 loop-k-init c =
-    let a = c.args in (
-      omega arith,
-      ap (λ (m : ℕ). any (into a.indexes.now a.targets.now a.i) (from 0 m)) (sub-zero a.count)
-          ∙ sym (any_map (λ (t : Pin). eqb (end_by a.indexes.now t).comp.0 a.i) (target_in a.targets.now) (from 0 a.count)),
-    )
+    let a = c.args in
+    ap (λ (m : ℕ). any (into a.indexes.now a.targets.now a.i) (from 0 m)) (sub-zero a.count)
+    ∙ sym (any_map (λ (t : Pin). eqb (end_by a.indexes.now t).comp.0 a.i) (target_in a.targets.now) (from 0 a.count))
 
 pub target_at-requires : goal.target_at-requires
 target_at-requires c = omega (arith, c.requires.1, c.loop-k-test.true)
@@ -47,20 +45,18 @@ pub returns-then-to-i : goal.returns-then-to-i
 returns-then-to-i c =
     let a = c.args in
     let l = c.loop-k in
-    any_here (into a.indexes.now a.targets.now a.i) l.k a.count _ l.invariant.1 c.loop-k-test.true
+    any_here (into a.indexes.now a.targets.now a.i) l.k a.count _ l.invariant c.loop-k-test.true
     (eq-eqb _ a.i (sym (ap (λ (e : End). e.comp.0) (here c.before.before.before)) ∙ c.if-to-i.true))
 
 pub loop-k-preserved : goal.loop-k-preserved
 loop-k-preserved c =
     let a = c.args in
-    let l = c.loop-k in (
-      omega arith,
-      any_next (into a.indexes.now a.targets.now a.i) l.k a.count _ l.invariant.1 c.loop-k-test.true
-          (ne_eqb _ a.i (λ y. c.if-to-i.false (ap (λ (e : End). e.comp.0) (here c.before.before.before) ∙ y))),
-    )
+    let l = c.loop-k in
+    any_next (into a.indexes.now a.targets.now a.i) l.k a.count _ l.invariant c.loop-k-test.true
+    (ne_eqb _ a.i (λ y. c.if-to-i.false (ap (λ (e : End). e.comp.0) (here c.before.before.before) ∙ y)))
 
 pub returns : goal.returns
 returns c =
     let a = c.args in
     let l = c.loop-k in
-    any_none (into a.indexes.now a.targets.now a.i) l.k a.count _ l.invariant.1 (omega arith)
+    any_none (into a.indexes.now a.targets.now a.i) l.k a.count _ l.invariant (omega arith)

@@ -3,7 +3,7 @@
 use mathlib.Core.Path.{◌≡◌}
 use mathlib.Core.Bool.{Bool}
 use mathlib.Core.List.{List}
-use Prim.Native.Nat.{ℕ, ◌-◌, ◌≤◌}
+use Prim.Native.Nat.{ℕ, ◌-◌}
 use lib.Dec.{eqb}
 use Rattle.lists.specs.Lists.{from, any}
 use Rattle.flatten.specs.declared.Pin.{Pin}
@@ -17,8 +17,5 @@ into fs ts i k = eqb (end_by fs (target_in ts k)).comp.0 i
 
 abbrev pub invariant-loop-k : goal.invariant-loop-k
 invariant-loop-k l =
-    (l.k ≤ l.count)
-    × (any (into l.indexes l.targets l.i) (from l.k (l.count - l.k)) ≡ any (λ (t : Pin). eqb (end_by l.indexes t).comp.0 l.i) (targets_in l.targets l.count))
-
-abbrev pub decreases-loop-k : goal.decreases-loop-k
-decreases-loop-k l = l.count - l.k
+    any (into l.indexes l.targets l.i) (from l.k (l.count - l.k))
+    ≡ any (λ (t : Pin). eqb (end_by l.indexes t).comp.0 l.i) (targets_in l.targets l.count)

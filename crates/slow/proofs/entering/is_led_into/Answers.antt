@@ -9,25 +9,24 @@ use Rattle.slow.proofs.LeadingLaws.{led_into-start}
 use Rattle.slow.proofs.entering.is_led_into.Goals as goal
 
 pub loop-p-init : goal.loop-p-init
-loop-p-init c = let a = c.args in (omega arith, refl, led_into-start a.file.now a.i)
+loop-p-init c = let a = c.args in (refl, led_into-start a.file.now a.i)
 
 pub enters-requires : goal.enters-requires
-enters-requires c = (c.requires, c.loop-p-test.true, c.loop-p.invariant.1)
+enters-requires c = (c.requires, c.loop-p-test.true, c.loop-p.invariant.0)
 
 pub returns-then-enters : goal.returns-then-enters
 returns-then-enters c =
     let a = c.args in
     let l = c.loop-p in
-    any_here (enters_by (record_at a.file.now) (record_count a.file.now) a.i) l.p (record_count a.file.now) _ l.invariant.2
+    any_here (enters_by (record_at a.file.now) (record_count a.file.now) a.i) l.p (record_count a.file.now) _ l.invariant.1
     c.loop-p-test.true (sym c.enters.ensures.0 ∙ c.if-enters.true)
 
 pub loop-p-preserved : goal.loop-p-preserved
 loop-p-preserved c =
     let a = c.args in
     let l = c.loop-p in (
-      omega (arith, c.loop-p-test.true),
       c.enters.ensures.1,
-      any_next (enters_by (record_at a.file.now) (record_count a.file.now) a.i) l.p (record_count a.file.now) _ l.invariant.2
+      any_next (enters_by (record_at a.file.now) (record_count a.file.now) a.i) l.p (record_count a.file.now) _ l.invariant.1
           c.loop-p-test.true (sym c.enters.ensures.0 ∙ c.if-enters.false),
     )
 
@@ -35,4 +34,4 @@ pub returns : goal.returns
 returns c =
     let a = c.args in
     let l = c.loop-p in
-    any_none (enters_by (record_at a.file.now) (record_count a.file.now) a.i) l.p (record_count a.file.now) _ l.invariant.2 (omega arith)
+    any_none (enters_by (record_at a.file.now) (record_count a.file.now) a.i) l.p (record_count a.file.now) _ l.invariant.1 (omega arith)

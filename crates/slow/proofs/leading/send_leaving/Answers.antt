@@ -14,7 +14,6 @@ use Rattle.slow.proofs.leading.send_leaving.Goals as goal
 
 pub loop-p-init : goal.loop-p-init
 loop-p-init c = (
-  omega arith,
   refl,
   refl,
   refl,
@@ -28,11 +27,11 @@ send_connection-reached-requires c =
     let l = c.loop-p in record {
       drawing = (
         drawing_kept c.args.file.now _ _ _ c.args.inputs.now c.args.outputs.now l.inputs c.args.outputs.now c.requires.drawing
-            l.invariant.1 refl,
+            l.invariant.0 refl,
         c.loop-p-test.true,
-        l.invariant.3,
+        l.invariant.2,
       );
-      list_marked = l.invariant.4;
+      list_marked = l.invariant.3;
     }
 
 pub loop-p-preserved : goal.loop-p-preserved
@@ -40,19 +39,18 @@ loop-p-preserved c =
     let l = c.loop-p in
     let b = c.loop-p-test.true in
     let r = c.send_connection-reached in (
-      omega (arith, b),
-      r.auto.inputs ∙ l.invariant.1,
-      r.auto.following ∙ l.invariant.2,
+      r.auto.inputs ∙ l.invariant.0,
+      r.auto.following ∙ l.invariant.1,
       r.ensures.2,
       r.ensures.1,
       records_next (bare c.args.components.now) l.p (record_count c.args.file.now) _ _
-          (leaving_by (record_at c.args.file.now) (record_count c.args.file.now) c.args.i) _ b r.ensures.0 l.invariant.5,
+          (leaving_by (record_at c.args.file.now) (record_count c.args.file.now) c.args.i) _ b r.ensures.0 l.invariant.4,
     )
 
 pub returns : goal.returns
 returns c =
     let l = c.loop-p in (
       records_end (bare c.args.components.now) l.p (record_count c.args.file.now) _ _
-          (leaving_by (record_at c.args.file.now) (record_count c.args.file.now) c.args.i) (omega arith) l.invariant.5,
-      l.invariant.4,
+          (leaving_by (record_at c.args.file.now) (record_count c.args.file.now) c.args.i) (omega arith) l.invariant.4,
+      l.invariant.3,
     )

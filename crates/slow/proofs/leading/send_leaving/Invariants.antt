@@ -2,7 +2,7 @@
 -- Assumes nothing.
 use mathlib.Core.Path.{◌≡◌}
 use mathlib.Core.List.{[], foldl}
-use Prim.Native.Nat.{◌≤◌, ◌-◌}
+use Prim.Native.Nat.{◌-◌}
 use lib.ListN.{length, take}
 use Rattle.lists.specs.Lists.{from, joined}
 use Rattle.component.specs.Record.{record_at, record_count}
@@ -17,11 +17,7 @@ abbrev pub invariant-loop-p : goal.invariant-loop-p
 invariant-loop-p l =
     let T = bare l.components in
     let n = record_count l.file in
-    (l.p ≤ n) × (length l.inputs ≡ length l.initial.inputs) × (length l.following ≡ length l.initial.following) × (length l.targets ≡ 2048)
+    (length l.inputs ≡ length l.initial.inputs) × (length l.following ≡ length l.initial.following) × (length l.targets ≡ 2048)
     × ListMarked T l.reached l.following l.listed
     × (foldl (send T) (state_at l.inputs l.outputs (take l.reached l.following) []) (joined (leaving_by (record_at l.file) n l.i) (from l.p (n - l.p)))
     ≡ foldl (send T) (state_at l.initial.inputs l.outputs (take l.filled l.initial.following) []) (leaving (record_at l.file) n l.i))
-
-abbrev pub decreases-loop-p : goal.decreases-loop-p
-decreases-loop-p l =
-    record_count l.file - l.p

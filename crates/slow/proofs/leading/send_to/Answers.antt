@@ -14,7 +14,6 @@ use Rattle.slow.proofs.leading.send_to.Goals as goal
 
 pub loop-k-init : goal.loop-k-init
 loop-k-init c = (
-  omega arith,
   refl,
   refl,
   c.requires.list_marked.0,
@@ -27,46 +26,44 @@ target_at-requires c = omega (arith, c.requires.indexes_len.1, c.loop-k-test.tru
 
 pub flat_pin-to-requires : goal.flat_pin-to-requires
 flat_pin-to-requires c =
-    (c.requires.indexes_len.0, rw c.target_at.ensures (c.requires.indexes_len.2 c.loop-k.k c.loop-k-test.true))
+    (c.requires.indexes_len.0, rw c.target_at.ensures (c.requires.indexes_len.2 c.loop-k.k (omega arith)))
 
 pub send_along-reached-requires : goal.send_along-reached-requires
 send_along-reached-requires c =
     let l = c.loop-k in
     let reach : CanReach (bare c.args.components.now) l.inputs c.args.outputs.now (record { src = c.args.from; dst = c.flat_pin-to.result }) =
     reach_kept (bare c.args.components.now) c.args.inputs.now c.args.outputs.now l.inputs _
-    (rw (c.flat_pin-to.ensures.0, c.target_at.ensures) (c.requires.list_marked.1 l.k c.loop-k-test.true)) l.invariant.1 in (
+    (rw (c.flat_pin-to.ensures.0, c.target_at.ensures) (c.requires.list_marked.1 l.k (omega arith))) l.invariant.0 in (
       reach_sends c.args.components.now [] (counts_of 256 1024 1024 0 256 256 256) l.inputs c.args.outputs.now _ reach
-          l.reached l.following l.invariant.3.fits,
-      l.invariant.3.marked,
+          l.reached l.following l.invariant.2.fits,
+      l.invariant.2.marked,
     )
 
 pub loop-k-preserved : goal.loop-k-preserved
 loop-k-preserved c =
     let l = c.loop-k in
-    let b = c.loop-k-test.true in
     let r = c.send_along-reached in
     let reach : CanReach (bare c.args.components.now) l.inputs c.args.outputs.now (record { src = c.args.from; dst = c.flat_pin-to.result }) =
     reach_kept (bare c.args.components.now) c.args.inputs.now c.args.outputs.now l.inputs _
-    (rw (c.flat_pin-to.ensures.0, c.target_at.ensures) (c.requires.list_marked.1 l.k c.loop-k-test.true)) l.invariant.1 in (
-      omega (arith, b),
-      r.auto.inputs ∙ l.invariant.1,
-      r.auto.following ∙ l.invariant.2,
+    (rw (c.flat_pin-to.ensures.0, c.target_at.ensures) (c.requires.list_marked.1 l.k (omega arith))) l.invariant.0 in (
+      r.auto.inputs ∙ l.invariant.0,
+      r.auto.following ∙ l.invariant.1,
       record {
         fits = sent_listed c.args.components.now [] (counts_of 256 1024 1024 0 256 256 256) l.inputs c.args.outputs.now _ reach
-            l.reached l.following l.invariant.3.fits _ _ _ r.ensures.0 r.auto.following;
+            l.reached l.following l.invariant.2.fits _ _ _ r.ensures.0 r.auto.following;
         marked = r.ensures.1;
       },
       sends_next (bare c.args.components.now) l.k c.args.count (state_at l.inputs c.args.outputs.now (take l.reached l.following) []) _
-          (λ j. lead_to c.args.indexes.now c.args.from (target_in c.args.targets.now j)) _ b
+          (λ j. lead_to c.args.indexes.now c.args.from (target_in c.args.targets.now j)) _ (omega arith)
           (r.ensures.0.state ∙ send_bare c.args.components.now [] (counts_of 256 1024 1024 0 256 256 256) _ _
           ∙ rw (c.flat_pin-to.ensures.0, c.target_at.ensures) refl)
-          l.invariant.4,
+          l.invariant.3,
     )
 
 pub returns : goal.returns
 returns c =
     let l = c.loop-k in (
       sends_end (bare c.args.components.now) l.k c.args.count _ _
-          (λ j. lead_to c.args.indexes.now c.args.from (target_in c.args.targets.now j)) (omega arith) l.invariant.4,
-      l.invariant.3,
+          (λ j. lead_to c.args.indexes.now c.args.from (target_in c.args.targets.now j)) (omega arith) l.invariant.3,
+      l.invariant.2,
     )

@@ -2,7 +2,7 @@
 -- Assumes nothing.
 use mathlib.Core.Path.{◌≡◌}
 use mathlib.Core.List.{[], map, foldl}
-use Prim.Native.Nat.{◌≤◌, ◌-◌}
+use Prim.Native.Nat.{◌-◌}
 use lib.ListN.{length, take}
 use Rattle.lists.specs.Lists.{from}
 use Rattle.flatten.specs.Targets.{target_in, targets_in}
@@ -15,9 +15,6 @@ use Rattle.slow.proofs.leading.send_to.Given as goal
 abbrev pub invariant-loop-k : goal.invariant-loop-k
 invariant-loop-k l =
     let T = bare l.components in
-    (l.k ≤ l.count) × (length l.inputs ≡ length l.initial.inputs) × (length l.following ≡ length l.initial.following) × ListMarked T l.reached l.following l.listed
+    (length l.inputs ≡ length l.initial.inputs) × (length l.following ≡ length l.initial.following) × ListMarked T l.reached l.following l.listed
     × (foldl (send T) (state_at l.inputs l.outputs (take l.reached l.following) []) (map (λ j. lead_to l.indexes l.from (target_in l.targets j)) (from l.k (l.count - l.k)))
     ≡ foldl (send T) (state_at l.initial.inputs l.outputs (take l.filled l.initial.following) []) (map (lead_to l.indexes l.from) (targets_in l.targets l.count)))
-
-abbrev pub decreases-loop-k : goal.decreases-loop-k
-decreases-loop-k l = l.count - l.k

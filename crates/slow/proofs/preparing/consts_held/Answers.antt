@@ -12,7 +12,7 @@ use Rattle.slow.proofs.preparing.consts_held.Goals as goal
 pub loop-i-init : goal.loop-i-init
 loop-i-init c =
     let a = c.args in
-    (omega arith, ap (λ (m : ℕ). every (held_at a.components.now a.outputs.now) (from 0 m)) (sub-zero a.count))
+    ap (λ (m : ℕ). every (held_at a.components.now a.outputs.now) (from 0 m)) (sub-zero a.count)
 
 pub row_held-requires : goal.row_held-requires
 row_held-requires c = c.requires c.loop-i.i c.loop-i-test.true
@@ -22,19 +22,17 @@ returns-then-not-row_held c =
     let a = c.args in
     let l = c.loop-i in
     every_fails (held_at a.components.now a.outputs.now) l.i a.count _ c.loop-i-test.true
-    (sym c.row_held.ensures ∙ c.if-not-row_held.true) l.invariant.1
+    (sym c.row_held.ensures ∙ c.if-not-row_held.true) l.invariant
 
 pub loop-i-preserved : goal.loop-i-preserved
 loop-i-preserved c =
     let a = c.args in
-    let l = c.loop-i in (
-      omega arith,
-      every_next (held_at a.components.now a.outputs.now) l.i a.count _ c.loop-i-test.true
-          (sym c.row_held.ensures ∙ c.if-not-row_held.false) l.invariant.1,
-    )
+    let l = c.loop-i in
+    every_next (held_at a.components.now a.outputs.now) l.i a.count _ c.loop-i-test.true
+    (sym c.row_held.ensures ∙ c.if-not-row_held.false) l.invariant
 
 pub returns : goal.returns
 returns c =
     let a = c.args in
     let l = c.loop-i in
-    every_end (held_at a.components.now a.outputs.now) l.i a.count _ (omega arith) l.invariant.1
+    every_end (held_at a.components.now a.outputs.now) l.i a.count _ (omega arith) l.invariant

@@ -27,7 +27,7 @@ here c =
 pub loop-i-init : goal.loop-i-init
 loop-i-init c =
     let a = c.args in
-    (omega arith, ap (λ (m : ℕ). every (values_fit_at a.components.now a.inputs.now a.outputs.now) (from 0 m)) (sub-zero a.count))
+    ap (λ (m : ℕ). every (values_fit_at a.components.now a.inputs.now a.outputs.now) (from 0 m)) (sub-zero a.count)
 
 pub fields_at-f-requires : goal.fields_at-f-requires
 fields_at-f-requires c =
@@ -44,19 +44,17 @@ returns-then-not-row_fits c =
     let a = c.args in
     let l = c.loop-i in
     every_fails (values_fit_at a.components.now a.inputs.now a.outputs.now) l.i a.count _ c.loop-i-test.true
-    (sym (here c.before.before) ∙ c.if-not-row_fits.true) l.invariant.1
+    (sym (here c.before.before) ∙ c.if-not-row_fits.true) l.invariant
 
 pub loop-i-preserved : goal.loop-i-preserved
 loop-i-preserved c =
     let a = c.args in
-    let l = c.loop-i in (
-      omega arith,
-      every_next (values_fit_at a.components.now a.inputs.now a.outputs.now) l.i a.count _ c.loop-i-test.true
-          (sym (here c.before.before) ∙ c.if-not-row_fits.false) l.invariant.1,
-    )
+    let l = c.loop-i in
+    every_next (values_fit_at a.components.now a.inputs.now a.outputs.now) l.i a.count _ c.loop-i-test.true
+    (sym (here c.before.before) ∙ c.if-not-row_fits.false) l.invariant
 
 pub returns : goal.returns
 returns c =
     let a = c.args in
     let l = c.loop-i in
-    every_end (values_fit_at a.components.now a.inputs.now a.outputs.now) l.i a.count _ (omega arith) l.invariant.1
+    every_end (values_fit_at a.components.now a.inputs.now a.outputs.now) l.i a.count _ (omega arith) l.invariant

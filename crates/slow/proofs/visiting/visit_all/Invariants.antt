@@ -2,7 +2,6 @@
 -- Assumes nothing.
 use mathlib.Core.Path.{◌≡◌}
 use mathlib.Core.List.{foldl}
-use Prim.Native.Nat.{◌≤◌, ◌-◌}
 use lib.ListN.{length, take}
 use lib.Seq.{slice}
 use Rattle.component.specs.Record.{record_at, record_count}
@@ -20,12 +19,8 @@ invariant-loop-k l =
     let ws = leaving (record_at l.file) (record_count l.file) in
     let came = state_at l.initial.inputs l.initial.outputs (take l.initial.reached.following l.initial.following) (take l.initial.reached.standing l.initial.standing) in
     let now = state_at l.inputs l.outputs (take l.reached.following l.following) (take l.reached.standing l.standing) in
-    (l.k ≤ l.count) × (length l.inputs ≡ length l.initial.inputs) × (length l.outputs ≡ length l.initial.outputs)
+    (length l.inputs ≡ length l.initial.inputs) × (length l.outputs ≡ length l.initial.outputs)
     × (length l.following ≡ length l.initial.following) × (length l.standing ≡ length l.initial.standing) × (length l.moved ≡ length l.initial.moved)
     × ListMarked T l.reached.following l.following l.listed × ListCovered l.reached.standing l.standing l.stood
     × (foldl (visit T ws l.time) now (slice l.k l.count l.list) ≡ foldl (visit T ws l.time) came (take l.count l.list))
     × BitsSo T ws l.time l.list l.count came l.initial.moved l.k now l.moved
-
-abbrev pub decreases-loop-k : goal.decreases-loop-k
-decreases-loop-k l =
-    l.count - l.k
