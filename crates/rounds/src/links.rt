@@ -67,8 +67,8 @@ pub fn link_by(
         × IsLinked wires.now count head.old after.old [] × WiresInside wires.now count }
     ensures { IsLinked wires.now count head.new after.new (order_list count order.now) }
 {
-    for place in (0..count).rev() {
-        link_first(wires, tables::entry(order, place), head, after);
+    for entry in order[..count].iter().rev() {
+        link_first(wires, *entry as usize, head, after);
     }
 }
 
