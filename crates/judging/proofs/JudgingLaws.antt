@@ -4,13 +4,14 @@ use mathlib.Core.Path.{◌≡◌, refl, sym, ap, ◌∙◌, subst}
 use mathlib.Core.Logic.{⊎_elim}
 use mathlib.Core.Bool.{Bool, true, false, not, ◌&&◌, ◌||◌, and-true, or-false, false≢true}
 use mathlib.Core.List.{List, [], ◌∷◌, ◌++◌, append_assoc}
-use Prim.Native.Nat.{ℕ, ◌+◌, ◌-◌, ◌≤◌, ◌<◌}
+use Prim.Native.Nat.{ℕ, zero, suc, ◌+◌, ◌-◌, ◌≤◌, ◌<◌}
 use native.Mathlib.Nat.{add-zero}
 use native.Mathlib.Numerals.{add-one}
 use native.Mathlib.Omega.{arith}
 use borrow.Author.Tests.{eqb-true, eqb-false, eq-eqb, not-false}
-use lib.ListN.{length, get_or, set, take, drop, length-append, get_or-append}
-use lib.Seq.{get_or-set_other, take-suc, length-take-le}
+use lib.ListN.{length, get_or, set, take, drop, length-append, length-drop, get_or-append}
+use lib.Pointwise.{pointwise}
+use lib.Seq.{get_or-set_other, take-suc, length-take-le, get_or-take, get_or-drop}
 use lib.Dec.{eqb}
 use Rattle.lists.specs.Lists.{from, every, has}
 use Rattle.lists.proofs.TestsLaws.{and_right, and_both, or_cases, or_second, or_rest, or_hold}
@@ -71,6 +72,35 @@ listed_entry marks t xs k i h e l =
     subst (IsListed marks)
     (append_assoc xs (take k t) (i ∷ []) ∙ ap (λ (j : ℕ). xs ++ (take k t ++ (j ∷ []))) e
     ∙ ap (λ (ys : List ℕ). xs ++ ys) (sym (ap (λ (j : ℕ). take j t) (add-one k) ∙ take-suc t k 0 h))) l
+
+-- Two lists of n numbers compared pair by pair.
+pairs_compared : (n : ℕ) (xs ys : List ℕ) (f : ℕ → Bool) (q : ℕ) → length xs ≡ n → length ys ≡ n
+    → ((p : ℕ) → p < n → eqb (get_or xs p 0) (get_or ys p 0) ≡ f (q + p)) → pointwise eqb xs ys ≡ every f (from q n)
+pairs_compared zero [] [] f q l m e = refl
+pairs_compared zero [] (y ∷ ys) f q l m e = absurd (omega (arith, m))
+pairs_compared zero (x ∷ xs) ys f q l m e = absurd (omega (arith, l))
+pairs_compared (suc n) [] ys f q l m e = absurd (omega (arith, l))
+pairs_compared (suc n) (x ∷ xs) [] f q l m e = absurd (omega (arith, m))
+pairs_compared (suc n) (x ∷ xs) (y ∷ ys) f q l m e =
+    let here : eqb x y ≡ f q = e 0 (omega arith) ∙ ap f (omega arith) in
+    let later : pointwise eqb xs ys ≡ every f (from (suc q) n) =
+    pairs_compared n xs ys f (suc q) (omega (arith, l)) (omega (arith, m)) (λ p h. e (suc p) (omega arith) ∙ ap f (omega arith)) in
+    λ i. here i && later i
+
+-- Two parts of tables.
+pub parts_compared : (os should : List ℕ) (a n : ℕ) → a + n ≤ length os → n ≤ length should
+    → pointwise eqb (take (a + n - a) (drop a os)) (take n should)
+    ≡ every (λ p. eqb (get_or os (a + p) 0) (get_or should p 0)) (from 0 n)
+parts_compared os should a n h k =
+    pairs_compared n (take (a + n - a) (drop a os)) (take n should) (λ p. eqb (get_or os (a + p) 0) (get_or should p 0)) 0
+    (omega (arith, length-take-le (a + n - a) (drop a os) (omega (arith, length-drop a os)))) (length-take-le n should k) each
+  where
+    each : (p : ℕ) → p < n
+        → eqb (get_or (take (a + n - a) (drop a os)) p 0) (get_or (take n should) p 0) ≡ eqb (get_or os (a + (0 + p)) 0) (get_or should (0 + p) 0)
+    each p b =
+        let e : p ≡ 0 + p = omega arith in
+        (λ i. eqb ((get_or-take (a + n - a) (drop a os) p 0 (omega arith) ∙ get_or-drop a os p 0) i) (get_or-take n should p 0 b i))
+        ∙ ap (λ (j : ℕ). eqb (get_or os (a + j) 0) (get_or should j 0)) e
 
 -- A component that can be judged.
 module _ (T : Tables) (i : ℕ) (v : CanJudge T i) where

@@ -16,14 +16,7 @@ fn outputs_are(outputs: &[u64], first: usize, should: &[u64], count: usize) -> b
     requires { (first + count ≤ length outputs.now) × (count ≤ length should.now) }
     ensures { result ≡ every (λ p. eqb (get_or outputs.now (first + p) 0) (get_or should.now p 0)) (from 0 count) }
 {
-    let mut p: usize = 0;
-    while p < count {
-        if outputs[first + p] != should[p] {
-            return false;
-        }
-        p += 1;
-    }
-    true
+    outputs[first..first + count] == should[..count]
 }
 
 // Whether component i, no Switch and no Const, has the outputs of its function, which are worked out in `should`.
@@ -110,13 +103,10 @@ pub(crate) fn judge_list(
         × (result ≡ true → MarkedAgree (lent components.now inputs.now outputs.now [] no_counts) marks.new
         × ((xs : List ℕ) → IsListed marks.old xs → IsListed marks.new (xs ++ take count list.now))) }
 {
-    let mut k: usize = 0;
-    while k < count {
-        let i = tables::entry(list, k);
-        if !judge_once(components, inputs, outputs, i, marks, should) {
+    for entry in &list[..count] {
+        if !judge_once(components, inputs, outputs, *entry as usize, marks, should) {
             return false;
         }
-        k += 1;
     }
     true
 }

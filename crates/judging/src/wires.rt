@@ -58,12 +58,10 @@ pub(crate) fn judge_wires(
         || wire_agrees (lent components.now inputs.now outputs.now [] no_counts) w)
         (wires_in (lent components.now inputs.now outputs.now wires.now counts)) }
 {
-    let mut k: usize = 0;
-    while k < counts.wires {
+    for k in 0..counts.wires {
         if !leaves_agreeing(components, inputs, outputs, wires, k, marks) {
             return false;
         }
-        k += 1;
     }
     true
 }

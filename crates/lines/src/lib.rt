@@ -58,10 +58,8 @@ fn put_components(out: &mut [u8], at: usize, components: &[u64], count: usize) -
         out.new result }
 {
     let mut next = put_counted(out, at, b"components ", count);
-    let mut i: usize = 0;
-    while i < count {
+    for i in 0..count {
         next = put_component(out, next, components, i);
-        i += 1;
     }
     next
 }
@@ -73,10 +71,8 @@ fn put_wires(out: &mut [u8], at: usize, wires: &[u16], count: usize) -> usize
         out.new result }
 {
     let mut next = put_counted(out, at, b"wires ", count);
-    let mut k: usize = 0;
-    while k < count {
+    for k in 0..count {
         next = put_wire(out, next, tables::wire_at(wires, k));
-        k += 1;
     }
     next
 }

@@ -6,13 +6,13 @@
 use mathlib.Core.Path.{◌≡◌, refl, sym, ap, ◌∙◌, subst}
 use mathlib.Core.Logic.{inl, inr}
 use mathlib.Core.Bool.{Bool, true, false, cond, ◌||◌, true≢false}
-use mathlib.Core.List.{List, [], ◌∷◌, map, foldl}
+use mathlib.Core.List.{List, [], ◌∷◌, ◌++◌, map, foldl}
 use Prim.Native.Nat.{ℕ, zero, suc, ◌+◌, ◌-◌, ◌≤◌, ◌<◌}
 use native.Mathlib.Nat.{sub-zero}
 use native.Mathlib.Omega.{arith}
 use borrow.Author.Tests.{eqb-true, eqb-false, lt-ltb, le-ltb}
-use lib.ListN.{length, get_or, set, take, replicate, length-set, length-replicate, get_or-replicate}
-use lib.Seq.{slice, slice-cons, get_or-set_same, get_or-set_other, get_or-take, length-take-le}
+use lib.ListN.{length, get_or, set, take, replicate, length-set, length-append, length-replicate, get_or-replicate}
+use lib.Seq.{slice, slice-cons, get_or-set_same, get_or-set_other, get_or-take, get_or_at, take-append_seam, take-take, length-take-le}
 use lib.Dec.{eqb, ltb}
 use Rattle.lists.specs.Lists.{from, keep, has}
 use Rattle.lists.proofs.ListsLaws.{from_step, from_end}
@@ -187,6 +187,22 @@ module _ (n : ℕ) (order : List ℕ) (long : n ≤ length order) (o : is_order 
       → IsLinked ws n head after (x ∷ slice k n order) → IsLinked ws n head after (slice (k - 1) n order)
   order_next ws head after k x a b e l =
       subst (IsLinked ws n head after) (ap (λ (y : ℕ). y ∷ slice k n order) e ∙ sym (one_earlier k a b)) l
+
+-- What is left of an order, and what is left when its last entry is taken.
+module _ (order left rest : List ℕ) (x : ℕ) (e : left ≡ take (length left) order) (p : left ≡ rest ++ (x ∷ [])) where
+  pub left_length : length left ≡ length rest + 1
+  left_length = ap length p ∙ length-append rest (x ∷ [])
+
+  pub left_rest : rest ≡ take (length rest) order
+  left_rest =
+      sym (take-append_seam rest (x ∷ [])) ∙ ap (take (length rest)) (sym p ∙ e)
+      ∙ take-take (length rest) (length left) order (omega (arith, left_length))
+
+  pub left_last : x ≡ get_or order (length left - 1) 0
+  left_last =
+      let d : length rest ≡ length left - 1 = omega (arith, left_length) in
+      sym (get_or_at rest x [] 0 (length rest) refl) ∙ ap (λ (l : List ℕ). get_or l (length rest) 0) (sym p ∙ e)
+      ∙ get_or-take (length left) order (length rest) 0 (omega (arith, left_length)) ∙ ap (λ (k : ℕ). get_or order k 0) d
 
 pub ready_follows : (b : Bool) (ws : List ℕ) (n : ℕ) (head after : List ℕ) → b ≡ true → Ready b ws n head after
     → Follows ws n head after (map (wire_in ws) (from 0 n))

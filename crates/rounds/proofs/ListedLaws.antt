@@ -3,12 +3,10 @@
 use mathlib.Core.Path.{◌≡◌, refl, sym, ap, ◌∙◌}
 use mathlib.Core.Bool.{Bool, true, false, cond, not, ◌&&◌, ◌||◌, true≢false, false≢true}
 use mathlib.Core.List.{List, [], ◌∷◌, ◌++◌}
-use Prim.Native.Nat.{ℕ, ◌+◌, ◌≤◌, ◌<◌}
-use native.Mathlib.Numerals.{add-one}
+use Prim.Native.Nat.{ℕ, ◌≤◌, ◌<◌}
 use native.Mathlib.Omega.{arith}
 use borrow.Author.Tests.{eq-eqb, ne_eqb, eqb-true, eqb-false, not-true, not-false}
 use lib.ListN.{length, get_or, set, take, replicate, length-set, length-replicate}
-use lib.Seq.{take-suc}
 use lib.Dec.{eqb}
 use Rattle.lists.specs.Lists.{keep, has, append_new, strike, overlay}
 use Rattle.lists.proofs.ListsLaws.{replicate_zero}
@@ -43,11 +41,6 @@ listed_more marks xs x h l =
     grouped false false false e = refl
     grouped false true false e = absurd (true≢false e)
     grouped false false true e = absurd (false≢true e)
-
--- A loop over the entries of a list that marks each.
-pub listed_next : (marks t : List ℕ) (k : ℕ) → k < length t → get_or t k 0 < 256 → IsListed marks (take k t)
-    → IsListed (set marks (get_or t k 0) 1) (take (k + 1) t)
-listed_next marks t k h b l = rw (add-one k, take-suc t k 0 h) (listed_more marks (take k t) (get_or t k 0) b l)
 
 -- A mark says whether a component is there.
 module _ (marks xs : List ℕ) (x : ℕ) (h : x < 256) (l : IsListed marks xs) where

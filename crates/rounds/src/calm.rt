@@ -13,13 +13,10 @@ fn only_clocks(components: &[u64], list: &[u16], count: usize) -> bool
     requires { ListInside components.now count list.now }
     ensures { result ≡ only_clocks (uncounted components.now []) (take count list.now) }
 {
-    let mut k: usize = 0;
-    while k < count {
-        let i = tables::entry(list, k);
-        if !tables::is_kind(components, i, Kind::Clock) {
+    for entry in &list[..count] {
+        if !tables::is_kind(components, *entry as usize, Kind::Clock) {
             return false;
         }
-        k += 1;
     }
     true
 }

@@ -263,16 +263,14 @@ fn visit_all(
         × (result.following ≤ length following.new) × (result.standing ≤ length standing.new) }
 {
     let mut reached = sizes;
-    let mut k: usize = 0;
-    while k < count {
-        let i = tables::entry(list, k);
+    for (k, entry) in list[..count].iter().enumerate() {
+        let i = *entry as usize;
         let visited = visit(
             components, wires, head, after, inputs, outputs, following, listed, standing, stood,
             counts, reached, i, time,
         );
         reached = visited.sizes;
         moved[k] = visited.moved;
-        k += 1;
     }
     reached
 }

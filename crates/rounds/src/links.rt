@@ -29,9 +29,7 @@ fn link(wires: &[u16], count: usize, head: &mut [u16; 256], after: &mut [u16; 10
         × WiresInside wires.now count }
     ensures { IsLinked wires.now count head.new after.new (from 0 count) }
 {
-    let mut k = count;
-    while 0 < k {
-        k -= 1;
+    for k in (0..count).rev() {
         link_first(wires, k, head, after);
     }
 }
@@ -43,9 +41,8 @@ pub fn is_order(order: &[u16], count: usize) -> bool
     ensures { result ≡ is_order count order.now }
 {
     let mut seen = [0u8; 1024];
-    let mut k: usize = 0;
-    while k < count {
-        let named = tables::entry(order, k);
+    for entry in &order[..count] {
+        let named = *entry as usize;
         if count <= named {
             return false;
         }
@@ -53,7 +50,6 @@ pub fn is_order(order: &[u16], count: usize) -> bool
             return false;
         }
         seen[named] = 1;
-        k += 1;
     }
     true
 }
@@ -71,10 +67,8 @@ pub fn link_by(
         × IsLinked wires.now count head.old after.old [] × WiresInside wires.now count }
     ensures { IsLinked wires.now count head.new after.new (order_list count order.now) }
 {
-    let mut place = count;
-    while 0 < place {
-        place -= 1;
-        link_first(wires, tables::entry(order, place), head, after);
+    for entry in order[..count].iter().rev() {
+        link_first(wires, *entry as usize, head, after);
     }
 }
 

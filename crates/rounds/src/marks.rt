@@ -8,11 +8,8 @@ pub fn mark(list: &[u16], count: usize, marks: &mut [u8; 256])
     requires { (count ≤ length list.now) × ((j : ℕ) → j < count → get_or list.now j 0 < 256) × IsListed marks.old [] }
     ensures { IsListed marks.new (take count list.now) }
 {
-    let mut j: usize = 0;
-    while j < count {
-        let named = list[j] as usize;
-        marks[named] = 1;
-        j += 1;
+    for entry in &list[..count] {
+        marks[*entry as usize] = 1;
     }
 }
 

@@ -1,13 +1,12 @@
 -- A round of a net as two calls, and the loop that writes the rounds.
 -- Assumes nothing.
-use mathlib.Core.Path.{◌≡◌, refl, sym, ap, subst, ◌∙◌}
-use mathlib.Core.Bool.{Bool, true, false, cond, not, ◌&&◌}
+use mathlib.Core.Path.{◌≡◌, sym, ap, subst, ◌∙◌}
+use mathlib.Core.Bool.{Bool, true, false, cond}
 use mathlib.Core.List.{List, [], ◌∷◌, ◌++◌}
 use Prim.Native.Nat.{ℕ, suc, ◌+◌, ◌-◌, ◌≤◌, ◌<◌}
 use native.Mathlib.Omega.{arith}
-use borrow.Author.Tests.{ltb-false}
 use lib.ListN.{length}
-use lib.Dec.{eqb, ltb}
+use lib.Dec.{eqb}
 use Rattle.value.specs.Value.{level}
 use Rattle.kinds.specs.Given.{done, declined, refused_by}
 use Rattle.tables.specs.declared.Counts.{Counts}
@@ -42,48 +41,39 @@ module _ (T U : Tables) (net : net_number T ≡ 0) where
       let z : net_number (counted U m) ≡ 0 = ap net_number made ∙ round_tables-net T 0 net in
       record { tables = made; calmly = g ∙ calm_net (counted U m) z q f }
 
--- What is still to be written: how the rounds end, or at most k rounds more, the next of them round r.
-abbrev pub later : Bool → ℕ → ℕ → Tables → List ℕ
-later b k r T = cond b (ending true) (round_lines k r T)
-
 -- The tables after a round are a net.
 pub net_left : (T U : Tables) (c : Bool) → net_number T ≡ 0 → RoundMade T U c → net_number U ≡ 0
 net_left T U c z h = ap net_number h.tables ∙ round_tables-net T 0 z
 
--- One turn of the loop.
-module _ (T U : Tables) (c : Bool) (h : RoundMade T U c) (r : ℕ) (less : r < 16) where
-  rounds_step : round_lines (16 - r) (r + 1) T ≡ round_line (r + 1) (current_list U) ++ later c (16 - (r + 1)) (r + 1 + 1) U
+-- One turn of the loop: round r, of at most 16.
+module _ (T U : Tables) (c : Bool) (h : RoundMade T U c) (r : ℕ) (less : r < 17) where
+  rounds_step : round_lines (17 - r) r T ≡ round_line r (current_list U) ++ cond c (ending true) (round_lines (17 - (r + 1)) (r + 1) U)
   unfolding round_lines
   rounds_step =
-      let d : 16 - r ≡ suc (16 - (r + 1)) = omega arith in
-      let e : suc (r + 1) ≡ r + 1 + 1 = omega arith in
+      let d : 17 - r ≡ suc (17 - (r + 1)) = omega arith in
+      let e : suc r ≡ r + 1 = omega arith in
       rw (d, sym h.tables, sym h.calmly, e)
 
-  pub round_put : {t bs out new : List ℕ} {at next after : ℕ} (b : Bool) → b ≡ false
-      → ToCome t at bs out next (later b (16 - r) (r + 1) T) → Puts out next (round_line (r + 1) (current_list U)) new after
-      → ToCome t at bs new after (later c (16 - (r + 1)) (r + 1 + 1) U)
-  round_put {t} {bs} {out} {new} {at} {next} {after} b going so_far p =
-      let e : later b (16 - r) (r + 1) T ≡ round_line (r + 1) (current_list U) ++ later c (16 - (r + 1)) (r + 1 + 1) U =
-      ap (λ (x : Bool). later x (16 - r) (r + 1) T) going ∙ rounds_step in
-      put_piece t bs out new (round_line (r + 1) (current_list U)) (later c (16 - (r + 1)) (r + 1 + 1) U) at next after
+  pub round_put : {t bs out new : List ℕ} {at next after : ℕ} (b : Bool) → c ≡ b → ToCome t at bs out next (round_lines (17 - r) r T)
+      → Puts out next (round_line r (current_list U)) new after
+      → ToCome t at bs new after (cond b (ending true) (round_lines (17 - (r + 1)) (r + 1) U))
+  round_put {t} {bs} {out} {new} {at} {next} {after} b f so_far p =
+      let rest : List ℕ = cond b (ending true) (round_lines (17 - (r + 1)) (r + 1) U) in
+      let e : round_lines (17 - r) r T ≡ round_line r (current_list U) ++ rest =
+      rounds_step ∙ ap (λ (x : Bool). round_line r (current_list U) ++ cond x (ending true) (round_lines (17 - (r + 1)) (r + 1) U)) f in
+      put_piece t bs out new (round_line r (current_list U)) rest at next after
       (subst (ToCome t at bs out next) e so_far) p.place p.buffer
 
 -- The loop begins inside the buffer, and what ends it is the last to be written.
 pub begun_inside : (t bs : List ℕ) (at : ℕ) → at ≤ length t → ToCome t at bs t at bs
 begun_inside t bs at h = begun t bs at at (omega arith)
 
-last_part : {t bs out rest u : List ℕ} {at next m : ℕ} → ToCome t at bs out next rest → Puts out next rest u m → Puts t at bs u m
+pub last_part : {t bs out rest u : List ℕ} {at next m : ℕ} → ToCome t at bs out next rest → Puts out next rest u m → Puts t at bs u m
 last_part h p = record { place = omega (arith, p.place, h.place, h.same_length); buffer = p.buffer ∙ h.buffer }
 
-last_rest : (b : Bool) (r : ℕ) (T : Tables) → (not b && ltb r 16) ≡ false → later b (16 - r) (r + 1) T ≡ ending b
+pub rounds_end : {t bs out u : List ℕ} {at next m : ℕ} (r : ℕ) (T : Tables) → 17 ≤ r
+    → ToCome t at bs out next (round_lines (17 - r) r T) → Puts out next (ending false) u m → Puts t at bs u m
 unfolding round_lines
-last_rest true r T e = refl
-last_rest false r T e =
-    let h : 16 ≤ r = ltb-false r 16 e in
-    let d : 16 - r ≡ 0 = omega arith in
-    rw d
-
-pub rounds_end : {t bs out u : List ℕ} {at next m : ℕ} (b : Bool) (r : ℕ) (T : Tables) → (not b && ltb r 16) ≡ false
-    → ToCome t at bs out next (later b (16 - r) (r + 1) T) → Puts out next (ending b) u m → Puts t at bs u m
-rounds_end {t} {bs} {out} {u} {at} {next} {m} b r T e so_far p =
-    last_part (subst (ToCome t at bs out next) (last_rest b r T e) so_far) p
+rounds_end {t} {bs} {out} {u} {at} {next} {m} r T h so_far p =
+    let d : 17 - r ≡ 0 = omega arith in
+    last_part (subst (λ (k : ℕ). ToCome t at bs out next (round_lines k r T)) d so_far) p

@@ -104,16 +104,15 @@ pub fn put_rounds(
 {
     let mut reached = counts;
     let mut next = at;
-    let mut round: u64 = 0;
-    let mut calm = false;
-    while !calm & (round < ROUNDS) {
+    for round in 1..=ROUNDS {
         let left = round_left(
             components, inputs, outputs, wires, current, following, standing, reached,
         );
-        round += 1;
         reached = left.counts;
-        calm = left.calm;
         next = lines::put_round(out, next, round, current, reached.current);
+        if left.calm {
+            return put_end(out, next, true);
+        }
     }
-    put_end(out, next, calm)
+    put_end(out, next, false)
 }

@@ -14,6 +14,3 @@ line cs i = component_line i (fields_in cs i).kind (id_in cs i)
 abbrev pub invariant-loop-i : goal.invariant-loop-i
 invariant-loop-i l =
     (l.i ≤ l.count) × ToCome l.initial.out l.initial.next (joined (line l.components) (from 0 l.count)) l.out l.next (joined (line l.components) (from l.i (l.count - l.i)))
-
-abbrev pub decreases-loop-i : goal.decreases-loop-i
-decreases-loop-i l = l.count - l.i

@@ -14,6 +14,3 @@ line ws k = wire_line (wire_in ws k)
 abbrev pub invariant-loop-k : goal.invariant-loop-k
 invariant-loop-k l =
     (l.k ≤ l.count) × ToCome l.initial.out l.initial.next (joined (line l.wires) (from 0 l.count)) l.out l.next (joined (line l.wires) (from l.k (l.count - l.k)))
-
-abbrev pub decreases-loop-k : goal.decreases-loop-k
-decreases-loop-k l = l.count - l.k

@@ -2,7 +2,7 @@
 -- Assumes nothing.
 use mathlib.Core.Path.{◌≡◌}
 use mathlib.Core.List.{List, foldl}
-use Prim.Native.Nat.{◌≤◌, ◌<◌, ◌-◌}
+use Prim.Native.Nat.{◌≤◌, ◌<◌}
 use lib.ListN.{length, take}
 use lib.Seq.{slice}
 use Rattle.tables.specs.declared.Wire.{Wire}
@@ -23,7 +23,3 @@ invariant-loop-k l =
     × ((vs : List Wire) → (0 < l.count → Follows l.wires l.counts.wires l.head l.after vs)
     → (foldl (visit T (wires_from vs) l.time) now (slice l.k l.count l.list) ≡ foldl (visit T (wires_from vs) l.time) came (take l.count l.list))
     × BitsSo T (wires_from vs) l.time l.list l.count came l.initial.moved l.k now l.moved)
-
-abbrev pub decreases-loop-k : goal.decreases-loop-k
-decreases-loop-k l =
-    l.count - l.k

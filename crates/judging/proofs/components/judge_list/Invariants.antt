@@ -1,11 +1,10 @@
--- `judge_list`: the entries still to come agree exactly if all do; those passed are marked.
+-- `judge_list`: the entries passed so far agree, and they are marked.
 -- Assumes nothing.
 use mathlib.Core.Path.{◌≡◌}
-use mathlib.Core.Bool.{Bool}
+use mathlib.Core.Bool.{Bool, true}
 use mathlib.Core.List.{List, [], ◌++◌}
-use Prim.Native.Nat.{ℕ, ◌-◌, ◌≤◌}
+use Prim.Native.Nat.{ℕ}
 use lib.ListN.{length, take}
-use lib.Seq.{slice}
 use Rattle.lists.specs.Lists.{every}
 use Rattle.tables.specs.Words.{no_counts}
 use Rattle.net.specs.Parts.{lent}
@@ -17,12 +16,9 @@ use Rattle.judging.proofs.components.judge_list.Given as goal
 abbrev pub agrees : List ℕ → List ℕ → List ℕ → ℕ → Bool
 agrees cs is os = component_agrees (lent cs is os [] no_counts)
 
-abbrev pub invariant-loop-k : goal.invariant-loop-k
-invariant-loop-k l =
-    (l.k ≤ l.count) × (length l.should ≡ length l.initial.should)
-    × (every (agrees l.components l.inputs l.outputs) (slice l.k l.count l.list) ≡ every (agrees l.components l.inputs l.outputs) (take l.count l.list))
+abbrev pub invariant-loop-entry : goal.invariant-loop-entry
+invariant-loop-entry l =
+    (length l.should ≡ length l.initial.should)
+    × (every (agrees l.components l.inputs l.outputs) (take l.entry-index l.entry-items) ≡ true)
     × MarkedAgree (lent l.components l.inputs l.outputs [] no_counts) l.marks
-    × ((xs : List ℕ) → IsListed l.initial.marks xs → IsListed l.marks (xs ++ take l.k l.list))
-
-abbrev pub decreases-loop-k : goal.decreases-loop-k
-decreases-loop-k l = l.count - l.k
+    × ((xs : List ℕ) → IsListed l.initial.marks xs → IsListed l.marks (xs ++ take l.entry-index l.entry-items))

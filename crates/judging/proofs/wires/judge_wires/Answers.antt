@@ -1,7 +1,6 @@
 -- `judge_wires`: the wires still to come agree, where they leave a marked component, exactly if all do.
 -- Assumes nothing.
 use mathlib.Core.Path.{sym, ◌∙◌}
-use Prim.Native.Nat.{◌-◌}
 use native.Mathlib.Omega.{arith}
 use Rattle.lists.specs.Lists.{from}
 use Rattle.lists.proofs.ListsLaws.{every_fails, every_next, every_end}

@@ -18,10 +18,7 @@ agrees cs is os xs w = not (has w.src.comp.0 xs) || wire_agrees (lent cs is os [
 
 abbrev pub invariant-loop-k : goal.invariant-loop-k
 invariant-loop-k l =
-    (l.k ≤ l.counts.wires)
+    (l.k ≤ l.k-end)
     × ((xs : List ℕ) → IsListed l.marks xs
-    → every (λ j. agrees l.components l.inputs l.outputs xs (wire_in l.wires j)) (from l.k (l.counts.wires - l.k))
-    ≡ every (λ j. agrees l.components l.inputs l.outputs xs (wire_in l.wires j)) (from 0 l.counts.wires))
-
-abbrev pub decreases-loop-k : goal.decreases-loop-k
-decreases-loop-k l = l.counts.wires - l.k
+    → every (λ j. agrees l.components l.inputs l.outputs xs (wire_in l.wires j)) (from l.k (l.k-end - l.k))
+    ≡ every (λ j. agrees l.components l.inputs l.outputs xs (wire_in l.wires j)) (from 0 l.k-end))

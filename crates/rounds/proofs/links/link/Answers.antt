@@ -1,6 +1,6 @@
 -- `link`: the wires behind are linked in stored order.
 -- Assumes nothing.
-use Prim.Native.Nat.{◌-◌}
+use Prim.Native.Nat.{◌-◌, ◌<◌}
 use native.Mathlib.Omega.{arith}
 use Rattle.lists.specs.Lists.{from}
 use Rattle.rounds.proofs.LinksLaws.{links_start, links_new, links_next, links_end}
@@ -22,7 +22,7 @@ pub loop-k-preserved : goal.loop-k-preserved
 loop-k-preserved c =
     let l = c.loop-k in
     let a = c.args in
-    let b = c.loop-k-test.true in (
+    let b : 0 < l.k = omega (arith, c.loop-k-test.true) in (
       omega (arith, l.invariant.0),
       links_next a.wires.now a.count _ _ l.k b l.invariant.0
           (c.link_first.ensures a.count (from l.k (a.count - l.k)) (omega (arith, l.invariant.0, b))

@@ -7,6 +7,3 @@ use Rattle.rounds.proofs.links.link.Given as goal
 
 abbrev pub invariant-loop-k : goal.invariant-loop-k
 invariant-loop-k l = (l.k ≤ l.count) × IsLinked l.wires l.count l.head l.after (from l.k (l.count - l.k))
-
-abbrev pub decreases-loop-k : goal.decreases-loop-k
-decreases-loop-k l = l.k
