@@ -1,18 +1,19 @@
--- Loops over what is still to come: a search for a number, a part of a table, a sum.
+-- Loops over what is still to come: a part of a table, a sum; and what the library's `all` and `any` answer.
 -- Not here: a test that none stands twice (PassLaws); a loop for one that does not pass a test (ListsLaws: every_fails, every_next, every_end).
 -- Assumes nothing.
 use mathlib.Core.Path.{◌≡◌, refl, sym, ap, ◌∙◌}
 use mathlib.Core.Bool.{Bool, true, false, ◌&&◌}
 use mathlib.Core.List.{List, [], ◌∷◌, map}
-use Prim.Native.Nat.{ℕ, ◌+◌, ◌-◌, ◌≤◌, ◌<◌}
+use Prim.Native.Nat.{ℕ, zero, suc, ◌+◌, ◌-◌, ◌≤◌, ◌<◌}
 use native.Mathlib.Nat.{sub-zero}
 use native.Mathlib.Numerals.{add-one}
 use native.Mathlib.Omega.{arith}
-use borrow.Author.Tests.{eq-eqb, ne_eqb}
 use lib.ListN.{length, get_or}
+use lib.Dec.{eqb}
 use lib.Seq.{slice, slice-cons, slice_empty}
+use Rattle.std.proofs.lemmas.Bool.Decides.{nat_tests}
+use Rattle.std.specs.List.{list_all, list_any, range_with_len}
 use Rattle.lists.specs.Lists.{from, every, total, has}
-use Rattle.lists.proofs.ListsLaws.{from_step, from_end}
 use Rattle.lists.proofs.MembersLaws.{from_last, from_append, total_append}
 
 -- Before the first turn.
@@ -28,21 +29,18 @@ pub map_map : {A : Type 0} (f : A → ℕ) (g : ℕ → A) (xs : List ℕ) → m
 map_map f g [] = refl
 map_map f g (x ∷ xs) = ap (λ (l : List ℕ). f (g x) ∷ l) (map_map f g xs)
 
--- A search for x among what is still to come.
-module _ (g : ℕ → ℕ) (x q n : ℕ) (b : Bool) (so_far : has x (map g (from q (n - q))) ≡ b) where
-  pub has_from-found : q < n → x ≡ g q → true ≡ b
-  has_from-found h e =
-      let z : has x (map g (from q (n - q))) ≡ true = rw (from_step q n h, eq-eqb x (g q) e) in
-      sym z ∙ so_far
+-- What the library's `all` answers.
+pub every_all : (f : ℕ → Bool) (xs : List ℕ) → list_all f xs ≡ every f xs
+every_all f [] = refl
+every_all f (x ∷ xs) = ap (λ (b : Bool). f x && b) (every_all f xs)
 
-  pub has_from-next : q < n → (x ≡ g q → ⊥) → has x (map g (from (q + 1) (n - (q + 1)))) ≡ b
-  has_from-next h e =
-      let z : has x (map g (from q (n - q))) ≡ has x (map g (from (q + 1) (n - (q + 1)))) =
-      rw (from_step q n h, ne_eqb x (g q) e) in
-      sym z ∙ so_far
-
-  pub has_from-end : n ≤ q → false ≡ b
-  has_from-end h = ap (λ (l : List ℕ). has x (map g l)) (sym (from_end q n h)) ∙ so_far
+-- What the library's `any` answers, asked for the numbers of a range which of them give x.
+pub any_gives : (g : ℕ → ℕ) (x q n : ℕ) → list_any (λ i. eqb (g i) x) (range_with_len q n) ≡ has x (map g (from q n))
+any_gives g x q zero = refl
+any_gives g x q (suc n) = rw (swapped (g q) x, add-one q, any_gives g x (suc q) n)
+  where
+    swapped : (a b : ℕ) → eqb a b ≡ eqb b a
+    swapped a b = grind (arith, nat_tests)
 
 -- A test of the entries of a table from q on, up to n.
 module _ (f : ℕ → Bool) (t : List ℕ) (q n : ℕ) (b : Bool) (long : n ≤ length t)

@@ -28,14 +28,7 @@ fn id_among(components: &[u64], id: Id, count: usize) -> bool
     requires { RowsInside components.now count }
     ensures { result ≡ has id.0 (map (id_in components.now) (from 0 count)) }
 {
-    let mut i: usize = 0;
-    while i < count {
-        if tables::has_id(components, i, id) {
-            return true;
-        }
-        i += 1;
-    }
-    false
+    (0..count).any(|i| tables::has_id(components, i, id))
 }
 
 // The same where the ids of these components are marked: only an id whose mark is set is searched for.

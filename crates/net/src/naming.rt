@@ -13,9 +13,8 @@ pub fn names(list: &[u16], count: usize, counts: Counts) -> bool
 {
     let n = counts.components;
     let mut seen = [0u8; 256];
-    let mut i: usize = 0;
-    while i < count {
-        let named = tables::entry(list, i);
+    for entry in &list[..count] {
+        let named = *entry as usize;
         if n <= named {
             return false;
         }
@@ -23,7 +22,6 @@ pub fn names(list: &[u16], count: usize, counts: Counts) -> bool
             return false;
         }
         seen[named] = 1;
-        i += 1;
     }
     true
 }

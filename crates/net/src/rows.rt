@@ -115,8 +115,7 @@ pub(crate) fn rows_right(
         input: 0,
         output: 0,
     };
-    let mut i: usize = 0;
-    while i < n {
+    for i in 0..n {
         if !row_stands(components, counts, next, i) {
             return false;
         }
@@ -127,7 +126,6 @@ pub(crate) fn rows_right(
             return false;
         }
         next = next_after(components, next, i);
-        i += 1;
     }
     (counts.inputs == next.input) & (counts.outputs == next.output)
 }

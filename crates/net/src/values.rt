@@ -13,19 +13,13 @@ fn all_fit(ports: &[u64], start: usize, count: usize, width: u64) -> bool
     requires { start + count ≤ length ports.now }
     ensures { result ≡ all_fit width (numbers ports.now start count) }
 {
-    let end = start + count;
-    let mut i = start;
-    while i < end {
+    ports[start..start + count].iter().all(|number| {
         let held = Value {
-            number: ports[i],
+            number: *number,
             width,
         };
-        if !held.fits().fits {
-            return false;
-        }
-        i += 1;
-    }
-    true
+        held.fits().fits
+    })
 }
 
 // Whether the values of component i fit its ports, each of whose inputs has `inward` bits and each output `outward`. Crates net and slow call

@@ -56,8 +56,7 @@ pub(crate) fn wires_right(
 {
     let n = counts.wires;
     let mut seen = [0u8; 1024];
-    let mut k: usize = 0;
-    while k < n {
+    for k in 0..n {
         let wire = tables::wire_at(wires, k);
         if !wire_fits(components, counts, entering, leaving, wire) {
             return false;
@@ -67,7 +66,6 @@ pub(crate) fn wires_right(
             return false;
         }
         seen[place] = 1;
-        k += 1;
     }
     true
 }

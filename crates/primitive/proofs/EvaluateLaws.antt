@@ -1,17 +1,18 @@
--- Laws of evaluating a single component: the loop over its values, and the answer after each check.
+-- Laws of evaluating a single component: the test of its values, and the answer after each check.
 -- Assumes nothing.
 use mathlib.Core.Path.{◌≡◌, sym, ap, ◌∙◌, refl}
 use mathlib.Core.Bool.{Bool, true, false, not, ◌&&◌, ◌||◌}
 use mathlib.Core.List.{List, [], ◌∷◌, ◌++◌}
-use Prim.Native.Nat.{ℕ, ◌+◌, ◌-◌, ◌<◌, ◌≤◌}
-use native.Mathlib.Nat.{sub-zero, zero-add}
+use Prim.Native.Nat.{ℕ, zero, suc, ◌+◌, ◌≤◌}
+use native.Mathlib.Nat.{zero-add}
 use native.Mathlib.Omega.{arith}
 use borrow.Author.Tests.{ltb-false, not-false, ne_eqb}
 use lib.ListN.{length, get_or, take, drop}
-use lib.Seq.{sets, sets-eq, length-take-le}
+use lib.Seq.{drop-cons, sets, sets-eq, length-take-le}
 use lib.Dec.{ltb}
+use Rattle.std.specs.List.{list_all, zip}
 use Rattle.lists.specs.Lists.{from, every, refusal, ◌if◌}
-use Rattle.lists.proofs.ListsLaws.{refusal_first, refusal_rest, every_fails, every_next, every_end}
+use Rattle.lists.proofs.ListsLaws.{refusal_first, refusal_rest}
 use Rattle.lists.proofs.TestsLaws.{or_left, or_right}
 use Rattle.value.specs.Value.{of_width, fits_in}
 use Rattle.kinds.specs.declared.table.Fields.{Fields}
@@ -27,24 +28,22 @@ use Rattle.kinds.specs.declared.answers.Refusal.{Refusal}
 abbrev pub fits_at : ℕ → List ℕ → List ℕ → ℕ → Bool
 fits_at w ns ws i = fits_in w (of_width (get_or ws i 0) (get_or ns i 0))
 
--- The values from i on fit exactly if all do.
-abbrev pub FitFrom : ℕ → ℕ → List ℕ → List ℕ → ℕ → Type 0
-FitFrom w k ns ws i = every (fits_at w ns ws) (from i (k - i)) ≡ fitting w k ns ws
+-- A number and a width are a value that fits a port of w bits.
+abbrev pub pair_fits : ℕ → ℕ × ℕ → Bool
+pair_fits w p = fits_in w (of_width p.1 p.0)
 
-module _ (w k : ℕ) (ns ws : List ℕ) where
-  pub fit_from-start : FitFrom w k ns ws 0
-  unfolding fitting
-  fit_from-start = ap (λ (m : ℕ). every (fits_at w ns ws) (from 0 m)) (sub-zero k)
+-- Pair by pair, the next k values from i on fit exactly if each does.
+fit_pairs : (w k : ℕ) (ns ws : List ℕ) (i : ℕ) → i + k ≤ length ns → i + k ≤ length ws
+    → list_all (pair_fits w) (zip (take k (drop i ns)) (take k (drop i ws))) ≡ every (fits_at w ns ws) (from i k)
+fit_pairs w zero ns ws i a b = refl
+fit_pairs w (suc k) ns ws i a b =
+    rw (drop-cons ns i 0 (omega arith), drop-cons ws i 0 (omega arith))
+    (ap (λ (r : Bool). fits_at w ns ws i && r) (fit_pairs w k ns ws (suc i) (omega arith) (omega arith)))
 
-  module _ (i : ℕ) (so_far : FitFrom w k ns ws i) where
-    pub fit_from-fails : i < k → fits_at w ns ws i ≡ false → false ≡ fitting w k ns ws
-    fit_from-fails h e = every_fails (fits_at w ns ws) i k (fitting w k ns ws) h e so_far
-
-    pub fit_from-step : i < k → fits_at w ns ws i ≡ true → FitFrom w k ns ws (i + 1)
-    fit_from-step h e = every_next (fits_at w ns ws) i k (fitting w k ns ws) h e so_far
-
-    pub fit_from-end : k ≤ i → true ≡ fitting w k ns ws
-    fit_from-end h = every_end (fits_at w ns ws) i k (fitting w k ns ws) h so_far
+pub fitting_pairs : (w k : ℕ) (ns ws : List ℕ) → k ≤ length ns → k ≤ length ws
+    → list_all (pair_fits w) (zip (take k ns) (take k ws)) ≡ fitting w k ns ws
+unfolding fitting
+fitting_pairs w k ns ws a b = fit_pairs w k ns ws 0 (omega arith) (omega arith)
 
 -- The checks in their order: fewer values than the component's ports; values that fit.
 module _ (f : Fields) (xs vs ys ws : List ℕ) where

@@ -1,16 +1,18 @@
 -- Laws of the rules of the kinds: loops over a component's ports, and the Rust's folds.
 -- Not here: that outputs fit their widths (FitLaws).
 -- Assumes nothing.
-use mathlib.Core.Path.{◌≡◌, refl, ap, ◌∙◌}
-use mathlib.Core.List.{List, [], ◌∷◌, map}
-use Prim.Native.Nat.{ℕ, zero, suc, ◌+◌, ◌-◌, ◌*◌, ◌^◌, ◌≤◌, ◌<◌}
+use mathlib.Core.Path.{◌≡◌, refl, sym, ap, ◌∙◌}
+use mathlib.Core.List.{List, [], ◌∷◌, ◌++◌, append_assoc, map}
+use Prim.Native.Nat.{ℕ, zero, suc, ◌+◌, ◌*◌, ◌^◌, ◌≤◌, ◌<◌}
 use native.Mathlib.Nat.{add-zero, zero-add, two-pow-succ, lt_of_lt_of_le}
 use native.Mathlib.Numerals.{add-one}
 use native.Mathlib.Omega.{arith}
 use borrow.Author.Tests.{lt-ltb, le-ltb}
-use lib.ListN.{length, get_or, set, drop, length-drop, length-map}
+use lib.ListN.{length, get_or, set, drop, length-append, length-drop, length-map}
 use lib.Pow.{pow_mono}
 use lib.Seq.{drop-cons, drop-length}
+use Rattle.std.proofs.lemmas.List.{drop_at}
+use Rattle.std.specs.List.{push}
 use Rattle.lists.specs.Lists.{from}
 use Rattle.lists.proofs.MembersLaws.{from_length}
 use Rattle.value.specs.Value.{level, bit_of}
@@ -39,18 +41,26 @@ pub join_lt : (xs : List ℕ) → join xs < 2 ^ length xs
 join_lt [] = omega arith
 join_lt (x ∷ xs) = rw two-pow-succ (omega (arith, join_lt xs, level_le (high x)))
 
--- The loop of `join`: the number of the ports from i on, and of those from the port before.
-pub join_step : (xs : List ℕ) (i : ℕ) → 0 < i → i ≤ length xs
-    → level (high (get_or xs (i - 1) 0)) + 2 * join (drop i xs) ≡ join (drop (i - 1) xs)
-join_step xs i p h =
-    let e : i ≡ suc (i - 1) = omega arith in
-    let d : drop i xs ≡ drop (suc (i - 1)) xs = ap (λ (k : ℕ). drop k xs) e in
-    rw (d, drop-cons xs (i - 1) 0 (omega arith))
+-- The loop of `join`: before are the ports still to come, of which x is the last and rest are the others; what comes behind before is joined.
+module _ (xs before rest : List ℕ) (x : ℕ) (whole : xs ≡ before ++ drop (length before) xs) (last : before ≡ push rest x) where
+  split_last : xs ≡ rest ++ x ∷ drop (length before) xs
+  split_last = whole ∙ ap (λ (l : List ℕ). l ++ drop (length before) xs) last ∙ append_assoc rest (x ∷ []) (drop (length before) xs)
 
--- A number of at most 63 bits has room for one more.
-pub join_room : (xs : List ℕ) (i : ℕ) → 0 < i → length xs ≤ 64 → join (drop i xs) < 2 ^ 63
-join_room xs i p h =
-    lt_of_lt_of_le (join_lt (drop i xs)) (pow_mono {i = length (drop i xs)} {j = 63} (simp length-drop (omega arith)))
+  joined_next : drop (length rest) xs ≡ x ∷ drop (length before) xs
+  joined_next = ap (drop (length rest)) split_last ∙ drop_at rest (x ∷ drop (length before) xs) (length rest) refl
+
+  pub join_whole : xs ≡ rest ++ drop (length rest) xs
+  join_whole = split_last ∙ ap (λ (l : List ℕ). rest ++ l) (sym joined_next)
+
+  pub join_step : level (high x) + 2 * join (drop (length before) xs) ≡ join (drop (length rest) xs)
+  join_step = ap join (sym joined_next)
+
+  -- A number of at most 63 bits has room for one more.
+  pub join_room : length xs ≤ 64 → join (drop (length before) xs) < 2 ^ 63
+  join_room h =
+      let k : length before ≡ length rest + 1 = ap length last ∙ length-append rest (x ∷ []) in
+      lt_of_lt_of_le (join_lt (drop (length before) xs))
+      (pow_mono {i = length (drop (length before) xs)} {j = 63} (simp length-drop (omega arith)))
 
 -- What `split` leaves: as many outputs as there were, bit j of the number at output j.
 pub split_length : (x n : ℕ) → length (split x n) ≡ n

@@ -16,12 +16,10 @@ fn count_high(ports: &[u64]) -> usize
     ensures { result ≡ highs ports.now }
 {
     let mut count: usize = 0;
-    let mut i: usize = 0;
-    while i < ports.len() {
-        if 0 < ports[i] {
+    for port in ports {
+        if 0 < *port {
             count += 1;
         }
-        i += 1;
     }
     count
 }
@@ -83,10 +81,8 @@ fn join(ports: &[u64]) -> u64
     ensures { result ≡ join ports.now }
 {
     let mut number: u64 = 0;
-    let mut i: usize = ports.len();
-    while 0 < i {
-        i -= 1;
-        number = level_of(0 < ports[i]) + 2 * number;
+    for port in ports.iter().rev() {
+        number = level_of(0 < *port) + 2 * number;
     }
     number
 }
@@ -113,15 +109,13 @@ fn split(input: u64, outputs: &mut [u64]) -> u64
 {
     let mut left = input;
     let mut bits: u64 = 0;
-    let mut i: usize = 0;
-    while i < outputs.len() {
+    for i in 0..outputs.len() {
         let value = Value {
             number: left,
             width: 64,
         };
         bits = put_at(outputs, i, value.bit(0).number, bits);
         left /= 2;
-        i += 1;
     }
     bits
 }

@@ -13,18 +13,14 @@ fn all_fit(width: u64, count: usize, numbers: &[u64], widths: &[u64]) -> bool
     requires { (count ≤ length numbers.now) × (count ≤ length widths.now) }
     ensures { result ≡ fitting width count numbers.now widths.now }
 {
-    let mut i: usize = 0;
-    while i < count {
+    let mut values = numbers[..count].iter().zip(&widths[..count]);
+    values.all(|(number, own)| {
         let held = Value {
-            number: numbers[i],
-            width: widths[i],
+            number: *number,
+            width: *own,
         };
-        if !held.fits_in(width).fits {
-            return false;
-        }
-        i += 1;
-    }
-    true
+        held.fits_in(width).fits
+    })
 }
 
 // The first number that refuses the evaluation, in the order of the checks; 0 where none does.

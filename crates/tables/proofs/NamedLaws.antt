@@ -11,12 +11,13 @@ use native.Mathlib.Nat.{le_refl}
 use native.Mathlib.Numerals.{add-one}
 use native.Mathlib.Omega.{arith}
 use borrow.Author.Tests.{eq-eqb, ne_eqb}
-use lib.ListN.{length, get_or, take, drop, set, length-append, length-take, take-append-drop}
-use lib.Seq.{take_all, take-length, take-suc, take-suc-set, set_split, append_snoc, get_or-take, get_or-set_other, length-take-le, drop-cons, set_at}
+use lib.ListN.{length, get_or, take, drop, set, length-append, take-append-drop}
+use lib.Seq.{take_all, take-length, take-suc, take-suc-set, set_split, append_snoc, get_or-set_other, length-take-le, drop-cons, set_at}
 use lib.Dec.{eqb}
+use Rattle.std.proofs.lemmas.Bool.Decides.{nat_tests}
+use Rattle.std.specs.List.{list_any}
 use Rattle.lists.proofs.OverlayLaws.{overlay_front}
 use Rattle.lists.specs.Lists.{has, append_new, strike, overlay}
-use Rattle.lists.proofs.MembersLaws.{in-get_or, has_complete}
 use Rattle.lists.proofs.ListsLaws.{keep_append}
 
 -- A list in two parts.
@@ -39,18 +40,16 @@ pub cut_end : (t : List ℕ) (n e : ℕ) → ((e ≡ n) × (n < length t)) ⊎ (
 cut_end t n e (inl h) = (omega (arith, h.0), rw h.0)
 cut_end t n e (inr h) = (omega (arith, h.1), rw (h.1, take-length, take_all n t h.0))
 
--- Looking for x among the first n entries: found at i; not found up to i.
-module _ (t : List ℕ) (n i x : ℕ) (small : n ≤ length t) (h : i < n) where
-  pub has_found : x ≡ get_or t i 0 → true ≡ has x (take n t)
-  has_found e =
-      let b : i < length (take n t) = simp length-take (omega arith) in
-      let a : get_or (take n t) i 0 ≡ x = get_or-take n t i 0 h ∙ sym e in
-      sym (has_complete x (take n t) (rw a at (in-get_or (take n t) i 0 b)))
+-- What the library's `contains` answers for x: whether the list has it.
+has_any : (x : ℕ) (ys : List ℕ) → has x ys ≡ list_any (λ y. eqb y x) ys
+has_any x [] = refl
+has_any x (y ∷ ys) = rw (eqb_swapped x y, has_any x ys)
+  where
+    eqb_swapped : (x y : ℕ) → eqb x y ≡ eqb y x
+    eqb_swapped x y = grind (arith, nat_tests)
 
-  pub has_passed : (x ≡ get_or t i 0 → ⊥) → has x (take i t) ≡ false → has x (take (i + 1) t) ≡ false
-  has_passed ne e =
-      let b : i < length t = omega arith in
-      rw (add-one, take-suc t i 0, has_append, e, ne_eqb x (get_or t i 0) ne)
+pub has_found : (x : ℕ) (ys : List ℕ) (b : Bool) → b ≡ list_any (λ y. eqb y x) ys → has x ys ≡ b
+has_found x ys b e = has_any x ys ∙ sym e
 
 -- Appending x to the first n entries.
 module _ (t : List ℕ) (n x : ℕ) (small : n ≤ length t) where

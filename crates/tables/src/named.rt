@@ -1,21 +1,6 @@
 // Lists of components by index, each a lent table and a count of entries in use. Rule: docs/SPECIFICATION.md, "Rounds".
 ghost use Rattle.std.specs.Prelude.{◌≡◌, ◌≤◌, length, take};
-ghost use Rattle.lists.specs.Lists.{has, append_new, strike, overlay};
-
-// Whether x is in the list.
-fn contains(list: &[u16], count: usize, x: u16) -> bool
-    requires { count ≤ length list.now }
-    ensures { result ≡ has x (take count list.now) }
-{
-    let mut i: usize = 0;
-    while i < count {
-        if x == list[i] {
-            return true;
-        }
-        i += 1;
-    }
-    false
-}
+ghost use Rattle.lists.specs.Lists.{append_new, strike, overlay};
 
 // Appends x unless it is there. The answer is the new count. Crates simulator and slow call it for a list of a net, which has room for
 // every component.
@@ -24,7 +9,7 @@ pub fn append_new(list: &mut [u16], count: usize, x: u16) -> usize
     ensures { (result ≡ length (append_new x (take count list.old)))
         × (list.new ≡ overlay (append_new x (take count list.old)) list.old) }
 {
-    if contains(list, count, x) {
+    if list[..count].contains(&x) {
         return count;
     }
     list[count] = x;
@@ -41,28 +26,25 @@ pub fn strike(list: &mut [u16], count: usize, x: u16) -> usize
     } else {
         list.len()
     };
-    let mut i: usize = 0;
     let mut left: usize = 0;
-    while i < end {
+    for i in 0..end {
         let y = list[i];
         if x != y {
             list[left] = y;
             left += 1;
         }
-        i += 1;
     }
     left
 }
 
 // Copies a list of count entries to the front of another table, which keeps what it held past them. Crates rounds and slow call it for
-// the lists of a net, and crates load and slow for the standing list that crate laying has laid.
+// the lists of a net, and crates load and slow for the standing list that crate laying has laid. One by one: the library's
+// `copy_from_slice` calls `memmove`, and the archive may take only `memcpy` and `memset` from outside.
 pub fn copy(list: &[u16], count: usize, into: &mut [u16])
     requires { (count ≤ length list.now) × (count ≤ length into.old) }
     ensures { into.new ≡ overlay (take count list.now) into.old }
 {
-    let mut i: usize = 0;
-    while i < count {
-        into[i] = list[i];
-        i += 1;
+    for (i, x) in list[..count].iter().enumerate() {
+        into[i] = *x;
     }
 }

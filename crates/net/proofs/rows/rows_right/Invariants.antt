@@ -16,6 +16,3 @@ invariant-loop-i l =
     × (l.next.input ≤ l.counts.inputs) × (l.next.output ≤ l.counts.outputs)
     × (every (row_right l.components l.inputs l.outputs l.counts) (from l.i (l.n - l.i)) ≡ every (row_right l.components l.inputs l.outputs l.counts) (from 0 l.n))
     × IdsMarked l.components l.i l.marks × (distinct (map (id_in l.components) (from 0 l.i)) ≡ true) × Widths l.components l.i l.entering l.leaving
-
-abbrev pub decreases-loop-i : goal.decreases-loop-i
-decreases-loop-i l = l.n - l.i

@@ -1,38 +1,27 @@
--- `all_fit`: the values still to come fit exactly if all do.
+-- `all_fit`: each value passes the test exactly if all fit.
 -- Assumes nothing.
-use borrow.Author.Tests.{not-true, not-false}
-use mathlib.Core.Path.{refl, sym, ap, ◌∙◌}
-use Prim.Native.Nat.{◌+◌, ◌-◌}
-use native.Mathlib.Omega.{arith}
-use Rattle.value.specs.declared.Fit.{Fit}
-use Rattle.value.specs.Value.{fits}
-use Rattle.net.proofs.LoopsLaws.{every_slice-fails, every_slice-next, every_slice-end}
+use mathlib.Core.Path.{◌≡◌, ◌∙◌}
+use mathlib.Core.Bool.{Bool}
+use mathlib.Core.List.{List}
+use Prim.Native.Nat.{ℕ, ◌+◌}
+use lib.Seq.{slice}
+use Rattle.std.proofs.Common.{rules, tests}
+use Rattle.std.proofs.lemmas.Iterator.{YieldsList-from_slice}
+use Rattle.std.proofs.lemmas.Iterator.Search.{all_from_yields_List}
+use Rattle.std.proofs.lemmas.Slice.{between_is}
+use Rattle.std.specs.List.{list_all, between}
+use Rattle.value.specs.Value.{fits, of_width}
+use Rattle.net.proofs.LoopsLaws.{every_all}
 use Rattle.net.proofs.values.all_fit.Goals as goal
-use Rattle.net.proofs.values.all_fit.Invariants.{fits_bits}
 
-pub loop-i-init : goal.loop-i-init
-loop-i-init c = (omega arith, refl)
-
-pub returns-then-not-fits : goal.returns-then-not-fits
-returns-then-not-fits c =
-    let a = c.args in
-    let l = c.loop-i in
-    every_slice-fails (fits_bits a.width) a.ports.now l.i (a.start + a.count) _ (omega arith) l.invariant.1
-    (omega arith)
-    (sym (ap (λ (f : Fit). f.fits) c.fits.ensures) ∙ not-true _ c.if-not-fits.true)
-
-pub loop-i-preserved : goal.loop-i-preserved
-loop-i-preserved c =
-    let a = c.args in
-    let l = c.loop-i in (
-      omega arith,
-      every_slice-next (fits_bits a.width) a.ports.now l.i (a.start + a.count) _ (omega arith) l.invariant.1
-          (omega arith)
-          (sym (ap (λ (f : Fit). f.fits) c.fits.ensures) ∙ not-false _ c.if-not-fits.false),
-    )
+-- A number fits a port of w bits.
+abbrev fits_bits : ℕ → ℕ → Bool
+fits_bits w x = fits (of_width w x)
 
 pub returns : goal.returns
 returns c =
     let a = c.args in
-    every_slice-end (fits_bits a.width) a.ports.now c.loop-i.i (a.start + a.count) _ (omega arith)
-    c.loop-i.invariant.1 (omega arith)
+    let part : List ℕ = between a.start (a.start + a.count) a.ports.now in
+    let e : c.all.result ≡ list_all (fits_bits a.width) part =
+    all_from_yields_List (fits_bits a.width) _ _ _ c.all.ensures.ran (YieldsList-from_slice part cc) (λ x b q k. search (rules, tests)) in
+    rw between_is at e ∙ every_all (fits_bits a.width) (slice a.start (a.start + a.count) a.ports.now)

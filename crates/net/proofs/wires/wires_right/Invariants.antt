@@ -23,6 +23,3 @@ invariant-loop-k l =
     (l.k ≤ l.n) × (length l.seen ≡ 1024)
     × (every (fits_at l.components l.wires l.counts) (from l.k (l.n - l.k)) ≡ every (fits_at l.components l.wires l.counts) (from 0 l.n))
     × (fresh l.seen (map (place_in l.components l.wires) (from l.k (l.n - l.k))) ≡ distinct (map (place_in l.components l.wires) (from 0 l.n)))
-
-abbrev pub decreases-loop-k : goal.decreases-loop-k
-decreases-loop-k l = l.n - l.k
