@@ -65,4 +65,3 @@ pub enum Stands {
     Component { owner: u16, id: Id, fields: Fields },
     Nothing,
 }
-

@@ -8,7 +8,6 @@ ghost use Rattle.listing.specs.Listing.{listing};
 // The descriptor of standard input.
 const STDIN: i32 = 0;
 
-
 // Lists a drawing in a lent buffer, and answers how many bytes that is.
 fn list(file: &[u8], out: &mut [u8]) -> usize
     ensures { Puts out.old 0 (listing file.now) out.new result }

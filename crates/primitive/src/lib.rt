@@ -7,4 +7,3 @@ mod single;
 
 pub use rules::update;
 pub use single::evaluate;
-

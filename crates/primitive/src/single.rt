@@ -4,7 +4,8 @@ ghost use Rattle.primitive.specs.Evaluate.{fitting, evaluate_number, Evaluates};
 
 use crate::rules::update;
 use kinds::{
-    Fields, Refusal, input_width, is_kept, is_primitive, is_unknown, obeys, output_width, refused_by,
+    Fields, Refusal, input_width, is_kept, is_primitive, is_unknown, obeys, output_width,
+    refused_by,
 };
 use value::Value;
 

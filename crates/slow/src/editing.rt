@@ -5,9 +5,9 @@ ghost use Rattle.simulator.specs.Edit.{goes_first, stands};
 ghost use Rattle.slow.specs.Slow.{slow_tables_of, slow_edit_verdict, slow_counts_after, SlowEdits};
 ghost use Rattle.slow.specs.Sending.{set_by, drawn_inputs, drawn_outputs};
 
+use crate::SlowCounts;
 use crate::entering::is_led_into;
 use crate::preparing::{are_full, prepare};
-use crate::SlowCounts;
 use kinds::{Refusal, refused_by};
 use simulator::{edit_number, set_port};
 use tables::FlatIdx;

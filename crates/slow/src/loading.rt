@@ -7,8 +7,8 @@ ghost use Rattle.load.specs.Load.{drawing_tables};
 ghost use Rattle.slow.specs.declared.SlowCounts.{SlowCounts};
 ghost use Rattle.slow.specs.Slow.{slow_tables_of, slow_full, slow_of, drawn, slow_counts_after, SlowLoads};
 
-use crate::preparing::{are_full, judge_lent};
 use crate::SlowCounts;
+use crate::preparing::{are_full, judge_lent};
 use kinds::Refusal;
 use laying::{count_up, lay_components, lay_outputs, lay_standing, zeros};
 

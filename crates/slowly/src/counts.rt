@@ -51,7 +51,11 @@ pub(crate) fn keep(words: &mut [u64], answer: Result<SlowCounts, Refusal>) -> u3
 }
 
 // The counts of a run, and its three words, likewise.
-pub(crate) fn keep_run(words: &mut [u64], found: &mut [u64], answer: Result<SlowRan, Refusal>) -> u32
+pub(crate) fn keep_run(
+    words: &mut [u64],
+    found: &mut [u64],
+    answer: Result<SlowRan, Refusal>,
+) -> u32
     requires { ((ran : SlowRan) → answer ≡ Ok ran → (5 ≤ length words.old) × (3 ≤ length found.old))
         × (spoken (slow_ran_gives answer) < 4294967296) }
     ensures { (result ≡ spoken (slow_ran_gives answer))

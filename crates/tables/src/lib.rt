@@ -46,4 +46,3 @@ pub struct Counts {
     pub following: usize,
     pub standing: usize,
 }
-
