@@ -3,22 +3,21 @@
 use mathlib.Core.Path.{◌≡◌, refl, sym, ap, ◌∙◌}
 use mathlib.Core.Bool.{Bool, true, false, not, ◌&&◌, ◌||◌, false≢true}
 use mathlib.Core.List.{[], ◌∷◌, ◌++◌, map}
-use Prim.Native.Nat.{ℕ, zero, suc, ◌≤◌, zero-le, ◌<◌}
+use Prim.Native.Nat.{ℕ, ◌<◌}
 use native.Mathlib.Omega.{arith}
 use borrow.Author.Tests.{eqb-true, leb-true, leb-false, not-true}
-use lib.Arith.{lt_of_le-ne}
 use lib.Dec.{eqb}
 use lib.ListN.{length, get_or-eq_default}
+use Rattle.std.specs.Prelude.{Result, Ok, Err}
+use Rattle.std.specs.Result.{result_unwrap_or}
 use Rattle.lists.specs.Lists.{from, every}
 use Rattle.lists.proofs.ListsLaws.{every_from}
 use Rattle.lists.proofs.TestsLaws.{and_left, and_right}
-use Rattle.kinds.specs.Kinds.{numbered, number_of, kind_in, kind_of, kept_in, for_custom, unknown, no_kind, seen_as, row, row_of}
-use Rattle.kinds.specs.declared.table.Fields.{Fields}
-use Rattle.kinds.specs.declared.table.Row.{Row}
+use Rattle.kinds.specs.Kinds.{numbered, number_of, kind_in, kind_of, kept_in, for_custom, unknown, no_kind, seen_as}
 use Rattle.kinds.specs.declared.Kind.{Kind}
 use Rattle.kinds.specs.declared.Kind.TheVariants.{Composite, And, Or, Not, Nand, Nor, Xor, Switch, Input, Output, Splitter, Joiner, Clock, Const, Majority}
-use Rattle.kinds.specs.declared.Seen.{Seen}
-use Rattle.kinds.specs.declared.Seen.TheVariants.{Known, Kept, Unknown}
+use Rattle.kinds.specs.declared.NoKind.{NoKind}
+use Rattle.kinds.specs.declared.NoKind.TheVariants.{Kept, Unknown}
 
 -- The append rule: these fifteen kinds have these numbers, 14 is kept and 255 is none, whatever kinds there are besides.
 pub number_of-fixed : map number_of
@@ -33,7 +32,7 @@ pub no_kind-fixed : unknown no_kind ≡ true
 no_kind-fixed = refl
 
 -- A kind's number is read as that kind.
-pub seen_as-number_of : (k : Kind) → seen_as (number_of k) ≡ Known k
+pub seen_as-number_of : (k : Kind) → seen_as (number_of k) ≡ Ok k
 seen_as-number_of Composite = refl
 seen_as-number_of And = refl
 seen_as-number_of Or = refl
@@ -55,20 +54,18 @@ abbrev pub is_kind : ℕ → Bool
 is_kind n = not (for_custom n) && not (unknown n)
 
 -- It was read as a kind.
-abbrev is_known : Seen → Bool
-is_known (Known k) = true
-is_known Kept = false
-is_known Unknown = false
+abbrev is_known : Result Kind NoKind → Bool
+is_known (Ok k) = true
+is_known (Err e) = false
 
-known_is : (s : Seen) → is_known s ≡ true → s ≡ Known (kind_in s)
-known_is (Known k) e = refl
-known_is Kept e = absurd (false≢true e)
-known_is Unknown e = absurd (false≢true e)
+known_is : (s : Result Kind NoKind) → is_known s ≡ true → s ≡ Ok (kind_in s)
+known_is (Ok k) e = refl
+known_is (Err r) e = absurd (false≢true e)
 
-kept_is : (s : Seen) → kept_in s ≡ true → s ≡ Kept
-kept_is (Known k) e = absurd (false≢true e)
-kept_is Kept e = refl
-kept_is Unknown e = absurd (false≢true e)
+kept_is : (s : Result Kind NoKind) → kept_in s ≡ true → s ≡ Err Kept
+kept_is (Ok k) e = absurd (false≢true e)
+kept_is (Err Kept) e = refl
+kept_is (Err Unknown) e = absurd (false≢true e)
 
 -- A number that is a kind's is none that is kept, and stands in the list.
 module _ (n : ℕ) (k : is_kind n ≡ true) where
@@ -85,26 +82,26 @@ module _ (n : ℕ) (k : is_kind n ≡ true) where
   number_of-kind_of = eqb-true (number_of (kind_of n)) n (by_number (λ i. eqb (number_of (kind_of i)) i) refl)
 
   -- It is read as its kind.
-  pub seen_as-kind : seen_as n ≡ Known (kind_of n)
+  pub seen_as-kind : seen_as n ≡ Ok (kind_of n)
   seen_as-kind = known_is (seen_as n) (by_number (λ i. is_known (seen_as i)) refl)
 
 -- The three things that a number can be read as.
 pub data Read (n : ℕ) : Type 0 where
-  of_custom : for_custom n ≡ true → unknown n ≡ false → seen_as n ≡ Kept → Read n
-  of_none : for_custom n ≡ false → unknown n ≡ true → seen_as n ≡ Unknown → Read n
-  of_kind : for_custom n ≡ false → unknown n ≡ false → seen_as n ≡ Known (kind_of n) → Read n
+  of_custom : for_custom n ≡ true → unknown n ≡ false → seen_as n ≡ Err Kept → Read n
+  of_none : for_custom n ≡ false → unknown n ≡ true → seen_as n ≡ Err Unknown → Read n
+  of_kind : for_custom n ≡ false → unknown n ≡ false → seen_as n ≡ Ok (kind_of n) → Read n
 
 seen_as-cases : (n : ℕ) → Read n
 seen_as-cases n = by_kept (for_custom n) refl
   where
     by_unknown : (b : Bool) → for_custom n ≡ false → unknown n ≡ b → Read n
-    by_unknown true q u = of_none q u (get_or-eq_default numbered Unknown (leb-true (length numbered) n u))
+    by_unknown true q u = of_none q u (get_or-eq_default numbered (Err Unknown) (leb-true (length numbered) n u))
     by_unknown false q u = of_kind q u (seen_as-kind n (rw (q, u)))
 
-    in_list : (b : Bool) → unknown n ≡ b → seen_as n ≡ Kept → unknown n ≡ false
+    in_list : (b : Bool) → unknown n ≡ b → seen_as n ≡ Err Kept → unknown n ≡ false
     in_list false u k = u
     in_list true u k =
-        let none : seen_as n ≡ Unknown = get_or-eq_default numbered Unknown (leb-true (length numbered) n u) in
+        let none : seen_as n ≡ Err Unknown = get_or-eq_default numbered (Err Unknown) (leb-true (length numbered) n u) in
         absurd (let z : ◌≡◌ {A = ℕ} 0 1 = cc in omega arith)
 
     by_kept : (b : Bool) → for_custom n ≡ b → Read n
@@ -112,8 +109,8 @@ seen_as-cases n = by_kept (for_custom n) refl
     by_kept false q = by_unknown (unknown n) q refl
 
 -- Whether a number is kept, and whether it is no kind, by what it is read as.
-module _ (n : ℕ) (s : Seen) (e : s ≡ seen_as n) where
-  pub kept_read : s ≡ Kept → (true ≡ for_custom n) × (false ≡ unknown n)
+module _ (n : ℕ) (s : Result Kind NoKind) (e : s ≡ seen_as n) where
+  pub kept_read : s ≡ Err Kept → (true ≡ for_custom n) × (false ≡ unknown n)
   kept_read q = by_case (seen_as-cases n)
     where
       by_case : Read n → (true ≡ for_custom n) × (false ≡ unknown n)
@@ -121,7 +118,7 @@ module _ (n : ℕ) (s : Seen) (e : s ≡ seen_as n) where
       by_case (of_none a b r) = absurd (let z : ◌≡◌ {A = ℕ} 0 1 = cc in omega arith)
       by_case (of_kind a b r) = absurd (let z : ◌≡◌ {A = ℕ} 0 1 = cc in omega arith)
 
-  pub unknown_read : s ≡ Unknown → (false ≡ for_custom n) × (true ≡ unknown n)
+  pub unknown_read : s ≡ Err Unknown → (false ≡ for_custom n) × (true ≡ unknown n)
   unknown_read q = by_case (seen_as-cases n)
     where
       by_case : Read n → (false ≡ for_custom n) × (true ≡ unknown n)
@@ -129,7 +126,7 @@ module _ (n : ℕ) (s : Seen) (e : s ≡ seen_as n) where
       by_case (of_none a b r) = (sym a, sym b)
       by_case (of_kind a b r) = absurd (let z : ◌≡◌ {A = ℕ} 0 1 = cc in omega arith)
 
-  pub known_read : {k : Kind} → s ≡ Known k → (false ≡ for_custom n) × (false ≡ unknown n)
+  pub known_read : {k : Kind} → s ≡ Ok k → (false ≡ for_custom n) × (false ≡ unknown n)
   known_read q = by_case (seen_as-cases n)
     where
       by_case : Read n → (false ≡ for_custom n) × (false ≡ unknown n)
@@ -138,49 +135,19 @@ module _ (n : ℕ) (s : Seen) (e : s ≡ seen_as n) where
       by_case (of_kind a b r) = (sym a, sym b)
 
 -- What is read as a kind is that kind's number.
-pub seen_as-known : (n : ℕ) (k : Kind) → seen_as n ≡ Known k → n ≡ number_of k
+pub seen_as-known : (n : ℕ) (k : Kind) → seen_as n ≡ Ok k → n ≡ number_of k
 seen_as-known n k e =
     let p = known_read n (seen_as n) refl e in
-    sym (number_of-kind_of n (rw (sym p.0, sym p.1))) ∙ ap (λ (s : Seen). number_of (kind_in s)) e
+    sym (number_of-kind_of n (rw (sym p.0, sym p.1))) ∙ ap (λ (s : Result Kind NoKind). number_of (kind_in s)) e
 
 pub kind_of-number_of : (k : Kind) → kind_of (number_of k) ≡ k
 kind_of-number_of k = ap kind_in (seen_as-number_of k)
 
--- What is read as no kind has Composite for one.
-unread_composite : (s : Seen) → ((k : Kind) → s ≡ Known k → ⊥) → kind_in s ≡ Composite
-unread_composite (Known k) none = absurd (none k refl)
-unread_composite Kept none = refl
-unread_composite Unknown none = refl
-
-pub kind_of-unread : (n : ℕ) (s : Seen) → ((k : Kind) → s ≡ Known k → ⊥) → seen_as n ≡ s → kind_of n ≡ Composite
-kind_of-unread n s none e = ap kind_in e ∙ unread_composite s none
-
 -- The kind that a number is read as.
-pub seen_as-kind_of : (n : ℕ) (k : Kind) → seen_as n ≡ Known k → kind_of n ≡ k
-seen_as-kind_of n k e = ap kind_of (seen_as-known n k e) ∙ kind_of-number_of k
+pub seen_as-kind_of : (n : ℕ) (k : Kind) → seen_as n ≡ Ok k → kind_of n ≡ k
+seen_as-kind_of n k e = ap kind_in e
 
--- The row of a component, by what its kind's number is read as.
-module _ (f : Fields) (s : Seen) (r : Row) (e : s ≡ seen_as f.kind) where
-  pub row_of-known : (k : Kind) → s ≡ Known k → r ≡ row k f.width f.parameter → r ≡ row_of f
-  row_of-known k q h = h ∙ rw (seen_as-kind_of f.kind k (sym e ∙ q))
-
-  row_of-unread : ((k : Kind) → s ≡ Known k → ⊥) → r ≡ row Composite f.width f.parameter → r ≡ row_of f
-  row_of-unread none h = h ∙ rw (kind_of-unread f.kind s none (sym e))
-
-  pub row_of-kept : s ≡ Kept → r ≡ row Composite f.width f.parameter → r ≡ row_of f
-  row_of-kept q h = row_of-unread (λ k p. let z : ◌≡◌ {A = ℕ} 0 1 = cc in omega arith) h
-
-  pub row_of-unknown : s ≡ Unknown → r ≡ row Composite f.width f.parameter → r ≡ row_of f
-  row_of-unknown q h = row_of-unread (λ k p. let z : ◌≡◌ {A = ℕ} 0 1 = cc in omega arith) h
-
--- n is none of the numbers below m, as the last arm of a `match` knows it.
-abbrev pub NoneBelow : ℕ → ℕ → Type 0
-NoneBelow n zero = Unit
-NoneBelow n (suc m) = NoneBelow n m × (n ≡ m → ⊥)
-
-past : (n m : ℕ) → NoneBelow n m → m ≤ n
-past n zero h = zero-le
-past n (suc m) h = lt_of_le-ne (past n m h.0) (λ e. h.1 (sym e))
-
-pub seen_as-unknown : (n : ℕ) → NoneBelow n (length numbered) → Unknown ≡ seen_as n
-seen_as-unknown n h = sym (get_or-eq_default numbered Unknown (past n (length numbered) h))
+-- The kind that is read, or Composite where none is, is the number's kind.
+pub kind_in-unwrap : (s : Result Kind NoKind) → result_unwrap_or s Composite ≡ kind_in s
+kind_in-unwrap (Ok k) = refl
+kind_in-unwrap (Err e) = refl

@@ -6,14 +6,13 @@ use Prim.Native.Nat.{ℕ, ◌≤◌}
 use native.Mathlib.Omega.{arith}
 use borrow.Author.Tests.{leb-true, le-leb}
 use lib.Dec.{leb}
+use Rattle.std.specs.Prelude.{Ok}
 use Rattle.lists.specs.Lists.{within}
 use Rattle.lists.proofs.ListsLaws.{within_least, within_most}
 use Rattle.lists.proofs.TestsLaws.{and_left, and_right}
 use Rattle.value.specs.Value.{widest}
 use Rattle.kinds.specs.declared.Kind.{Kind}
 use Rattle.kinds.specs.declared.Kind.TheVariants.{Composite, And, Or, Not, Nand, Nor, Xor, Switch, Input, Output, Splitter, Joiner, Clock, Const, Majority}
-use Rattle.kinds.specs.declared.Seen.{Seen}
-use Rattle.kinds.specs.declared.Seen.TheVariants.{Known, Kept, Unknown}
 use Rattle.kinds.specs.declared.table.Fields.{Fields}
 use Rattle.kinds.specs.declared.table.Span.{Span}
 use Rattle.kinds.specs.declared.table.Row.{Row}
@@ -145,11 +144,5 @@ pub obeyed_kind : (f : Fields) → (primitive f && obeys f) ≡ true → is_kind
 obeyed_kind f o = and_right (leb 1 f.kind) (is_kind f.kind) (and_left (primitive f) (obeys f) o)
 
 -- So its number is read as a kind.
-pub obeyed_seen : (f : Fields) → (primitive f && obeys f) ≡ true → seen_as f.kind ≡ Known (kind_of f.kind)
+pub obeyed_seen : (f : Fields) → (primitive f && obeys f) ≡ true → seen_as f.kind ≡ Ok (kind_of f.kind)
 obeyed_seen f o = seen_as-kind f.kind (obeyed_kind f o)
-
-pub obeyed_unkept : (f : Fields) (s : Seen) → (primitive f && obeys f) ≡ true → s ≡ seen_as f.kind → s ≡ Kept → ⊥
-obeyed_unkept f s o e q = let k = obeyed_seen f o in let z : ◌≡◌ {A = ℕ} 0 1 = cc in omega arith
-
-pub obeyed_known : (f : Fields) (s : Seen) → (primitive f && obeys f) ≡ true → s ≡ seen_as f.kind → s ≡ Unknown → ⊥
-obeyed_known f s o e q = let k = obeyed_seen f o in let z : ◌≡◌ {A = ℕ} 0 1 = cc in omega arith

@@ -5,13 +5,13 @@
 --   obeys f                          a component obeys it
 --   input_width f, output_width f      the bits of each port
 -- Assumes nothing.
-use Rattle.std.specs.Prelude.{ℕ, ◌^◌, min, Bool, true, false, not, ◌&&◌, List, [], ◌∷◌, length, get_or, eqb, leb}
+use Rattle.std.specs.Prelude.{ℕ, ◌^◌, min, Bool, true, false, not, ◌&&◌, List, [], ◌∷◌, length, get_or, eqb, leb, Result, Ok, Err}
 use Rattle.lists.specs.Lists.{within}
 use Rattle.value.specs.Value.{widest, ones}
 use Rattle.kinds.specs.declared.Kind.{Kind}
 use Rattle.kinds.specs.declared.Kind.TheVariants.{Composite, And, Or, Not, Nand, Nor, Xor, Switch, Input, Output, Splitter, Joiner, Clock, Const, Majority}
-use Rattle.kinds.specs.declared.Seen.{Seen}
-use Rattle.kinds.specs.declared.Seen.TheVariants.{Known, Kept, Unknown}
+use Rattle.kinds.specs.declared.NoKind.{NoKind}
+use Rattle.kinds.specs.declared.NoKind.TheVariants.{Kept, Unknown}
 use Rattle.kinds.specs.declared.table.Fields.{Fields}
 use Rattle.kinds.specs.declared.table.Span.{Span}
 use Rattle.kinds.specs.declared.table.Row.{Row}
@@ -35,30 +35,29 @@ number_of Const = 13
 number_of Majority = 15
 
 -- What each number is read as, from 0 on: a kind, or kept for `Custom`.
-abbrev pub numbered : List Seen
+abbrev pub numbered : List (Result Kind NoKind)
 numbered =
-    Known Composite ∷ Known And ∷ Known Or ∷ Known Not ∷ Known Nand ∷ Known Nor ∷ Known Xor ∷ Known Switch ∷ Known Input ∷ Known Output
-    ∷ Known Splitter ∷ Known Joiner ∷ Known Clock ∷ Known Const ∷ Kept ∷ Known Majority ∷ []
+    Ok Composite ∷ Ok And ∷ Ok Or ∷ Ok Not ∷ Ok Nand ∷ Ok Nor ∷ Ok Xor ∷ Ok Switch ∷ Ok Input ∷ Ok Output
+    ∷ Ok Splitter ∷ Ok Joiner ∷ Ok Clock ∷ Ok Const ∷ Err Kept ∷ Ok Majority ∷ []
 
 -- What a number is read as; past the last there is no kind.
-abbrev pub seen_as : ℕ → Seen
-seen_as n = get_or numbered n Unknown
+abbrev pub seen_as : ℕ → Result Kind NoKind
+seen_as n = get_or numbered n (Err Unknown)
 
 -- The kind that was read; Composite where there is none, and every user tests that first.
-abbrev pub kind_in : Seen → Kind
-kind_in (Known k) = k
-kind_in Kept = Composite
-kind_in Unknown = Composite
+abbrev pub kind_in : Result Kind NoKind → Kind
+kind_in (Ok k) = k
+kind_in (Err e) = Composite
 
 -- The kind of a number.
 abbrev pub kind_of : ℕ → Kind
 kind_of n = kind_in (seen_as n)
 
 -- It was read as kept.
-abbrev pub kept_in : Seen → Bool
-kept_in (Known k) = false
-kept_in Kept = true
-kept_in Unknown = false
+abbrev pub kept_in : Result Kind NoKind → Bool
+kept_in (Ok k) = false
+kept_in (Err Kept) = true
+kept_in (Err Unknown) = false
 
 -- "component kind 14, kept for `Custom`"
 abbrev pub for_custom : ℕ → Bool

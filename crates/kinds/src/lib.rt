@@ -12,7 +12,7 @@ pub use answers::{Refusal, refused_by};
 pub use table::{Fields, Row, Span, input_width, is_primitive, obeys, output_width};
 
 // An id as drawn.
-#[derive(Clone, Copy)]
+#[derive(Clone, Copy, PartialEq, Eq)]
 pub struct Id(pub u32);
 
 // To whoever adds a kind: append yours after the last, never between two. A kind's number is saved in the drawing files of every
@@ -20,81 +20,77 @@ pub struct Id(pub u32);
 // a screen would light a closed run. 14 is kept for the Rust's `Custom`, and 15 is Majority: the next number is 16. Besides this
 // file the table of kinds, the rules and the names want a line, and so do the definitions of all four; docs/CHECKLISTS.md has
 // the whole way.
-#[derive(Clone, Copy)]
+#[derive(Clone, Copy, PartialEq, Eq)]
 pub enum Kind {
-    Composite,
-    And,
-    Or,
-    Not,
-    Nand,
-    Nor,
-    Xor,
-    Switch,
-    Input,
-    Output,
-    Splitter,
-    Joiner,
-    Clock,
-    Const,
-    Majority,
+    Composite = 0,
+    And = 1,
+    Or = 2,
+    Not = 3,
+    Nand = 4,
+    Nor = 5,
+    Xor = 6,
+    Switch = 7,
+    Input = 8,
+    Output = 9,
+    Splitter = 10,
+    Joiner = 11,
+    Clock = 12,
+    Const = 13,
+    Majority = 15,
 }
 
 // A number that is no kind, and stays none.
 pub const NO_KIND: u8 = 255;
 
-// What a number is read as: a kind, the number kept for Custom, or no kind.
-#[derive(Clone, Copy)]
-pub enum Seen {
-    Known(Kind),
+// Why a number is no kind: it is kept for Custom, or it is none at all.
+#[derive(Clone, Copy, PartialEq, Eq)]
+pub enum NoKind {
     Kept,
     Unknown,
 }
 
 // The number of a kind, as saved in files.
-pub fn number_of(kind: Kind) -> u8
-    ensures { result ≡ number_of kind }
-{
-    match kind {
-        Kind::Composite => 0,
-        Kind::And => 1,
-        Kind::Or => 2,
-        Kind::Not => 3,
-        Kind::Nand => 4,
-        Kind::Nor => 5,
-        Kind::Xor => 6,
-        Kind::Switch => 7,
-        Kind::Input => 8,
-        Kind::Output => 9,
-        Kind::Splitter => 10,
-        Kind::Joiner => 11,
-        Kind::Clock => 12,
-        Kind::Const => 13,
-        Kind::Majority => 15,
+impl From<Kind> for u8 {
+    ghost from_gives = { λ kind number. number ≡ number_of kind };
+
+    fn from(kind: Kind) -> u8 {
+        kind as u8
     }
 }
 
-// What a number is read as, the other way round.
-pub fn kind_of(number: u8) -> Seen
-    ensures { result ≡ seen_as number }
+// The same by name: crate checks calls it.
+pub fn number_of(kind: Kind) -> u8
+    ensures { result ≡ number_of kind }
 {
-    match number {
-        0 => Seen::Known(Kind::Composite),
-        1 => Seen::Known(Kind::And),
-        2 => Seen::Known(Kind::Or),
-        3 => Seen::Known(Kind::Not),
-        4 => Seen::Known(Kind::Nand),
-        5 => Seen::Known(Kind::Nor),
-        6 => Seen::Known(Kind::Xor),
-        7 => Seen::Known(Kind::Switch),
-        8 => Seen::Known(Kind::Input),
-        9 => Seen::Known(Kind::Output),
-        10 => Seen::Known(Kind::Splitter),
-        11 => Seen::Known(Kind::Joiner),
-        12 => Seen::Known(Kind::Clock),
-        13 => Seen::Known(Kind::Const),
-        14 => Seen::Kept,
-        15 => Seen::Known(Kind::Majority),
-        _ => Seen::Unknown,
+    u8::from(kind)
+}
+
+// What a number is read as, the other way round.
+impl TryFrom<u8> for Kind {
+    type Error = NoKind;
+
+    ghost try_from_gives = { λ number read. read ≡ seen_as number };
+
+    fn try_from(number: u8) -> Result<Kind, NoKind> {
+        match number {
+            0 => Ok(Kind::Composite),
+            1 => Ok(Kind::And),
+            2 => Ok(Kind::Or),
+            3 => Ok(Kind::Not),
+            4 => Ok(Kind::Nand),
+            5 => Ok(Kind::Nor),
+            6 => Ok(Kind::Xor),
+            7 => Ok(Kind::Switch),
+            8 => Ok(Kind::Input),
+            9 => Ok(Kind::Output),
+            10 => Ok(Kind::Splitter),
+            11 => Ok(Kind::Joiner),
+            12 => Ok(Kind::Clock),
+            13 => Ok(Kind::Const),
+            14 => Err(NoKind::Kept),
+            15 => Ok(Kind::Majority),
+            _ => Err(NoKind::Unknown),
+        }
     }
 }
 
@@ -102,22 +98,14 @@ pub fn kind_of(number: u8) -> Seen
 pub fn is_kept(number: u8) -> bool
     ensures { result ≡ for_custom number }
 {
-    match kind_of(number) {
-        Seen::Known(_) => false,
-        Seen::Kept => true,
-        Seen::Unknown => false,
-    }
+    matches!(Kind::try_from(number), Err(NoKind::Kept))
 }
 
 // Whether a number is no kind, nor kept for one.
 pub fn is_unknown(number: u8) -> bool
     ensures { result ≡ unknown number }
 {
-    match kind_of(number) {
-        Seen::Known(_) => false,
-        Seen::Kept => false,
-        Seen::Unknown => true,
-    }
+    matches!(Kind::try_from(number), Err(NoKind::Unknown))
 }
 
 // The mark of an id, of 4,096: equal ids have equal marks. Crates checks and net search for an id only where its mark is set. The product

@@ -3,7 +3,7 @@ ghost use Rattle.std.specs.Prelude.{◌≡◌, min};
 ghost use Rattle.value.specs.Value.{widest, ones};
 ghost use Rattle.kinds.specs.Kinds.{row, row_of, line, only, spans, primitive, obeys, input_width, output_width};
 
-use crate::{Kind, Seen, is_kept, is_unknown, kind_of};
+use crate::{Kind, is_kept, is_unknown};
 use value::WIDEST;
 
 // The fields of a component that say what it is; width is field C.
@@ -128,11 +128,8 @@ fn table_row(kind: Kind, c: u64, p: u64) -> Row
 fn row_of(f: Fields) -> Row
     ensures { result ≡ row_of f }
 {
-    match kind_of(f.kind) {
-        Seen::Known(kind) => table_row(kind, f.width as u64, f.parameter),
-        Seen::Kept => table_row(Kind::Composite, f.width as u64, f.parameter),
-        Seen::Unknown => table_row(Kind::Composite, f.width as u64, f.parameter),
-    }
+    let kind = Kind::try_from(f.kind).unwrap_or(Kind::Composite);
+    table_row(kind, f.width as u64, f.parameter)
 }
 
 // Whether a component is of a kind other than the composite's.

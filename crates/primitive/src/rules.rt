@@ -8,7 +8,7 @@ ghost use Rattle.primitive.specs.Own.{all_high, any_high, odd_high, most_high};
 ghost use Rattle.primitive.specs.Own.{Own};
 
 use crate::remainder::remainder;
-use kinds::{Fields, Kind, Seen, kind_of};
+use kinds::{Fields, Kind};
 use value::Value;
 
 // How many ports are high.
@@ -179,9 +179,6 @@ pub fn update(f: Fields, inputs: &[u64], outputs: &mut [u64], time: u64) -> u64
     ensures { (result ≡ moved_outputs f inputs.now outputs.old time)
         × (outputs.new ≡ outputs_after f inputs.now outputs.old time) }
 {
-    match kind_of(f.kind) {
-        Seen::Known(kind) => update_as(kind, f, inputs, outputs, time),
-        Seen::Kept => 0,
-        Seen::Unknown => 0,
-    }
+    let kind = Kind::try_from(f.kind).unwrap();
+    update_as(kind, f, inputs, outputs, time)
 }

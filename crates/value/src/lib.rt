@@ -33,7 +33,7 @@ fn all_ones(width: u64) -> u64
     if width < WORD {
         (1 << width) - 1
     } else {
-        18446744073709551615
+        u64::MAX
     }
 }
 
@@ -107,7 +107,7 @@ impl Value {
         ensures { result ≡ set_to self high }
     {
         Value {
-            number: if high { 1 } else { 0 },
+            number: u64::from(high),
             width: self.width,
         }
     }
