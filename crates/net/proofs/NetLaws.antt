@@ -218,36 +218,27 @@ names_entry T n t l e j h =
 
 -- The test of the lists after that of the rest.
 module _ (T : Tables) where
-  whole_lent : is_circuit T ≡ is_circuit (lent T.components T.inputs T.outputs T.wires T.counts)
-  unfolding kinds_obeyed ids_distinct ports_follow values_fit consts_held wires_fit inputs_once
-  whole_lent = refl
-
   names_lent : (xs : List ℕ) → names T xs ≡ names (lent [] [] [] [] T.counts) xs
   unfolding names
   names_lent xs = refl
 
-  pub net_circuit : is_circuit (lent T.components T.inputs T.outputs T.wires T.counts) ≡ false → false
-      ≡ is_net T
+  pub net_circuit : is_circuit T ≡ false → false ≡ is_net T
   unfolding is_net
-  net_circuit e =
-      let z : is_circuit T ≡ false = whole_lent ∙ e in
-      rw z
+  net_circuit z = rw z
 
-  module _ (e : is_circuit (lent T.components T.inputs T.outputs T.wires T.counts) ≡ true) where
+  module _ (z : is_circuit T ≡ true) where
     pub net_lists : (names (lent [] [] [] [] T.counts) (current_list T)
         && names (lent [] [] [] [] T.counts) (following_list T)
         && names (lent [] [] [] [] T.counts) (standing_list T)) ≡ is_net T
     unfolding is_net
-    net_lists =
-        let z : is_circuit T ≡ true = whole_lent ∙ e in
-        rw (z, names_lent (current_list T), names_lent (following_list T), names_lent (standing_list T))
+    net_lists = rw (z, names_lent (current_list T), names_lent (following_list T), names_lent (standing_list T))
 
     pub circuit_within : Within T.counts
     circuit_within =
         counts_within-sound T.counts
         (parts_sound (counts_within T.counts)
         (kinds_obeyed T ∷ ids_distinct T ∷ ports_follow T ∷ values_fit T ∷ consts_held T ∷ wires_fit T ∷ inputs_once T ∷ [])
-        (whole_lent ∙ e)).0
+        z).0
 
 -- The number of a call: 2, 16, or 0 for a net of full size.
 module _ (T : Tables) where
