@@ -5,6 +5,7 @@ ghost use Rattle.questions.specs.Questions.{whether_gives, AsksCalm};
 ghost use Rattle.words.specs.Said.{short};
 ghost use Rattle.asking.specs.Asking.{CallAsks};
 
+use tables::Lent;
 use words::{counts_in, lay_whether};
 
 // Whether all three lists name only Clocks: a word is lent for the answer, 1 or 0.
@@ -28,7 +29,7 @@ pub fn berxundar_calm(
     if (counts.len() < 7) | (found.len() < 1) {
         return 131072;
     }
-    let answer = questions::is_calm(
+    let lent = Lent::new(
         components,
         inputs,
         outputs,
@@ -38,5 +39,5 @@ pub fn berxundar_calm(
         standing,
         counts_in(counts),
     );
-    lay_whether(found, answer)
+    lay_whether(found, questions::is_calm(&lent))
 }

@@ -6,6 +6,7 @@ ghost use Rattle.words.specs.Said.{short};
 ghost use Rattle.asking.specs.Asking.{CallAsks};
 
 use kinds::Id;
+use tables::Lent;
 use words::{counts_in, lay_index};
 
 // The index of the component with an id, into a lent word.
@@ -30,7 +31,7 @@ pub fn berxundar_index(
     if (counts.len() < 7) | (found.len() < 1) {
         return 131072;
     }
-    let answer = questions::index_of(
+    let lent = Lent::new(
         components,
         inputs,
         outputs,
@@ -39,7 +40,6 @@ pub fn berxundar_index(
         following,
         standing,
         counts_in(counts),
-        Id(id),
     );
-    lay_index(found, answer)
+    lay_index(found, questions::index_of(&lent, Id(id)))
 }

@@ -2,10 +2,10 @@
 ghost use Rattle.std.specs.Prelude.{[]};
 ghost use Rattle.kinds.specs.Given.{giving};
 ghost use Rattle.tables.specs.Tables.{tables_of};
-ghost use Rattle.net.specs.Net.{Checks};
 ghost use Rattle.words.specs.Said.{short};
-ghost use Rattle.asking.specs.Asking.{CallAsks};
+ghost use Rattle.asking.specs.Asking.{CallAsks, Numbers};
 
+use tables::Lent;
 use words::{counts_in, speak};
 
 // What every call on tables checks first: 2, 16.
@@ -21,12 +21,12 @@ pub fn berxundar_check(
 ) -> u32
     ensures { let lent = tables_of components.now inputs.now outputs.now wires.now
         current.now following.now standing.now in
-        CallAsks (λ k. giving k []) Checks (short counts.now 7) counts.now [] [] lent result }
+        CallAsks (λ k. giving k []) Numbers (short counts.now 7) counts.now [] [] lent result }
 {
     if counts.len() < 7 {
         return 131072;
     }
-    let number = net::net_number(
+    let lent = Lent::new(
         components,
         inputs,
         outputs,
@@ -36,5 +36,8 @@ pub fn berxundar_check(
         standing,
         counts_in(counts),
     );
-    speak(number)
+    match net::check_net(&lent) {
+        Ok(()) => 0,
+        Err(refusal) => speak(refusal.number),
+    }
 }

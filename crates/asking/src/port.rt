@@ -6,7 +6,7 @@ ghost use Rattle.words.specs.Words.{side_of};
 ghost use Rattle.words.specs.Said.{short};
 ghost use Rattle.asking.specs.Asking.{CallAsks};
 
-use tables::FlatIdx;
+use tables::{FlatIdx, Lent};
 use words::{counts_in, lay_value, side_of};
 
 // The value of a port: its number and its width, into two lent words. Side 0 is the component's inputs, any other its outputs.
@@ -33,7 +33,7 @@ pub fn berxundar_value(
     if (counts.len() < 7) | (found.len() < 2) {
         return 131072;
     }
-    let answer = questions::value_of(
+    let lent = Lent::new(
         components,
         inputs,
         outputs,
@@ -42,9 +42,6 @@ pub fn berxundar_value(
         following,
         standing,
         counts_in(counts),
-        side_of(side),
-        FlatIdx(index),
-        port,
     );
-    lay_value(found, answer)
+    lay_value(found, questions::value_of(&lent, side_of(side), FlatIdx(index), port))
 }

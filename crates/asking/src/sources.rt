@@ -5,7 +5,7 @@ ghost use Rattle.questions.specs.Questions.{AsksSources};
 ghost use Rattle.words.specs.Said.{short};
 ghost use Rattle.asking.specs.Asking.{CallLists};
 
-use tables::FlatIdx;
+use tables::{FlatIdx, Lent};
 use words::{counts_in, lay_listed};
 
 // The sources of the component at an index, into a list of 256; how many they are, into a lent word.
@@ -31,7 +31,7 @@ pub fn berxundar_sources(
     if (counts.len() < 7) | (found.len() < 1) {
         return 131072;
     }
-    let answer = questions::sources_of(
+    let lent = Lent::new(
         components,
         inputs,
         outputs,
@@ -40,8 +40,6 @@ pub fn berxundar_sources(
         following,
         standing,
         counts_in(counts),
-        FlatIdx(index),
-        list,
     );
-    lay_listed(found, answer)
+    lay_listed(found, questions::sources_of(&lent, FlatIdx(index), list))
 }

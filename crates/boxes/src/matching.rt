@@ -7,10 +7,9 @@ ghost use Rattle.flatten.specs.Verdict.{verdict};
 ghost use Rattle.tables.specs.Tables.{wire_words};
 ghost use Rattle.laying.specs.Laid.{primitives, primitive_words, flat_wires};
 ghost use Rattle.boxes.specs.Boxes.{same, matched};
-ghost use Rattle.net.specs.Parts.{lent};
 
 use laying::{lay_components, lay_wires};
-use tables::Counts;
+use tables::Lent;
 
 // Whether the first `count` components of a table are those that a load of the file gives.
 fn components_match(file: &[u8], components: &[u64], count: usize) -> bool
@@ -42,20 +41,14 @@ fn wires_match(file: &[u8], index: &[u16], wires: &[u16], count: usize) -> bool
 
 // Whether the tables hold the components and the wires that a load of the file gives. Crate look calls it for an accepted file, with the index
 // filled, and tables that are a net.
-pub fn is_matched(
-    file: &[u8],
-    index: &[u16],
-    components: &[u64],
-    wires: &[u16],
-    counts: Counts,
-) -> bool
-    requires { (verdict file.now ≡ Ok tt) × IsIndex file.now index.now × (8 * counts.components ≤ length components.now)
-        × (4 * counts.wires ≤ length wires.now) }
-    ensures { result ≡ matched (record_at file.now) (record_count file.now)
-        (lent components.now [] [] wires.now counts) }
+pub fn is_matched(file: &[u8], index: &[u16], lent: &Lent) -> bool
+    requires { (verdict file.now ≡ Ok tt) × IsIndex file.now index.now × (8 * lent.now.counts.components ≤ length lent.now.components)
+        × (4 * lent.now.counts.wires ≤ length lent.now.wires) }
+    ensures { result ≡ matched (record_at file.now) (record_count file.now) lent.now }
 {
-    if !components_match(file, components, counts.components) {
+    let counts = lent.counts();
+    if !components_match(file, lent.components(), counts.components) {
         return false;
     }
-    wires_match(file, index, wires, counts.wires)
+    wires_match(file, index, lent.wires(), counts.wires)
 }

@@ -88,7 +88,7 @@ rounded {T} z (ordered t order bits e) =
     record {
       wires = wires_by T order;
       time = t;
-      all = order_order T order bits (ordered_number T order bits) refl e;
+      all = order_order T order bits e;
       made = ordered_tables-done T order bits t e;
     }
 

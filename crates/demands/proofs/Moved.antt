@@ -81,8 +81,8 @@ unfolding round_bits round_of
 bits_right = (
   λ T t z. tells T z (wires_in T) (stored_order T) t (round_tables T t) (round_tables-done T t z),
   λ T order bits t e.
-      tells T (made_net T order bits (ordered_number T order bits) refl e) (wires_by T order)
-      (order_order T order bits (ordered_number T order bits) refl e) t (ordered_tables T order bits t) (ordered_tables-done T order bits t e),
+      tells T (made_net T order bits e) (wires_by T order)
+      (order_order T order bits e) t (ordered_tables T order bits t) (ordered_tables-done T order bits t e),
 )
 
 pub bits_beside : BitsBeside

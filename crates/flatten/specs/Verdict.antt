@@ -1,9 +1,9 @@
 -- The verdict on a file's bytes. docs/SPECIFICATION.md, "Numbers given back" and the host's first call. Two records that meet are 13 here, whatever
 -- they are; meeting/specs/Meeting has the judgement, which says what they are.
-use Rattle.std.specs.Prelude.{◌≡◌, ℕ, Bool, cond, List, [], ◌∷◌, eqb}
+use Rattle.std.specs.Prelude.{◌≡◌, ℕ, Bool, cond, List, [], ◌∷◌}
 use Rattle.std.proofs.Math.Option.{Option, none, some}
 use Rattle.lists.specs.Lists.{from, first, overlay}
-use Rattle.kinds.specs.Given.{Given, done, declined, refused_by, spoken, Verdict}
+use Rattle.kinds.specs.Given.{Given, done, declined, refusing, spoken, Verdict}
 use Rattle.component.specs.declared.Record.{Record}
 use Rattle.component.specs.Record.{record_at, record_count, sized}
 use Rattle.component.specs.Drawing.{fails3, fails4, fails5, fails6, fails7, fails8, fails9, fails10, fails11, fails12, fails13, fails14}
@@ -42,7 +42,7 @@ verdict_gives (Err r) xs = declined r
 -- A load's own refusal, or else, at position 0, the call's number k.
 abbrev pub and_then : Verdict → ℕ → Verdict
 and_then (Err r) k = Err r
-and_then (Ok _) k = cond (eqb k 0) (Ok tt) (Err (refused_by k))
+and_then (Ok _) k = refusing k
 
 -- A lent list after a call of that verdict: xs at its front; a refusal changes none of it.
 abbrev pub list_by : Verdict → List ℕ → List ℕ → List ℕ

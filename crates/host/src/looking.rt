@@ -11,6 +11,7 @@ ghost use Rattle.host.specs.Host.{CallLooks};
 
 use kinds::Refusal;
 use look::Looked;
+use tables::Lent;
 use words::counts_in;
 
 // The words of an answer: how many inputs and how many outputs are shown. A refusal lays nothing.
@@ -57,8 +58,7 @@ pub fn berxundar_look(
     if (counts.len() < 7) | (found.len() < 2) {
         return 131072;
     }
-    let answer = look::look(
-        file,
+    let lent = Lent::new(
         components,
         inputs,
         outputs,
@@ -67,9 +67,6 @@ pub fn berxundar_look(
         following,
         standing,
         counts_in(counts),
-        path,
-        numbers,
-        widths,
     );
-    lay_looked(found, answer)
+    lay_looked(found, look::look(file, &lent, path, numbers, widths))
 }

@@ -6,40 +6,33 @@ mod components;
 mod wires;
 
 ghost use Rattle.std.specs.Prelude.{◌≡◌};
-ghost use Rattle.tables.specs.Tables.{tables_of};
 ghost use Rattle.net.specs.Net.{net_number};
 ghost use Rattle.judging.specs.Judged.{judged_named};
 
 use crate::components::judge_list;
 use crate::wires::judge_wires;
-use tables::Counts;
+use tables::Lent;
 
 // Whether the values of a net are right at what its lists name and at the wires that leave it. Where they name nothing, nothing is judged.
 // Crate questions asks it where no check refuses the tables.
-pub fn net_satisfied(
-    components: &[u64],
-    inputs: &[u64],
-    outputs: &[u64],
-    wires: &[u16],
-    current: &[u16],
-    following: &[u16],
-    standing: &[u16],
-    counts: Counts,
-) -> bool
-    requires { net_number (tables_of components.now inputs.now outputs.now wires.now current.now following.now standing.now counts) ≡ 0 }
-    ensures { result ≡ judged_named (tables_of components.now inputs.now outputs.now wires.now
-        current.now following.now standing.now counts) }
+pub fn net_satisfied(lent: &Lent) -> bool
+    requires { net_number lent.now ≡ 0 }
+    ensures { result ≡ judged_named lent.now }
 {
+    let counts = lent.counts();
     if counts.current + counts.following + counts.standing == 0 {
         return true;
     }
+    let components = lent.components();
+    let inputs = lent.inputs();
+    let outputs = lent.outputs();
     let mut marks = [0u8; 256];
     let mut should = [0u64; 64];
     if !judge_list(
         components,
         inputs,
         outputs,
-        current,
+        lent.current(),
         counts.current,
         &mut marks,
         &mut should,
@@ -50,7 +43,7 @@ pub fn net_satisfied(
         components,
         inputs,
         outputs,
-        following,
+        lent.following(),
         counts.following,
         &mut marks,
         &mut should,
@@ -61,12 +54,12 @@ pub fn net_satisfied(
         components,
         inputs,
         outputs,
-        standing,
+        lent.standing(),
         counts.standing,
         &mut marks,
         &mut should,
     ) {
         return false;
     }
-    judge_wires(components, inputs, outputs, wires, counts, &marks)
+    judge_wires(components, inputs, outputs, lent.wires(), counts, &marks)
 }

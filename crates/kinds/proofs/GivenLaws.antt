@@ -1,18 +1,18 @@
 -- What is given back says what was answered: laws by which answers that give the same are the same.
 -- Assumes nothing.
-use mathlib.Core.Path.{◌≡◌, ◌∙◌, refl, ap}
-use mathlib.Core.Bool.{Bool, true, false, cond}
+use mathlib.Core.Path.{◌≡◌, ◌∙◌, refl, ap, sym}
+use mathlib.Core.Bool.{Bool, true, false, cond, true≢false}
 use mathlib.Core.List.{List, []}
 use mathlib.Core.Option.{Option, none, some}
 use Prim.Native.Nat.{ℕ}
 use native.Mathlib.Omega.{arith}
-use borrow.Author.Tests.{eqb-true}
+use borrow.Author.Tests.{eqb-true, eq-eqb, ne_eqb}
 use lib.Dec.{eqb}
-use Rattle.std.specs.Prelude.{Result, Err}
+use Rattle.std.specs.Prelude.{Result, Ok, Err}
 use Rattle.std.specs.Result.{IsErrAnd}
 use Rattle.std.proofs.lemmas.Result.{err_from_is_err_and}
 use Rattle.kinds.specs.declared.answers.Refusal.{Refusal}
-use Rattle.kinds.specs.Given.{Given, done, declined, refused_by, giving}
+use Rattle.kinds.specs.Given.{Given, Verdict, done, declined, refused_by, giving, refusing}
 
 listed : Option (List ℕ) → List ℕ
 listed (some xs) = xs
@@ -47,3 +47,41 @@ declined_refusal r s e = ap refusal_of e
 -- A refusal that `?` hands on is the refusal.
 pub handed_on : {A : Type 0} (v : Result A Refusal) (r : Refusal) → IsErrAnd v (λ e. e ≡ r) → v ≡ Err r
 handed_on v r h = let p = err_from_is_err_and v h in p.1 ∙ ap Err p.2
+
+-- A check of number k refuses where k is not 0, with that number, and accepts at 0; put together too.
+is_refusal : Verdict → ℕ
+is_refusal (Ok _) = 0
+is_refusal (Err r) = 1
+
+refused_with : Verdict → Refusal
+refused_with (Ok _) = refused_by 0
+refused_with (Err r) = r
+
+refused_ok : (r : Refusal) → ◌≡◌ {A = Verdict} (Err r) (Ok tt) → ⊥
+unfolding is_refusal
+refused_ok r e =
+    let z : ◌≡◌ {A = ℕ} 1 0 = ap is_refusal e in
+    omega arith
+
+module _ (k : ℕ) where
+  pub refusing_err : (v : Verdict) (r : Refusal) → v ≡ refusing k → v ≡ Err r → (k ≡ 0 → ⊥) × (r ≡ refused_by k)
+  unfolding refused_with
+  refusing_err v r e f = by_number (eqb k 0) refl (sym f ∙ e)
+    where
+      by_number : (b : Bool) → eqb k 0 ≡ b → ◌≡◌ {A = Verdict} (Err r) (cond b (Ok tt) (Err (refused_by k)))
+          → (k ≡ 0 → ⊥) × (r ≡ refused_by k)
+      by_number true q g = absurd (refused_ok r g)
+      by_number false q g = ((λ z. absurd (true≢false (sym (eq-eqb k 0 z) ∙ q))), ap refused_with g)
+
+  pub refusing_ok : (v : Verdict) → v ≡ refusing k → v ≡ Ok tt → k ≡ 0
+  refusing_ok v e f = by_number (eqb k 0) refl (sym f ∙ e)
+    where
+      by_number : (b : Bool) → eqb k 0 ≡ b → ◌≡◌ {A = Verdict} (Ok tt) (cond b (Ok tt) (Err (refused_by k))) → k ≡ 0
+      by_number true q g = eqb-true k 0 q
+      by_number false q g = absurd (refused_ok (refused_by k) (sym g))
+
+  pub refusing_done : k ≡ 0 → ◌≡◌ {A = Verdict} (Ok tt) (refusing k)
+  refusing_done z = rw (eq-eqb k 0 z)
+
+  pub refusing_number : (k ≡ 0 → ⊥) → ◌≡◌ {A = Verdict} (Err (refused_by k)) (refusing k)
+  refusing_number ne = rw (ne_eqb k 0 ne)

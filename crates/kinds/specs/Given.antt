@@ -4,12 +4,13 @@
 --   declined r   a refusal's number, position and earlier record, no values
 --   Verdict      accepted, or the refusal
 --   giving k xs  a call of number k: its values at 0, else refused "at position 0"
+--   refusing k   a check of number k: accepted at 0, else refused "at position 0"
 --   spoken g     the host's number
 --   spoken_pair g the host's number with the earlier record
 -- Assumes nothing.
 use Rattle.std.specs.Prelude.{ℕ, ◌+◌, ◌*◌, Bool, cond, List, [], ◌∷◌, eqb}
 use Rattle.std.proofs.Math.Option.{Option, none, some}
-use Rattle.std.specs.Prelude.{Result}
+use Rattle.std.specs.Prelude.{Result, Ok, Err}
 use Rattle.lists.specs.Lists.{has}
 use Rattle.kinds.specs.declared.answers.Refusal.{Refusal}
 
@@ -35,6 +36,10 @@ refused_by k = record { number = k; position = 0; earlier = 0 }
 -- Accepted, or refused.
 abbrev pub Verdict : Type 0
 Verdict = Result (Unit {0}) Refusal
+
+-- A check of number k: accepted at 0, else refused.
+abbrev pub refusing : ℕ → Verdict
+refusing k = cond (eqb k 0) (Ok tt) (Err (refused_by k))
 
 -- A number that tells of two records that meet, and so of the earlier of them.
 abbrev pub tells_of_two : ℕ → Bool

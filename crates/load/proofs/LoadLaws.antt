@@ -125,30 +125,35 @@ load_passed file T accepted = by_size (sized file) (full_size T) refl accepted
     by_size true false s e = absurd (refused_not 2 0 e)
     by_size false c s e = absurd (refused_not 1 0 e)
 
+-- The ways out of the judgement: 1; 2; and 0 or 3 to 15.
+module _ (s : List ℕ) (T : Tables) where
+  pub judge_unsized : sized s ≡ false → (r : Refusal) → r ≡ refused_by 1 → Err r ≡ load_verdict s T
+  unfolding load_verdict
+  judge_unsized e r d = rw (e, d)
+
+  module _ (sz : sized s ≡ true) where
+    pub judge_short : full_size T ≡ false → (r : Refusal) → r ≡ refused_by 2 → Err r ≡ load_verdict s T
+    unfolding load_verdict
+    judge_short e r d = rw (sz, e, d)
+
+    pub judge_file : full_size T ≡ true → (v : Verdict) → v ≡ judgement s → v ≡ load_verdict s T
+    unfolding load_verdict
+    judge_file full v e = rw (sz, full, e)
+
 module _ (s cs is os ws cur fol std : List ℕ) where
   abbrev lent : Counts → Tables
   lent = tables_of cs is os ws cur fol std
 
-  -- The ways out of the judgement, whatever the counts: 1; 2; and 0 or 3 to 15.
-  pub judge_unsized : sized s ≡ false → (r : Refusal) → r ≡ refused_by 1 → (m : Counts) → Err r ≡ load_verdict s (lent m)
-  unfolding load_verdict
-  judge_unsized e r d m = rw (e, d)
-
-  module _ (sz : sized s ≡ true) where
-    pub judge_short : ((m : Counts) → full_size (lent m) ≡ false) → (r : Refusal) → r ≡ refused_by 2 → (m : Counts) → Err r ≡ load_verdict s (lent m)
-    unfolding load_verdict
-    judge_short e r d m = rw (sz, e m, d)
-
-    pub judge_file : ((m : Counts) → full_size (lent m) ≡ true) → (v : Verdict) → v ≡ judgement s → (m : Counts)
-        → v ≡ load_verdict s (lent m)
-    unfolding load_verdict
-    judge_file full v e m = rw (sz, full m, e)
+  -- A load looks at no counts.
+  pub load_uncounted : (m k : Counts) → load_verdict s (lent m) ≡ load_verdict s (lent k)
+  unfolding load_verdict full_size
+  load_uncounted m k = refl
 
   -- The ways out of a load whose verdict is v.
-  module _ (v : Verdict) (h : (m : Counts) → v ≡ load_verdict s (lent m)) where
+  module _ (k : Counts) (v : Verdict) (h : v ≡ load_verdict s (lent k)) where
     pub load_refused : (r : Refusal) → v ≡ Err r → (m : Counts) → Loads s (lent m) (Err r) (lent m)
     unfolding load_tables
-    load_refused r e m = rw (sym (h m) ∙ e) (refl, refl)
+    load_refused r e m = rw (load_uncounted m k ∙ sym h ∙ e) (refl, refl)
 
     module _ (e : v ≡ Ok tt) where
       -- The file is accepted, and each table is of full size.
@@ -156,14 +161,12 @@ module _ (s cs is os ws cur fol std : List ℕ) where
           × (4096 ≤ length ws)
           × (256 ≤ length cur) × (256 ≤ length fol) × (256 ≤ length std)
       load_ready =
-          let none : Counts =
-          record { components = 0; inputs = 0; outputs = 0; wires = 0; current = 0; following = 0; standing = 0 } in
-          let p = load_passed s (lent none) (sym (h none) ∙ e) in
-          let f = full_size-sound (lent none) p.full in
+          let p = load_passed s (lent k) (sym h ∙ e) in
+          let f = full_size-sound (lent k) p.full in
           (p.judged, f.components, f.inputs, f.outputs, f.wires, f.current, f.following, f.standing)
 
       pub load_done : (cs' is' os' ws' cur' fol' std' : List ℕ) (c : Counts)
           → tables_of cs' is' os' ws' cur' fol' std' c ≡ drawing_tables (record_at s) (record_count s) (lent c)
           → (m : Counts) → Loads s (lent m) (Ok c) (tables_of cs' is' os' ws' cur' fol' std' c)
       unfolding load_tables drawing_tables
-      load_done cs' is' os' ws' cur' fol' std' c d m = rw (sym (h m) ∙ e) (refl, d)
+      load_done cs' is' os' ws' cur' fol' std' c d m = rw (load_uncounted m k ∙ sym h ∙ e) (refl, d)

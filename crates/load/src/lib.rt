@@ -12,7 +12,18 @@ ghost use Rattle.load.specs.Load.{drawing_tables, load_verdict, Loads};
 
 use kinds::{Refusal, refused_by};
 use laying::{count_up, lay_components, lay_outputs, lay_standing, lay_wires, zeros};
-use tables::Counts;
+use tables::{Counts, Lent};
+
+// What stands for the counts where none are handed in and none are looked at.
+const NO_ENTRIES: Counts = Counts {
+    components: 0,
+    inputs: 0,
+    outputs: 0,
+    wires: 0,
+    current: 0,
+    following: 0,
+    standing: 0,
+};
 
 // Writes the tables of an accepted drawing, with its index filled: all ports 0, a Const's output its value; standing every Const and Clock, following a copy
 // of it; current all components. The answer is how many entries of each table are in use.
@@ -55,29 +66,15 @@ fn fill(
 
 // The verdict of a load: check 1, check 2, then the checks 3 to 15; the lent index, of 3,072 words, is filled where it is accepted. `load`
 // calls it, and crate look, whose refusals begin with a load's.
-pub fn judge_load(
-    file: &[u8],
-    components: &[u64],
-    inputs: &[u64],
-    outputs: &[u64],
-    wires: &[u16],
-    current: &[u16],
-    following: &[u16],
-    standing: &[u16],
-    index: &mut [u16],
-) -> Result<(), Refusal>
+pub fn judge_load(file: &[u8], lent: &Lent, index: &mut [u16]) -> Result<(), Refusal>
     requires { length index.old ≡ 3072 }
-    ensures value { (m : Counts) → result ≡ load_verdict file.now
-        (tables_of components.now inputs.now outputs.now wires.now current.now
-        following.now standing.now m) }
+    ensures value { result ≡ load_verdict file.now lent.now }
     ensures index { result ≡ Ok tt → IsIndex file.now index.new }
 {
     if !component::is_sized(file) {
         return Err(refused_by(1));
     }
-    if !tables::full_size(
-        components, inputs, outputs, wires, current, following, standing,
-    ) {
+    if !lent.full_size() {
         return Err(refused_by(2));
     }
     meeting::judge_indexed(file, index)
@@ -102,9 +99,10 @@ pub fn load(
         ((m : Counts) → Loads file.now (before m) result (after (counts_after result m))) }
 {
     let mut index = [0u16; 3072];
-    judge_load(
-        file, components, inputs, outputs, wires, current, following, standing, &mut index,
-    )?;
+    let lent = Lent::new(
+        components, inputs, outputs, wires, current, following, standing, NO_ENTRIES,
+    );
+    judge_load(file, &lent, &mut index)?;
     Ok(fill(
         file, &index, components, inputs, outputs, wires, current, following, standing,
     ))

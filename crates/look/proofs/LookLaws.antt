@@ -11,7 +11,8 @@ use borrow.Author.Tests.{ne_eqb, le-leb, lt-leb, leb-false, ltb-false}
 use Rattle.lists.specs.Lists.{overlay, refusal, ◌if◌}
 use Rattle.value.specs.declared.Value.{Value}
 use Rattle.kinds.specs.declared.answers.Refusal.{Refusal}
-use Rattle.kinds.specs.Given.{refused_by, Verdict}
+use Rattle.kinds.specs.Given.{refused_by, refusing, Verdict}
+use Rattle.kinds.proofs.GivenLaws.{refusing_err, refusing_ok}
 use Rattle.component.specs.declared.Record.{Record}
 use Rattle.component.specs.Record.{record_at, record_count, inputs_of, outputs_of, sized}
 use Rattle.flatten.specs.Verdict.{refused, verdict}
@@ -19,9 +20,8 @@ use Rattle.flatten.proofs.Accepted.{refused_not, accepted_sized}
 use Rattle.load.specs.Load.{load_verdict}
 use Rattle.load.proofs.LoadLaws.{load_passed}
 use Rattle.tables.specs.Tables.{Tables, full_size}
-use Rattle.net.specs.Net.{is_net, net_number}
-use Rattle.net.specs.Parts.{lent}
-use Rattle.net.proofs.NetLaws.{net_number-0, net_number-16}
+use Rattle.net.specs.Net.{is_net, net_number, Checks}
+use Rattle.net.proofs.NetLaws.{net_number-0, net_number-16, net_number-is_net, passed_net}
 use Rattle.boxes.specs.Boxes.{matched, dangling}
 use Rattle.look.specs.Look.{shown, look_number, loads_own, looked_at, look_verdict, Looks}
 use Rattle.look.specs.Looking.{ported}
@@ -55,29 +55,21 @@ own_passed s T ns wd e = by_size (sized s) refl (ltb (length ns) 256) (ltb (leng
         record { judged = p.judged; full = p.full; numbers_long = ltb-false (length ns) 256 x; widths_long = ltb-false (length wd) 256 y }
 
 -- 16, 20 and 21, of tables of full size.
-module _ (at : ℕ → Record) (n : ℕ) (T : Tables) (c : ℕ) (full : full_size T ≡ true) (k : ℕ) (e : k ≡ net_number T) where
-  pub number_16 : (k ≡ 0 → ⊥) → k ≡ look_number at n T c
+module _ (at : ℕ → Record) (n : ℕ) (T : Tables) (c : ℕ) (full : full_size T ≡ true) (v : Verdict) (said : Checks T v) where
+  pub number_16 : (r : Refusal) → v ≡ Err r → ◌≡◌ {A = Verdict} (Err r) (refusing (look_number at n T c))
   unfolding look_number
-  number_16 ne = by_test (is_net T) refl
+  number_16 r f = sym f ∙ said ∙ ap refusing (by_test (is_net T) refl)
     where
       by_test : (b : Bool) → is_net T ≡ b
-          → k ≡ refusal ((16 if not b) ∷ (20 if not (matched at n T) || leb n c) ∷ (21 if dangling at n c) ∷ [])
-      by_test true h = absurd (ne (e ∙ sym (net_number-0 T full h)))
-      by_test false h = e ∙ sym (net_number-16 T full h)
+          → net_number T ≡ refusal ((16 if not b) ∷ (20 if not (matched at n T) || leb n c) ∷ (21 if dangling at n c) ∷ [])
+      by_test true h = absurd ((refusing_err (net_number T) v r said f).0 (sym (net_number-0 T full h)))
+      by_test false h = sym (net_number-16 T full h)
 
-  module _ (z : k ≡ 0) where
+  module _ (passed : v ≡ Ok tt) where
     net : is_net T ≡ true
-    net = by_test (is_net T) refl
-      where
-        by_test : (b : Bool) → is_net T ≡ b → is_net T ≡ true
-        by_test true h = h
-        by_test false h = absurd (omega (arith, z, e, net_number-16 T full h))
+    net = net_number-is_net T (passed_net T v said passed)
 
-    module _ (b : Bool) (m : b ≡ matched at n (lent T.components [] [] T.wires T.counts)) where
-      match : b ≡ matched at n T
-      unfolding matched
-      match = m
-
+    module _ (b : Bool) (match : b ≡ matched at n T) where
       pub number_20 : b ≡ false → 20 ≡ look_number at n T c
       unfolding look_number
       number_20 h = rw (net, ← match, h)
@@ -121,17 +113,22 @@ module _ (s : List ℕ) (T : Tables) (path ns wd : List ℕ) (v : Verdict) (own 
   unfolding look_verdict
   look_own r e = rw (sym own ∙ e) (refl, refl, refl)
 
-  module _ (a : v ≡ Ok tt) (c : ℕ) (place : c ≡ looked_at s path) (k : ℕ) (e : k ≡ look_number (record_at s) (record_count s) T c) where
-    number : look_number (record_at s) (record_count s) T (looked_at s path) ≡ k
-    number = sym (e ∙ ap (look_number (record_at s) (record_count s) T) place)
+  module _ (a : v ≡ Ok tt) (c : ℕ) (place : c ≡ looked_at s path) (w : Verdict)
+      (said : w ≡ refusing (look_number (record_at s) (record_count s) T c)) where
+    number : look_number (record_at s) (record_count s) T (looked_at s path) ≡ look_number (record_at s) (record_count s) T c
+    number = ap (look_number (record_at s) (record_count s) T) (sym place)
 
-    pub look_refused : (k ≡ 0 → ⊥) → (r : Refusal) → r ≡ refused_by k → Looks s T path ns wd (Err r) ns wd
+    pub look_refused : (r : Refusal) → w ≡ Err r → Looks s T path ns wd (Err r) ns wd
     unfolding look_verdict
-    look_refused ne r d = rw (sym own ∙ a, number, ne_eqb k 0 ne, d) (refl, refl, refl)
+    look_refused r f =
+        let p = refusing_err (look_number (record_at s) (record_count s) T c) w r said f in
+        rw (sym own ∙ a, number, ne_eqb (look_number (record_at s) (record_count s) T c) 0 p.0, p.1) (refl, refl, refl)
 
-    pub look_shown : k ≡ 0 → (ns' wd' : List ℕ)
+    pub look_shown : w ≡ Ok tt → (ns' wd' : List ℕ)
         → ns' ≡ overlay (map (λ (x : Value). x.number) (shown (record_at s) (record_count s) (ported T.components T.inputs T.outputs) c)) ns
         → wd' ≡ overlay (map (λ (x : Value). x.width) (shown (record_at s) (record_count s) (ported T.components T.inputs T.outputs) c)) wd
         → Looks s T path ns wd (Ok (record { inputs = (inputs_of (record_at s c)); outputs = (outputs_of (record_at s c)) })) ns' wd'
     unfolding look_verdict shown
-    look_shown z ns' wd' p q = rw (sym own ∙ a, number, z, ← place) (refl, p, q)
+    look_shown f ns' wd' p q =
+        let z = refusing_ok (look_number (record_at s) (record_count s) T c) w said f in
+        rw (sym own ∙ a, number, z, ← place) (refl, p, q)

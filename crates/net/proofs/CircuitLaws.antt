@@ -1,30 +1,30 @@
--- The tests of components, ports and wires together, each on the tables that it is handed: the outcome after each.
+-- The tests of components, ports and wires together, of whole tables, though each looks only at the tables that it is handed: the outcome after each.
 -- Assumes nothing.
 use mathlib.Core.Path.{◌≡◌, sym, ap, ◌∙◌}
 use mathlib.Core.Bool.{Bool, true, false, ◌&&◌}
-use mathlib.Core.List.{List, []}
-use Prim.Native.Nat.{ℕ}
-use Rattle.tables.specs.declared.Counts.{Counts}
+use mathlib.Core.List.{[]}
 use Rattle.tables.specs.Tables.{Tables}
 use Rattle.net.specs.Net.{counts_within, kinds_obeyed, ids_distinct, ports_follow, values_fit, consts_held, wires_fit, inputs_once, is_circuit}
 use Rattle.net.specs.Parts.{lent, rows_right}
 
-module _ (cs is os ws : List ℕ) (m : Counts) where
-  abbrev T : Tables
-  T = lent cs is os ws m
-
-  pub circuit_counts : counts_within m ≡ false → false ≡ is_circuit T
+module _ (T : Tables) where
+  pub circuit_counts : counts_within T.counts ≡ false → false ≡ is_circuit T
   circuit_counts e = rw e
 
-  module _ (few : counts_within m ≡ true) where
-    -- A test looks at no other table than it is handed.
-    circuit_is : is_circuit T ≡ ((rows_right (lent cs is os [] m) && wires_fit (lent cs [] [] ws m)) && inputs_once (lent cs [] [] ws m))
+  -- The tables that the passes are handed.
+  abbrev of_rows : Tables
+  of_rows = lent T.components T.inputs T.outputs [] T.counts
+
+  abbrev of_wires : Tables
+  of_wires = lent T.components [] [] T.wires T.counts
+
+  module _ (few : counts_within T.counts ≡ true) where
+    circuit_is : is_circuit T ≡ ((rows_right of_rows && wires_fit of_wires) && inputs_once of_wires)
     unfolding kinds_obeyed ids_distinct ports_follow values_fit consts_held wires_fit inputs_once
     circuit_is = rw few
 
-    pub circuit_rows : rows_right (lent cs is os [] m) ≡ false → false ≡ is_circuit T
-    circuit_rows e = sym (circuit_is ∙ ap (λ (b : Bool). (b && wires_fit (lent cs [] [] ws m)) && inputs_once (lent cs [] [] ws m)) e)
+    pub circuit_rows : rows_right of_rows ≡ false → false ≡ is_circuit T
+    circuit_rows e = sym (circuit_is ∙ ap (λ (b : Bool). (b && wires_fit of_wires) && inputs_once of_wires) e)
 
-    pub circuit_wires : rows_right (lent cs is os [] m) ≡ true
-        → (wires_fit (lent cs [] [] ws m) && inputs_once (lent cs [] [] ws m)) ≡ is_circuit T
-    circuit_wires e = sym (circuit_is ∙ ap (λ (b : Bool). (b && wires_fit (lent cs [] [] ws m)) && inputs_once (lent cs [] [] ws m)) e)
+    pub circuit_wires : rows_right of_rows ≡ true → (wires_fit of_wires && inputs_once of_wires) ≡ is_circuit T
+    circuit_wires e = sym (circuit_is ∙ ap (λ (b : Bool). (b && wires_fit of_wires) && inputs_once of_wires) e)

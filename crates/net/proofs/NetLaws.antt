@@ -3,7 +3,7 @@
 --   Net T      the tables T pass every clause
 -- Not here: laws of counts_within, kinds_obeyed and ports_follow (ClausesLaws).
 -- Assumes nothing.
-use mathlib.Core.Path.{◌≡◌, refl, ◌∙◌, sym, subst}
+use mathlib.Core.Path.{◌≡◌, refl, subst}
 use mathlib.Core.Bool.{Bool, true, false, not, ◌&&◌, ◌||◌, cond}
 use mathlib.Core.List.{List, [], ◌∷◌, map}
 use Prim.Native.Nat.{ℕ, ◌≤◌, ◌<◌}
@@ -12,6 +12,7 @@ use borrow.Author.Tests.{ltb-true, eqb-true, not-false, eq-eqb, ne_eqb}
 use lib.ListN.{length, get_or, take}
 use lib.Seq.{length-take-le, get_or-take}
 use lib.Dec.{eqb, ltb}
+use Rattle.std.specs.Prelude.{Ok}
 use Rattle.lists.specs.Lists.{from, every, distinct}
 use Rattle.lists.proofs.ListsLaws.{every_from, refusal_first, refusal_rest}
 use Rattle.lists.proofs.TestsLaws.{and_left, and_right}
@@ -19,13 +20,15 @@ use Rattle.lists.proofs.MembersLaws.{In, in-get_or, Distinct, every_sound, disti
 use Rattle.value.specs.Value.{all_fit}
 use Rattle.kinds.specs.declared.Kind.TheVariants.{Const}
 use Rattle.kinds.specs.Kinds.{is, input_width, output_width}
+use Rattle.kinds.specs.Given.{Verdict}
+use Rattle.kinds.proofs.GivenLaws.{refusing_ok}
 use Rattle.tables.specs.declared.End.{End}
 use Rattle.tables.specs.declared.Wire.{Wire}
 use Rattle.tables.specs.Tables.{Tables, full_size, fields_at, first_output, input_place, inputs_at, outputs_at, wires_in, current_list, following_list, standing_list}
 use Rattle.tables.proofs.PartsLaws.{AllTrue, parts_sound, parts_complete}
 use Rattle.tables.proofs.SizesLaws.{Full, full_size-sound}
 use Rattle.net.specs.Net.{counts_within, kinds_obeyed, ids_distinct, ports_follow, values_fit, consts_held, is_output, is_input, wires_fit, inputs_once}
-use Rattle.net.specs.Net.{names, is_circuit, is_net, net_number, on_net}
+use Rattle.net.specs.Net.{names, is_circuit, is_net, net_number, Checks, on_net}
 use Rattle.net.specs.Parts.{lent, values_fit_at, held_at}
 use Rattle.net.specs.Net.{wire_fits}
 use Rattle.net.proofs.ClausesLaws.{Within, counts_within-sound, ports_follow-inputs}
@@ -218,36 +221,27 @@ names_entry T n t l e j h =
 
 -- The test of the lists after that of the rest.
 module _ (T : Tables) where
-  whole_lent : is_circuit T ≡ is_circuit (lent T.components T.inputs T.outputs T.wires T.counts)
-  unfolding kinds_obeyed ids_distinct ports_follow values_fit consts_held wires_fit inputs_once
-  whole_lent = refl
-
   names_lent : (xs : List ℕ) → names T xs ≡ names (lent [] [] [] [] T.counts) xs
   unfolding names
   names_lent xs = refl
 
-  pub net_circuit : is_circuit (lent T.components T.inputs T.outputs T.wires T.counts) ≡ false → false
-      ≡ is_net T
+  pub net_circuit : is_circuit T ≡ false → false ≡ is_net T
   unfolding is_net
-  net_circuit e =
-      let z : is_circuit T ≡ false = whole_lent ∙ e in
-      rw z
+  net_circuit z = rw z
 
-  module _ (e : is_circuit (lent T.components T.inputs T.outputs T.wires T.counts) ≡ true) where
+  module _ (z : is_circuit T ≡ true) where
     pub net_lists : (names (lent [] [] [] [] T.counts) (current_list T)
         && names (lent [] [] [] [] T.counts) (following_list T)
         && names (lent [] [] [] [] T.counts) (standing_list T)) ≡ is_net T
     unfolding is_net
-    net_lists =
-        let z : is_circuit T ≡ true = whole_lent ∙ e in
-        rw (z, names_lent (current_list T), names_lent (following_list T), names_lent (standing_list T))
+    net_lists = rw (z, names_lent (current_list T), names_lent (following_list T), names_lent (standing_list T))
 
     pub circuit_within : Within T.counts
     circuit_within =
         counts_within-sound T.counts
         (parts_sound (counts_within T.counts)
         (kinds_obeyed T ∷ ids_distinct T ∷ ports_follow T ∷ values_fit T ∷ consts_held T ∷ wires_fit T ∷ inputs_once T ∷ [])
-        (whole_lent ∙ e)).0
+        z).0
 
 -- The number of a call: 2, 16, or 0 for a net of full size.
 module _ (T : Tables) where
@@ -280,9 +274,9 @@ module _ (T : Tables) where
     pub net_number-sizes : Full T
     net_number-sizes = full_size-sound T net_number-full
 
--- A call that found no number has a net.
-pub passed_net : (T : Tables) (k : ℕ) → k ≡ net_number T → k ≡ 0 → net_number T ≡ 0
-passed_net T k e z = sym e ∙ z
+-- A call whose check passed has a net.
+pub passed_net : (T : Tables) (v : Verdict) → Checks T v → v ≡ Ok tt → net_number T ≡ 0
+passed_net T v e f = refusing_ok (net_number T) v e f
 
 -- A call that checks 2 and 16 first: their number, or m, the number of the rest.
 module _ (T : Tables) (m : ℕ) where

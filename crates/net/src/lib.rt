@@ -13,4 +13,4 @@ mod wires;
 
 pub use naming::names;
 pub use values::{row_fits, row_held};
-pub use whole::net_number;
+pub use whole::check_net;

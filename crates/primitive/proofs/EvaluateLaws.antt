@@ -16,11 +16,11 @@ use Rattle.lists.proofs.ListsLaws.{refusal_first, refusal_rest}
 use Rattle.lists.proofs.TestsLaws.{or_left, or_right}
 use Rattle.value.specs.Value.{of_width, fits_in}
 use Rattle.kinds.specs.declared.table.Fields.{Fields}
-use Rattle.kinds.proofs.GivenLaws.{done_values, done_declined, declined_refusal}
+use Rattle.kinds.proofs.GivenLaws.{done_values, done_declined, declined_refusal, refusing_err}
 use Rattle.kinds.specs.Kinds.{for_custom, unknown, primitive, obeys, input_width, output_width}
 use Rattle.primitive.specs.Evaluate.{fitting, outputs_after, evaluate_number, evaluate_outputs, evaluated_gives}
 use Rattle.primitive.specs.Own.{Own}
-use Rattle.kinds.specs.Given.{giving}
+use Rattle.kinds.specs.Given.{Verdict, giving, refusing}
 use Rattle.std.specs.Prelude.{Result, Ok, Err}
 use Rattle.kinds.specs.declared.answers.Refusal.{Refusal}
 
@@ -137,13 +137,15 @@ module _ (f : Fields) (xs vs ys ws : List ℕ) where
         }
 
   -- The outcome of a refusal: the outputs are as they were.
-  module _ (n : ℕ) (e : n ≡ evaluate_number f xs vs ys ws) (h : n ≡ 0 → ⊥) where
-    pub refused_answer : (bits : ℕ) → evaluated_gives (Err (record { number = n; position = 0; earlier = 0 })) ≡ giving (evaluate_number f xs vs ys ws) (bits ∷ [])
-    refused_answer bits = rw (← e, ne_eqb n 0 h)
+  module _ (v : Verdict) (e : v ≡ refusing (evaluate_number f xs vs ys ws)) (r : Refusal) (h : v ≡ Err r) where
+    pub refused_answer : (bits : ℕ) → evaluated_gives (Err r) ≡ giving (evaluate_number f xs vs ys ws) (bits ∷ [])
+    refused_answer bits =
+        let p = refusing_err (evaluate_number f xs vs ys ws) v r e h in
+        rw (p.1, ne_eqb (evaluate_number f xs vs ys ws) 0 p.0)
 
     pub refused_outputs : (t : ℕ) → ys ≡ evaluate_outputs f xs vs ys ws t
     unfolding evaluate_outputs
-    refused_outputs t = rw (← e, ne_eqb n 0 h)
+    refused_outputs t = rw (ne_eqb (evaluate_number f xs vs ys ws) 0 (refusing_err (evaluate_number f xs vs ys ws) v r e h).0)
 
   -- The outcome of an evaluation: the component's outputs are laid over the lent ones.
   module _ (z : evaluate_number f xs vs ys ws ≡ 0) where

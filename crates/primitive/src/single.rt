@@ -1,5 +1,6 @@
 // Evaluating a single component, on any fields, values and time. Rules: docs/SPECIFICATION.md, "Numbers given back" and "Rounds".
 ghost use Rattle.std.specs.Prelude.{◌≡◌, ◌≤◌, length};
+ghost use Rattle.kinds.specs.Given.{refusing};
 ghost use Rattle.primitive.specs.Evaluate.{fitting, evaluate_number, Evaluates};
 
 use crate::rules::update;
@@ -24,36 +25,36 @@ fn all_fit(width: u64, count: usize, numbers: &[u64], widths: &[u64]) -> bool
     })
 }
 
-// The first number that refuses the evaluation, in the order of the checks; 0 where none does.
-fn evaluate_number(
+// What refuses the evaluation, in the order of the checks.
+fn check_evaluation(
     f: Fields,
     inputs: &[u64],
     entering: &[u64],
     outputs: &[u64],
     leaving: &[u64],
-) -> u32
-    ensures { result ≡ evaluate_number f inputs.now entering.now outputs.now leaving.now }
+) -> Result<(), Refusal>
+    ensures { result ≡ refusing (evaluate_number f inputs.now entering.now outputs.now leaving.now) }
 {
     let n = f.inputs as usize;
     let m = f.outputs as usize;
     if is_kept(f.kind) {
-        return 7;
+        return Err(refused_by(7));
     }
     if is_unknown(f.kind) {
-        return 8;
+        return Err(refused_by(8));
     }
     if !(is_primitive(f) & obeys(f)) {
-        return 9;
+        return Err(refused_by(9));
     }
     if (inputs.len() < n) | (entering.len() < n) | (outputs.len() < m) | (leaving.len() < m) {
-        return 2;
+        return Err(refused_by(2));
     }
     if !(all_fit(input_width(f), n, inputs, entering)
         & all_fit(output_width(f), m, outputs, leaving))
     {
-        return 19;
+        return Err(refused_by(19));
     }
-    0
+    Ok(())
 }
 
 // Evaluates a component of these fields: its inputs' numbers and their widths, its outputs' numbers, which are written, and their
@@ -69,10 +70,7 @@ pub fn evaluate(
 ) -> Result<u64, Refusal>
     ensures { Evaluates f inputs.now entering.now outputs.old leaving.now time result outputs.new }
 {
-    let number = evaluate_number(f, inputs, entering, outputs, leaving);
-    if number != 0 {
-        return Err(refused_by(number));
-    }
+    check_evaluation(f, inputs, entering, outputs, leaving)?;
     let n = f.inputs as usize;
     let m = f.outputs as usize;
     let moved = update(f, &inputs[..n], &mut outputs[..m], time);

@@ -16,10 +16,11 @@ use Rattle.value.specs.declared.Value.{Value}
 use Rattle.value.specs.Value.{level, of_width}
 use Rattle.kinds.specs.declared.table.Fields.{Fields}
 use Rattle.kinds.specs.Kinds.{input_width, output_width}
-use Rattle.kinds.specs.Given.{Given, done, declined, refused_by}
+use Rattle.kinds.specs.Given.{Given, Verdict, done, declined, refused_by, refusing}
+use Rattle.kinds.proofs.GivenLaws.{refusing_err}
 use Rattle.tables.specs.Tables.{Tables, fields_at, id_at, first_input, first_output, indexes, wire_at, index_of}
 use Rattle.tables.specs.Words.{no_counts, uncounted}
-use Rattle.net.specs.Net.{net_number, on_net}
+use Rattle.net.specs.Net.{net_number, on_net, Checks}
 use Rattle.net.specs.Parts.{lent}
 use Rattle.net.proofs.ClausesLaws.{kinds_obeyed-fit}
 use Rattle.net.proofs.NetLaws.{net_number-net}
@@ -53,23 +54,25 @@ module _ (T : Tables) (z : net_number T ≡ 0) where
   net_end Source k h = omega (arith, (net_sound T z).source (wire_at T k) (wire_in_lem T k h), (net_sound T z).few)
   net_end Target k h = omega (arith, (net_sound T z).target (wire_at T k) (wire_in_lem T k h), (net_sound T z).few)
 
--- A question that the number refuses, and one of a net.
-of_refused : (T : Tables) (g : Given) (k : ℕ) → k ≡ net_number T → (k ≡ 0 → ⊥) → declined (refused_by k) ≡ of_net T g
-of_refused T g k e ne = rw (← e, ne_eqb k 0 ne)
+-- A question that the check of the net refuses, and one of a net.
+of_refused : (T : Tables) (g : Given) (v : Verdict) (r : Refusal) → Checks T v → v ≡ Err r → declined r ≡ of_net T g
+of_refused T g v r e f =
+    let p = refusing_err (net_number T) v r e f in
+    rw (p.1, ne_eqb (net_number T) 0 p.0)
 
 of_net_lem : (T : Tables) (g : Given) → net_number T ≡ 0 → g ≡ of_net T g
 of_net_lem T g z = rw z
 
 -- Whether a net has the property b: calm, satisfied.
 module _ (T : Tables) (b : Bool) where
-  pub whether_refused : (k : ℕ) → k ≡ net_number T → (k ≡ 0 → ⊥) → whether_gives (Err (refused_by k)) ≡ of_net T (done (level b ∷ []))
+  pub whether_refused : (v : Verdict) (r : Refusal) → Checks T v → v ≡ Err r → whether_gives (Err r) ≡ of_net T (done (level b ∷ []))
   whether_refused = of_refused T (done (level b ∷ []))
 
   pub whether_is : (x : Bool) → net_number T ≡ 0 → x ≡ b → whether_gives (Ok x) ≡ of_net T (done (level b ∷ []))
   whether_is x z e = ap (λ (y : Bool). done (level y ∷ [])) e ∙ of_net_lem T (done (level b ∷ [])) z
 
 -- The index of an id.
-pub index_refused : (T : Tables) (id k : ℕ) → k ≡ net_number T → (k ≡ 0 → ⊥) → AsksIndex T id (Err (refused_by k))
+pub index_refused : (T : Tables) (id : ℕ) (v : Verdict) (r : Refusal) → Checks T v → v ≡ Err r → AsksIndex T id (Err r)
 index_refused T id = of_refused T (index_found (index_of T id))
 
 pub index_found_lem : (T : Tables) (id : ℕ) (r : Result FlatIdx Refusal) → net_number T ≡ 0
@@ -80,7 +83,7 @@ index_found_lem T id r z e = e ∙ of_net_lem T (index_found (index_of T id)) z
 
 -- A port's value.
 module _ (T : Tables) (side : Side) (i p : ℕ) where
-  pub value_refused : (k : ℕ) → k ≡ net_number T → (k ≡ 0 → ⊥) → AsksValue T side i p (Err (refused_by k))
+  pub value_refused : (v : Verdict) (r : Refusal) → Checks T v → v ≡ Err r → AsksValue T side i p (Err r)
   value_refused = of_refused T (value_on_net T side i p)
 
   lent_value : (side : Side)
@@ -157,8 +160,9 @@ module _ (T : Tables) (i : ℕ) (list : List ℕ) where
   unfolding list_number
   long h = rw (le-ltb (length list) 256 h)
 
-  pub list_refused : (k : ℕ) → 256 ≤ length list → k ≡ net_number T → (k ≡ 0 → ⊥) → k ≡ list_number T i list
-  list_refused k h e ne = sym (long h ∙ number_refused T there k e ne)
+  pub list_refused : 256 ≤ length list → (v : Verdict) (r : Refusal) → Checks T v → v ≡ Err r → ◌≡◌ {A = Verdict} (Err r) (refusing (list_number T i list))
+  list_refused h v r e f =
+      sym f ∙ e ∙ ap refusing (sym (long h ∙ number_refused T there (net_number T) refl (refusing_err (net_number T) v r e f).0))
 
   pub list_none : 256 ≤ length list → net_number T ≡ 0 → T.counts.components ≤ i → 17 ≡ list_number T i list
   list_none h z l = sym (long h ∙ number_net T there z ∙ rw (le-leb T.counts.components i l))
@@ -181,8 +185,10 @@ module _ (T : Tables) (i : ℕ) (list : List ℕ) where
 
 -- The answer and the lent list, where m is the number and xs is listed.
 module _ (m : ℕ) (xs list : List ℕ) where
-  pub joined_refused : (k : ℕ) → k ≡ m → (k ≡ 0 → ⊥) → Listing m xs list (Err (refused_by k)) list
-  joined_refused k e ne = rw (← e, ne_eqb k 0 ne) (refl, refl)
+  pub joined_refused : (v : Verdict) (r : Refusal) → v ≡ refusing m → v ≡ Err r → Listing m xs list (Err r) list
+  joined_refused v r e f =
+      let p = refusing_err m v r e f in
+      rw (p.1, ne_eqb m 0 p.0) (refl, refl)
 
   pub joined_listed : (n : ℕ) (u : List ℕ) → m ≡ 0 → (n ≡ length xs) × (u ≡ overlay xs list) → Listing m xs list (Ok n) u
   joined_listed n u z e = rw z (ap (λ (k : ℕ). done (k ∷ [])) e.0, e.1)

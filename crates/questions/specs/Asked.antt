@@ -9,7 +9,6 @@
 -- Assumes nothing.
 use Rattle.std.specs.Prelude.{ℕ, ◌≡◌, Bool, true, ◌&&◌, List, get_or, eqb}
 use Rattle.lists.specs.Lists.{from, keep, any}
-use Rattle.kinds.specs.Kinds.{is}
 use Rattle.tables.specs.declared.Wire.{Wire}
 use Rattle.tables.specs.Words.{RowInside, fields_in, wire_in, fields_fit}
 use Rattle.net.specs.Parts.{InputsInside, OutputsInside}

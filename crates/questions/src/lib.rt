@@ -5,7 +5,7 @@
 
 ghost use Rattle.std.specs.Prelude.{◌≡◌, cond, [], ℕ, ◌+◌, ◌<◌, ◌≤◌, length, get_or, eqb};
 ghost use Rattle.lists.specs.Lists.{from, first, overlay};
-ghost use Rattle.tables.specs.Tables.{tables_of};
+ghost use Rattle.kinds.specs.Given.{refusing};
 ghost use Rattle.tables.specs.Words.{RowInside, RowsInside, WiresInside, no_counts, uncounted, id_in};
 ghost use Rattle.net.specs.Parts.{lent};
 ghost use Rattle.questions.specs.Questions.{AsksCalm, AsksSatisfied, index_gives, index_found, AsksIndex, port_count, value_at, value_gives};
@@ -14,8 +14,9 @@ ghost use Rattle.questions.specs.Asked.{comp_at, end_of, meets, met, marked_belo
 
 use judging::net_satisfied;
 use kinds::{Id, Refusal, refused_by};
+use net::check_net;
 use rounds::net_calm;
-use tables::{Counts, FlatIdx, Wire};
+use tables::{Counts, FlatIdx, Lent, Wire};
 use value::Value;
 
 // Which ports of a component.
@@ -175,213 +176,90 @@ fn value_in(
 }
 
 // What the questions for sources and targets check: 2, with the list that is lent for the answer; 16; 17.
-fn list_number(
-    components: &[u64],
-    inputs: &[u64],
-    outputs: &[u64],
-    wires: &[u16],
-    current: &[u16],
-    following: &[u16],
-    standing: &[u16],
-    counts: Counts,
-    i: usize,
-    list: &[u16],
-) -> u32
-    ensures { result ≡ list_number (tables_of components.now inputs.now outputs.now wires.now
-        current.now following.now standing.now counts) i list.now }
+fn check_list(lent: &Lent, i: usize, list: &[u16]) -> Result<(), Refusal>
+    ensures { result ≡ refusing (list_number lent.now i list.now) }
 {
     if list.len() < NAMES {
-        return 2;
+        return Err(refused_by(2));
     }
-    let number = net::net_number(
-        components, inputs, outputs, wires, current, following, standing, counts,
-    );
-    if number != 0 {
-        return number;
+    check_net(lent)?;
+    if lent.counts().components <= i {
+        return Err(refused_by(17));
     }
-    if counts.components <= i {
-        return 17;
-    }
-    0
+    Ok(())
 }
 
 // Lists what wires join to component i, where nothing is refused.
 fn list_joined(
-    components: &[u64],
-    inputs: &[u64],
-    outputs: &[u64],
-    wires: &[u16],
-    current: &[u16],
-    following: &[u16],
-    standing: &[u16],
-    counts: Counts,
+    lent: &Lent,
     near: Tip,
     far: Tip,
     i: usize,
     list: &mut [u16],
 ) -> Result<usize, Refusal>
-    ensures { let before = tables_of components.now inputs.now outputs.now wires.now
-        current.now following.now standing.now counts in
-        Listing (list_number before i list.old) (met wires.now counts.wires near far i counts.components)
+    ensures { Listing (list_number lent.now i list.old) (met lent.now.wires lent.now.counts.wires near far i lent.now.counts.components)
         list.old result list.new }
 {
-    let number = list_number(
-        components, inputs, outputs, wires, current, following, standing, counts, i, list,
-    );
-    if number != 0 {
-        return Err(refused_by(number));
-    }
-    Ok(list_ends(wires, counts, near, far, i, list))
+    check_list(lent, i, list)?;
+    Ok(list_ends(lent.wires(), lent.counts(), near, far, i, list))
 }
 
 // Calm or not: whether all three lists name only Clocks.
-pub fn is_calm(
-    components: &[u64],
-    inputs: &[u64],
-    outputs: &[u64],
-    wires: &[u16],
-    current: &[u16],
-    following: &[u16],
-    standing: &[u16],
-    counts: Counts,
-) -> Result<bool, Refusal>
-    ensures { let before = tables_of components.now inputs.now outputs.now wires.now
-        current.now following.now standing.now counts in
-        AsksCalm before result }
+pub fn is_calm(lent: &Lent) -> Result<bool, Refusal>
+    ensures { AsksCalm lent.now result }
 {
-    let number = net::net_number(
-        components, inputs, outputs, wires, current, following, standing, counts,
-    );
-    if number != 0 {
-        return Err(refused_by(number));
-    }
-    Ok(net_calm(components, current, following, standing, counts))
-}
-
-// Satisfied or not: whether the values are right at the components that the lists name and at the wires that leave them.
-pub fn is_satisfied(
-    components: &[u64],
-    inputs: &[u64],
-    outputs: &[u64],
-    wires: &[u16],
-    current: &[u16],
-    following: &[u16],
-    standing: &[u16],
-    counts: Counts,
-) -> Result<bool, Refusal>
-    ensures { let before = tables_of components.now inputs.now outputs.now wires.now
-        current.now following.now standing.now counts in
-        AsksSatisfied before result }
-{
-    let number = net::net_number(
-        components, inputs, outputs, wires, current, following, standing, counts,
-    );
-    if number != 0 {
-        return Err(refused_by(number));
-    }
-    Ok(net_satisfied(
-        components, inputs, outputs, wires, current, following, standing, counts,
+    check_net(lent)?;
+    Ok(net_calm(
+        lent.components(),
+        lent.current(),
+        lent.following(),
+        lent.standing(),
+        lent.counts(),
     ))
 }
 
-// The index of an id.
-pub fn index_of(
-    components: &[u64],
-    inputs: &[u64],
-    outputs: &[u64],
-    wires: &[u16],
-    current: &[u16],
-    following: &[u16],
-    standing: &[u16],
-    counts: Counts,
-    id: Id,
-) -> Result<FlatIdx, Refusal>
-    ensures { let before = tables_of components.now inputs.now outputs.now wires.now
-        current.now following.now standing.now counts in
-        AsksIndex before id.0 result }
+// Satisfied or not: whether the values are right at the components that the lists name and at the wires that leave them.
+pub fn is_satisfied(lent: &Lent) -> Result<bool, Refusal>
+    ensures { AsksSatisfied lent.now result }
 {
-    let number = net::net_number(
-        components, inputs, outputs, wires, current, following, standing, counts,
-    );
-    if number != 0 {
-        return Err(refused_by(number));
-    }
-    search_id(components, counts.components, id)
+    check_net(lent)?;
+    Ok(net_satisfied(lent))
+}
+
+// The index of an id.
+pub fn index_of(lent: &Lent, id: Id) -> Result<FlatIdx, Refusal>
+    ensures { AsksIndex lent.now id.0 result }
+{
+    check_net(lent)?;
+    search_id(lent.components(), lent.counts().components, id)
 }
 
 // The value of a port of a component on a side.
-pub fn value_of(
-    components: &[u64],
-    inputs: &[u64],
-    outputs: &[u64],
-    wires: &[u16],
-    current: &[u16],
-    following: &[u16],
-    standing: &[u16],
-    counts: Counts,
-    side: Side,
-    index: FlatIdx,
-    port: usize,
-) -> Result<Value, Refusal>
-    ensures { let before = tables_of components.now inputs.now outputs.now wires.now
-        current.now following.now standing.now counts in
-        AsksValue before side index.0 port result }
+pub fn value_of(lent: &Lent, side: Side, index: FlatIdx, port: usize) -> Result<Value, Refusal>
+    ensures { AsksValue lent.now side index.0 port result }
 {
-    let number = net::net_number(
-        components, inputs, outputs, wires, current, following, standing, counts,
-    );
-    if number != 0 {
-        return Err(refused_by(number));
-    }
-    value_in(components, inputs, outputs, counts, side, index.0, port)
+    check_net(lent)?;
+    value_in(
+        lent.components(),
+        lent.inputs(),
+        lent.outputs(),
+        lent.counts(),
+        side,
+        index.0,
+        port,
+    )
 }
 
 // A component's sources, ascending and without repeats, into a list of full size. The answer is how many they are.
-pub fn sources_of(
-    components: &[u64],
-    inputs: &[u64],
-    outputs: &[u64],
-    wires: &[u16],
-    current: &[u16],
-    following: &[u16],
-    standing: &[u16],
-    counts: Counts,
-    index: FlatIdx,
-    list: &mut [u16],
-) -> Result<usize, Refusal>
-    ensures { let before = tables_of components.now inputs.now outputs.now wires.now
-        current.now following.now standing.now counts in
-        AsksSources before index.0 list.old result list.new }
+pub fn sources_of(lent: &Lent, index: FlatIdx, list: &mut [u16]) -> Result<usize, Refusal>
+    ensures { AsksSources lent.now index.0 list.old result list.new }
 {
-    let near = Tip::Target;
-    let far = Tip::Source;
-    list_joined(
-        components, inputs, outputs, wires, current, following, standing, counts, near, far,
-        index.0, list,
-    )
+    list_joined(lent, Tip::Target, Tip::Source, index.0, list)
 }
 
 // A component's targets, likewise.
-pub fn targets_of(
-    components: &[u64],
-    inputs: &[u64],
-    outputs: &[u64],
-    wires: &[u16],
-    current: &[u16],
-    following: &[u16],
-    standing: &[u16],
-    counts: Counts,
-    index: FlatIdx,
-    list: &mut [u16],
-) -> Result<usize, Refusal>
-    ensures { let before = tables_of components.now inputs.now outputs.now wires.now
-        current.now following.now standing.now counts in
-        AsksTargets before index.0 list.old result list.new }
+pub fn targets_of(lent: &Lent, index: FlatIdx, list: &mut [u16]) -> Result<usize, Refusal>
+    ensures { AsksTargets lent.now index.0 list.old result list.new }
 {
-    let near = Tip::Source;
-    let far = Tip::Target;
-    list_joined(
-        components, inputs, outputs, wires, current, following, standing, counts, near, far,
-        index.0, list,
-    )
+    list_joined(lent, Tip::Source, Tip::Target, index.0, list)
 }

@@ -95,7 +95,7 @@ ordered_tables-unbroken T order bits ran t u z a = by_number (eqb (ordered_numbe
     by_number true e =
         subst (λ (r : Bool). Unbroken (round_by (wires_by T order) u T) r u) (sym (or-true ran))
         (round_unbroken T (wires_by T order)
-        (order_order T order bits (ordered_number T order bits) refl (eqb-true (ordered_number T order bits) 0 e)) ran t u z a)
+        (order_order T order bits (eqb-true (ordered_number T order bits) 0 e)) ran t u z a)
     by_number false e = subst (λ (r : Bool). Unbroken T r t) (sym (or-false ran)) a
 
 -- An edit as a call keeps it, of either way, refused or not.

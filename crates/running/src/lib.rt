@@ -9,7 +9,7 @@ ghost use Rattle.running.specs.Running.{ending, round_lines};
 ghost use Rattle.running.specs.Made.{RoundMade, calm_of};
 
 use kinds::Refusal;
-use tables::Counts;
+use tables::{Counts, Lent};
 
 // The most rounds.
 const ROUNDS: u64 = 16;
@@ -64,12 +64,12 @@ fn round_left(
         components, inputs, outputs, wires, current, following, standing, &mut moved, counts, 0,
     );
     let new = counts_of(made, counts);
-    let asked = questions::is_calm(
+    let lent = Lent::new(
         components, inputs, outputs, wires, current, following, standing, new,
     );
     Left {
         counts: new,
-        calm: calm_of(asked),
+        calm: calm_of(questions::is_calm(&lent)),
     }
 }
 

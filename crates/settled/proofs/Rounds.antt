@@ -73,7 +73,7 @@ module _ (T₀ : Tables) where
       ran_after k (net_number T) (run limit u T).rounds T (run limit u T).tables r (λ q. ran_run limit k u T z r)
   ran_call (calls.ordered u order bits) k T e z r =
       ran_after k (ordered_number T order bits) 1 T (round_by (wires_by T order) u T) r
-      (λ q. ran_count (omega arith) (stepped (wires_by T order) u (order_order T order bits (ordered_number T order bits) refl q) r))
+      (λ q. ran_count (omega arith) (stepped (wires_by T order) u (order_order T order bits q) r))
 
 -- A call that runs a round or more is one that has run.
 ran_after_some : (j m : ℕ) → 1 ≤ after j m 0 → (eqb j 0 ≡ true) × (1 ≤ m)

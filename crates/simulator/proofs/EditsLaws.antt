@@ -18,11 +18,13 @@ use Rattle.value.specs.Value.{fits, of_width}
 use Rattle.kinds.specs.declared.Kind.TheVariants.{Switch, Input}
 use Rattle.kinds.specs.declared.table.Fields.{Fields}
 use Rattle.kinds.specs.Kinds.{is, primitive, obeys, input_width, output_width}
-use Rattle.kinds.specs.Given.{refused_by}
+use Rattle.kinds.specs.declared.answers.Refusal.{Refusal}
+use Rattle.kinds.specs.Given.{Verdict, refusing}
+use Rattle.kinds.proofs.GivenLaws.{refusing_err}
 use Rattle.tables.specs.declared.Counts.{Counts}
 use Rattle.tables.specs.Tables.{Tables, tables_of, fields_at, first_input, first_output, current_list, standing_list, wire_at}
 use Rattle.tables.specs.Words.{RowInside, fields_in}
-use Rattle.net.specs.Net.{names, net_number}
+use Rattle.net.specs.Net.{names, net_number, Checks}
 use Rattle.net.proofs.NetLaws.{net_number-net, net_number-sizes}
 use Rattle.rounds.specs.Round.{State, with_inputs, with_outputs, state_of, leave}
 use Rattle.simulator.specs.Edit.{Way, goes_first, stands, port_set, edited_state}
@@ -81,9 +83,10 @@ module _ (T : Tables) (i v : ℕ) where
   abbrev checks : List (ℕ × Bool)
   checks = (17 if leb T.counts.components i) ∷ from_18
 
-  pub edit_refused : (k : ℕ) → k ≡ net_number T → (k ≡ 0 → ⊥) → k ≡ edit_number T i v
+  pub edit_refused : (said : Verdict) (r : Refusal) → Checks T said → said ≡ Err r → ◌≡◌ {A = Verdict} (Err r) (refusing (edit_number T i v))
   unfolding edit_number
-  edit_refused k e ne = sym (number_refused T (refusal checks) k e ne)
+  edit_refused said r e f =
+      sym f ∙ e ∙ ap refusing (sym (number_refused T (refusal checks) (net_number T) refl (refusing_err (net_number T) said r e f).0))
 
   pub edit_net : net_number T ≡ 0 → (d : Bool) → d ≡ entered T.wires T.counts.wires i
       → edit_refusal T.components T.counts.components d i v ≡ edit_number T i v
@@ -191,18 +194,18 @@ module _ (cs ins outs ws cur fol std : List ℕ) (m : Counts) (i v : ℕ) where
         standing = n;
       }
 
-  -- The number k was given, and the port set where it is 0.
-  module _ (k : ℕ) (e : k ≡ edit_number came i v) (ins' outs' : List ℕ) (ei : ins' ≡ after k (inputs_set cs i v ins) ins)
-      (eo : outs' ≡ after k (outputs_set cs i v outs) outs) where
+  -- The port is set where no check refuses.
+  module _ (ins' outs' : List ℕ) (ei : ins' ≡ after (edit_number came i v) (inputs_set cs i v ins) ins)
+      (eo : outs' ≡ after (edit_number came i v) (outputs_set cs i v outs) outs) where
     -- Refused: nothing was written.
-    pub edit_kept : (way : Way) → (k ≡ 0 → ⊥) → Edits way i v came (Err (refused_by k)) (tables_of cs ins' outs' ws cur fol std m)
+    pub edit_kept : (way : Way) (said : Verdict) (r : Refusal) → said ≡ refusing (edit_number came i v) → said ≡ Err r
+        → Edits way i v came (Err r) (tables_of cs ins' outs' ws cur fol std m)
     unfolding edit_tables
-    edit_kept way ne = rw (← e, ei, eo, ne_eqb k 0 ne) (refl, refl)
+    edit_kept way said r e f =
+        let p = refusing_err (edit_number came i v) said r e f in
+        rw (p.1, ei, eo, ne_eqb (edit_number came i v) 0 p.0) (refl, refl)
 
-    module _ (z : k ≡ 0) where
-      none : edit_number came i v ≡ 0
-      none = sym e ∙ z
-
+    module _ (none : edit_number came i v ≡ 0) where
       net : net_number came ≡ 0
       net = edit_is_net came i v none
 
@@ -217,7 +220,7 @@ module _ (cs ins outs ws cur fol std : List ℕ) (m : Counts) (i v : ℕ) where
               port_set-ports came i v (state_of came),
               ei,
               eo,
-              z,
+              none,
               en,
               es,
               overlay_same m.following fol (following_in came net),
@@ -237,7 +240,7 @@ module _ (cs ins outs ws cur fol std : List ℕ) (m : Counts) (i v : ℕ) where
               port_set-ports came i v (state_of came),
               ei,
               eo,
-              z,
+              none,
               en,
               es,
               overlay_same m.current cur (current_in came net),

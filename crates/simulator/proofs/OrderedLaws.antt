@@ -1,7 +1,7 @@
 -- Rounds in an order as calls: what the number says, the answer and the tables of a refused call and of one that is made; an order of all wires is one
 -- in the sense of what rounds keep; and a round in an order keeps a net a net.
 -- Assumes nothing.
-use mathlib.Core.Path.{◌≡◌, refl, sym, ◌∙◌, subst}
+use mathlib.Core.Path.{◌≡◌, refl, sym, ap, ◌∙◌, subst}
 use mathlib.Core.Bool.{Bool, true, false, cond, not, ◌||◌}
 use mathlib.Core.List.{List, [], ◌∷◌}
 use Prim.Native.Nat.{ℕ, ◌≤◌}
@@ -14,12 +14,15 @@ use Rattle.lists.specs.Lists.{from, overlay, refusal, ◌if◌}
 use Rattle.lists.proofs.TestsLaws.{or_left, or_right}
 use Rattle.lists.proofs.MembersLaws.{In, map_sound, map_complete, from0_sound}
 use Rattle.lists.proofs.NamesLaws.{Names, names_sound, names_all}
-use Rattle.kinds.specs.Given.{refused_by}
+use Rattle.kinds.specs.declared.answers.Refusal.{Refusal}
+use Rattle.kinds.specs.Given.{Verdict, refusing}
+use Rattle.kinds.proofs.GivenLaws.{refusing_err}
 use Rattle.tables.specs.declared.Wire.{Wire}
 use Rattle.tables.specs.declared.Counts.{Counts}
 use Rattle.tables.specs.Tables.{Tables, wire_at, wires_in}
 use Rattle.tables.proofs.SameLaws.{SameWiring, same_wiring-none}
-use Rattle.net.specs.Net.{net_number}
+use Rattle.net.specs.Net.{net_number, Checks}
+use Rattle.net.proofs.NetLaws.{passed_net}
 use Rattle.rounds.specs.Round.{state_of, wires_from, order_list, is_order, round, bits_by, round_by}
 use Rattle.rounds.proofs.Sound.{net_within, wire_in_lem}
 use Rattle.rounds.proofs.Held.{Order}
@@ -46,19 +49,21 @@ module _ (T : Tables) (order bits : List ℕ) where
   unfolding ordered_number
   ordered_short h = rw h
 
-  module _ (room : (ltb (length order) 1024 || ltb (length bits) 256) ≡ false) (k : ℕ) (number : k ≡ net_number T) where
-    pub ordered_unnet : (k ≡ 0 → ⊥) → k ≡ ordered_number T order bits
+  module _ (room : (ltb (length order) 1024 || ltb (length bits) 256) ≡ false) (v : Verdict) (said : Checks T v) where
+    pub ordered_unnet : (r : Refusal) → v ≡ Err r → ◌≡◌ {A = Verdict} (Err r) (refusing (ordered_number T order bits))
     unfolding ordered_number
-    ordered_unnet refused = rw (room, ne_eqb (net_number T) 0 (λ q. refused (number ∙ q))) number
+    ordered_unnet r e =
+        let p = refusing_err (net_number T) v r said e in
+        sym e ∙ said ∙ ap refusing (rw (room, ne_eqb (net_number T) 0 p.0) refl)
 
-    module _ (zero : k ≡ 0) (b : Bool) (each : b ≡ is_order T.counts.wires order) where
+    module _ (passed : v ≡ Ok tt) (b : Bool) (each : b ≡ is_order T.counts.wires order) where
       pub ordered_repeats : not b ≡ true → 24 ≡ ordered_number T order bits
       unfolding ordered_number
-      ordered_repeats e = rw (room, eq-eqb (net_number T) 0 (sym number ∙ zero), sym each, e)
+      ordered_repeats e = rw (room, eq-eqb (net_number T) 0 (passed_net T v said passed), sym each, e)
 
       pub ordered_passed : not b ≡ false → 0 ≡ ordered_number T order bits
       unfolding ordered_number
-      ordered_passed e = rw (room, eq-eqb (net_number T) 0 (sym number ∙ zero), sym each, e)
+      ordered_passed e = rw (room, eq-eqb (net_number T) 0 (passed_net T v said passed), sym each, e)
 
   pub order_room : (ltb (length order) 1024 || ltb (length bits) 256) ≡ false → (1024 ≤ length order) × (256 ≤ length bits)
   order_room e = (
@@ -67,16 +72,19 @@ module _ (T : Tables) (order bits : List ℕ) where
   )
 
   -- A call that is refused changes no table.
-  pub ordered_refused : (t k : ℕ) → k ≡ ordered_number T order bits → (k ≡ 0 → ⊥) → RoundsOrdered t order bits T (Err (refused_by k)) T bits
+  pub ordered_refused : (t : ℕ) (v : Verdict) (r : Refusal) → v ≡ refusing (ordered_number T order bits) → v ≡ Err r
+      → RoundsOrdered t order bits T (Err r) T bits
   unfolding ordered_tables ordered_moved
-  ordered_refused t k number refused = rw (number, ne_eqb (ordered_number T order bits) 0 (λ q. refused (number ∙ q))) ((refl, refl), refl)
+  ordered_refused t v r said e =
+      let p = refusing_err (ordered_number T order bits) v r said e in
+      rw (p.1, ne_eqb (ordered_number T order bits) 0 p.0) ((refl, refl), refl)
 
   -- One that is made: the tables are a net, and the order is each wire once.
-  module _ (k : ℕ) (number : k ≡ ordered_number T order bits) (zero : k ≡ 0) where
+  module _ (none : ordered_number T order bits ≡ 0) where
     made : ((ltb (length order) 1024 || ltb (length bits) 256) ≡ false) × (net_number T ≡ 0) × (is_order T.counts.wires order ≡ true)
     unfolding ordered_number
     made =
-        checked (ltb (length order) 1024 || ltb (length bits) 256) (net_number T) (is_order T.counts.wires order) (sym number ∙ zero)
+        checked (ltb (length order) 1024 || ltb (length bits) 256) (net_number T) (is_order T.counts.wires order) none
 
     pub made_room : (1024 ≤ length order) × (256 ≤ length bits)
     made_room = order_room made.0
@@ -93,7 +101,7 @@ module _ (T : Tables) (order bits : List ℕ) where
     pub ordered_made : (t : ℕ) (U : Tables) (r : Counts) (moved : List ℕ) → counted U r ≡ round_by (wires_by T order) t T
         → moved ≡ overlay (bits_by (wires_by T order) t T) bits → RoundsOrdered t order bits T (Ok r) (counted U r) moved
     unfolding ordered_tables ordered_moved
-    ordered_made t U r moved so over = rw (eq-eqb (ordered_number T order bits) 0 (sym number ∙ zero)) ((refl, so), over)
+    ordered_made t U r moved so over = rw (eq-eqb (ordered_number T order bits) 0 none) ((refl, so), over)
 
     order_names : Names T.counts.wires (order_list T.counts.wires order)
     unfolding is_order
@@ -130,4 +138,4 @@ module _ (T : Tables) (order bits : List ℕ) (t : ℕ) where
   unfolding ordered_tables
   ordered_tables-net z =
       by_number (λ (U : Tables). net_number U ≡ 0) (ordered_number T order bits) (round_by (wires_by T order) t T) T
-      (λ e. round_net T (wires_by T order) (order_order T order bits (ordered_number T order bits) refl e) t z) z
+      (λ e. round_net T (wires_by T order) (order_order T order bits e) t z) z

@@ -15,12 +15,13 @@ use lib.Seq.{length-take-le}
 use lib.Dec.{ltb}
 use Rattle.lists.specs.Lists.{total, overlay}
 use Rattle.lists.proofs.TestsLaws.{and_left, and_right}
-use Rattle.kinds.specs.Given.{refused_by, done}
+use Rattle.kinds.specs.declared.answers.Refusal.{Refusal}
+use Rattle.kinds.specs.Given.{Verdict, done}
 use Rattle.tables.specs.declared.Counts.{Counts}
 use Rattle.tables.specs.declared.Wire.{Wire}
 use Rattle.tables.specs.Tables.{Tables, wires_in, current_list, count_words}
 use Rattle.tables.proofs.NamedLaws.{overlay_list}
-use Rattle.net.specs.Net.{net_number}
+use Rattle.net.specs.Net.{net_number, Checks}
 use Rattle.rounds.specs.Round.{state_of, wires_from, moved_by, calm, round_bits, round_of}
 use Rattle.rounds.proofs.MovedLaws.{moved_by-length}
 use Rattle.simulator.specs.Calls.{round_tables, bits_set, Run, no_round, once_more, run_by, run, run_tables, Runs}
@@ -133,15 +134,17 @@ pub test_below : (b : Bool) (r limit : ℕ) → (not b && ltb r limit) ≡ true 
 test_below b r limit e = ltb-true r limit (and_right (not b) (ltb r limit) e)
 
 -- The call.
-module _ (T : Tables) (t limit k : ℕ) (number : k ≡ net_number T) where
-  pub run_refused : (k ≡ 0 → ⊥) → Runs t limit T (Err (refused_by k)) T
+module _ (T : Tables) (t limit : ℕ) (v : Verdict) (said : Checks T v) where
+  pub run_refused : (r : Refusal) → v ≡ Err r → Runs t limit T (Err r) T
   unfolding run_tables
-  run_refused refused = rw (number, call_refused T k number refused) (refl, refl)
+  run_refused r e =
+      let p = call_refused T v said r e in
+      rw (p.1, p.0) (refl, refl)
 
-  pub run_made : k ≡ 0 → (U : Tables) (m : Counts) (rounds evaluations moved : ℕ)
+  pub run_made : v ≡ Ok tt → (U : Tables) (m : Counts) (rounds evaluations moved : ℕ)
       → record { tables = counted U m; rounds = rounds; evaluations = evaluations; moved = moved } ≡ run limit t T
       → Runs t limit T (Ok (record { counts = m; rounds = rounds; evaluations = evaluations; moved = moved })) (counted U m)
   unfolding run_tables
-  run_made zero U m rounds evaluations moved made =
-      rw (call_made T k number zero)
+  run_made passed U m rounds evaluations moved made =
+      rw (call_made T v said passed)
       (ap (λ (x : Run). done (x.rounds ∷ x.evaluations ∷ x.moved ∷ count_words m)) made, ap (λ (x : Run). x.tables) made)

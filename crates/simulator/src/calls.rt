@@ -8,8 +8,9 @@ ghost use Rattle.simulator.specs.Calls.{Rounds, run, counts_after_run, Runs};
 use crate::Ran;
 use crate::moved::count_moved;
 use kinds::{Refusal, refused_by};
+use net::check_net;
 use rounds::{NO_WIRE, link_once, net_calm, net_round};
-use tables::Counts;
+use tables::{Counts, Lent};
 
 // Full size of a table of bits: a word for each component that a round can evaluate.
 pub(crate) const WORDS: usize = 256;
@@ -37,12 +38,10 @@ pub fn round(
     if moved.len() < WORDS {
         return Err(refused_by(2));
     }
-    let number = net::net_number(
+    let lent = Lent::new(
         components, inputs, outputs, wires, current, following, standing, counts,
     );
-    if number != 0 {
-        return Err(refused_by(number));
-    }
+    check_net(&lent)?;
     let mut head = [NO_WIRE; 256];
     let mut after = [0u16; 1024];
     link_once(
@@ -139,12 +138,10 @@ pub fn run_until_calm(
         current.new following.new standing.new (counts_after_run result counts) in
         Runs time limit before result after }
 {
-    let number = net::net_number(
+    let lent = Lent::new(
         components, inputs, outputs, wires, current, following, standing, counts,
     );
-    if number != 0 {
-        return Err(refused_by(number));
-    }
+    check_net(&lent)?;
     Ok(net_run(
         components, inputs, outputs, wires, current, following, standing, counts, time, limit,
     ))

@@ -3,13 +3,15 @@
 ghost use Rattle.std.specs.Prelude.{◌≡◌, true, ◌<◌, length};
 ghost use Rattle.kinds.specs.declared.Kind.TheVariants.{Switch};
 ghost use Rattle.kinds.specs.Kinds.{is};
+ghost use Rattle.kinds.specs.Given.{refusing};
 ghost use Rattle.tables.specs.Tables.{tables_of};
 ghost use Rattle.tables.specs.Words.{RowInside, WiresInside, fields_fit, fields_in, first_input_in, first_output_in};
 ghost use Rattle.simulator.specs.Calls.{after, edit_number};
 ghost use Rattle.simulator.specs.Asked.{entered, edit_refusal, inputs_set, outputs_set};
 
-use kinds::Kind;
-use tables::Counts;
+use kinds::{Kind, Refusal, refused_by};
+use net::check_net;
+use tables::{Counts, Lent};
 use value::Value;
 
 // Whether one of the first `count` wires enters component i.
@@ -28,17 +30,23 @@ fn is_driven(wires: &[u16], count: usize, i: usize) -> bool
 
 // What an edit checks of a net of `count` components: 17 where there is no component i; 18 where it is neither a Switch nor an Input that
 // no wire has entered; 19 where its value does not fit the port that is set. Crates simulator and slow call it.
-pub fn edit_number(components: &[u64], count: usize, entered: bool, i: usize, number: u64) -> u32
+pub fn check_port(
+    components: &[u64],
+    count: usize,
+    entered: bool,
+    i: usize,
+    number: u64,
+) -> Result<(), Refusal>
     requires { i < count → RowInside components.now i × (fields_fit (fields_in components.now i) ≡ true) }
-    ensures { result ≡ edit_refusal components.now count entered i number }
+    ensures { result ≡ refusing (edit_refusal components.now count entered i number) }
 {
     if count <= i {
-        return 17;
+        return Err(refused_by(17));
     }
     let switch = tables::is_kind(components, i, Kind::Switch);
     let input = tables::is_kind(components, i, Kind::Input);
     if !(switch | (input & !entered)) {
-        return 18;
+        return Err(refused_by(18));
     }
     let f = tables::fields_at(components, i);
     let width = if switch {
@@ -48,9 +56,9 @@ pub fn edit_number(components: &[u64], count: usize, entered: bool, i: usize, nu
     };
     let set = Value { number, width };
     if !set.fits().fits {
-        return 19;
+        return Err(refused_by(19));
     }
-    0
+    Ok(())
 }
 
 // Sets the output of a Switch, and of any other component the first input. Crates simulator and slow call it where no check refuses.
@@ -71,32 +79,16 @@ pub fn set_port(components: &[u64], inputs: &mut [u64], outputs: &mut [u64], i: 
 }
 
 // What an edit checks, on any tables: 2 and 16, then the rest.
-fn edit_checks(
-    components: &[u64],
-    inputs: &[u64],
-    outputs: &[u64],
-    wires: &[u16],
-    current: &[u16],
-    following: &[u16],
-    standing: &[u16],
-    counts: Counts,
-    i: usize,
-    number: u64,
-) -> u32
-    ensures { result ≡ edit_number (tables_of components.now inputs.now outputs.now wires.now
-        current.now following.now standing.now counts) i number }
+fn check_edit(lent: &Lent, i: usize, number: u64) -> Result<(), Refusal>
+    ensures { result ≡ refusing (edit_number lent.now i number) }
 {
-    let refused = net::net_number(
-        components, inputs, outputs, wires, current, following, standing, counts,
-    );
-    if refused != 0 {
-        return refused;
-    }
-    let entered = is_driven(wires, counts.wires, i);
-    edit_number(components, counts.components, entered, i, number)
+    check_net(lent)?;
+    let counts = lent.counts();
+    let entered = is_driven(lent.wires(), counts.wires, i);
+    check_port(lent.components(), counts.components, entered, i, number)
 }
 
-// Makes the checks of an edit, on any tables, and sets the port where none refuses. The answer is the number.
+// Makes the checks of an edit, on any tables, and sets the port where none refuses.
 pub(crate) fn set_or_refuse(
     components: &[u64],
     inputs: &mut [u64],
@@ -108,18 +100,17 @@ pub(crate) fn set_or_refuse(
     counts: Counts,
     i: usize,
     number: u64,
-) -> u32
-    ensures { (result ≡ edit_number (tables_of components.now inputs.old outputs.old wires.now
-        current.now following.now standing.now counts) i number)
-        × (inputs.new ≡ after result (inputs_set components.now i number inputs.old) inputs.old)
-        × (outputs.new ≡ after result (outputs_set components.now i number outputs.old) outputs.old) }
+) -> Result<(), Refusal>
+    ensures { let k = edit_number (tables_of components.now inputs.old outputs.old wires.now
+        current.now following.now standing.now counts) i number in
+        (result ≡ refusing k)
+        × (inputs.new ≡ after k (inputs_set components.now i number inputs.old) inputs.old)
+        × (outputs.new ≡ after k (outputs_set components.now i number outputs.old) outputs.old) }
 {
-    let refused = edit_checks(
-        components, inputs, outputs, wires, current, following, standing, counts, i, number,
+    let lent = Lent::new(
+        components, inputs, outputs, wires, current, following, standing, counts,
     );
-    if refused != 0 {
-        return refused;
-    }
+    check_edit(&lent, i, number)?;
     set_port(components, inputs, outputs, i, number);
-    0
+    Ok(())
 }

@@ -4,7 +4,7 @@ ghost use Rattle.simulator.specs.Edit.{goes_first};
 ghost use Rattle.simulator.specs.Calls.{Edits};
 
 use crate::edits::set_or_refuse;
-use kinds::{Refusal, refused_by};
+use kinds::Refusal;
 use tables::{Counts, FlatIdx};
 
 // Sets a component's port to a number and appends the component to the current list unless there: the very next round evaluates it. A
@@ -27,12 +27,9 @@ pub fn edit(
         current.new following.now standing.now (counts_after result counts) in
         Edits goes_first index.0 number before result after }
 {
-    let refused = set_or_refuse(
+    set_or_refuse(
         components, inputs, outputs, wires, current, following, standing, counts, index.0, number,
-    );
-    if refused != 0 {
-        return Err(refused_by(refused));
-    }
+    )?;
     let mut left = counts;
     left.current = tables::append_new(current, counts.current, index.0 as u16);
     Ok(left)

@@ -10,7 +10,7 @@ mod ordered;
 mod standing;
 
 pub use calls::{round, run_until_calm};
-pub use edits::{edit_number, set_port};
+pub use edits::{check_port, set_port};
 pub use first::edit;
 pub use moved::count_moved;
 pub use ordered::round_ordered;

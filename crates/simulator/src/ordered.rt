@@ -1,46 +1,31 @@
 // A round that is handed an order of all wires, on any tables and counts. Rule: docs/SPECIFICATION.md, "Rounds" (orders) and "Numbers
 // given back". The Rust has none but its stored order.
 ghost use Rattle.std.specs.Prelude.{◌≡◌};
+ghost use Rattle.kinds.specs.Given.{refusing};
 ghost use Rattle.tables.specs.Tables.{tables_of, counts_after};
 ghost use Rattle.simulator.specs.Ordered.{ordered_number, RoundsOrdered};
 
 use crate::calls::WORDS;
 use kinds::{Refusal, refused_by};
+use net::check_net;
 use rounds::{NO_WIRE, is_order, link_by, net_round};
-use tables::Counts;
+use tables::{Counts, Lent};
 
 // Full size of an order's table: a word for each wire that a net can have.
 const ORDER: usize = 1024;
 
 // What such a round checks: 2, 16, 24.
-fn order_checks(
-    components: &[u64],
-    inputs: &[u64],
-    outputs: &[u64],
-    wires: &[u16],
-    current: &[u16],
-    following: &[u16],
-    standing: &[u16],
-    order: &[u16],
-    moved: &[u64],
-    counts: Counts,
-) -> u32
-    ensures { result ≡ ordered_number (tables_of components.now inputs.now outputs.now wires.now
-        current.now following.now standing.now counts) order.now moved.now }
+fn check_order(lent: &Lent, order: &[u16], moved: &[u64]) -> Result<(), Refusal>
+    ensures { result ≡ refusing (ordered_number lent.now order.now moved.now) }
 {
     if (order.len() < ORDER) | (moved.len() < WORDS) {
-        return 2;
+        return Err(refused_by(2));
     }
-    let refused = net::net_number(
-        components, inputs, outputs, wires, current, following, standing, counts,
-    );
-    if refused != 0 {
-        return refused;
+    check_net(lent)?;
+    if !is_order(order, lent.counts().wires) {
+        return Err(refused_by(24));
     }
-    if !is_order(order, counts.wires) {
-        return 24;
-    }
-    0
+    Ok(())
 }
 
 // A round at a time in which each component's wires follow the order: its first words, as many as there are wires, name each wire once.
@@ -64,12 +49,10 @@ pub fn round_ordered(
         current.new following.new standing.new (counts_after result counts) in
         RoundsOrdered time order.now moved.old before result after moved.new }
 {
-    let number = order_checks(
-        components, inputs, outputs, wires, current, following, standing, order, moved, counts,
+    let lent = Lent::new(
+        components, inputs, outputs, wires, current, following, standing, counts,
     );
-    if number != 0 {
-        return Err(refused_by(number));
-    }
+    check_order(&lent, order, moved)?;
     let mut head = [NO_WIRE; 256];
     let mut after = [0u16; 1024];
     link_by(wires, order, counts.wires, &mut head, &mut after);

@@ -4,7 +4,7 @@ ghost use Rattle.simulator.specs.Edit.{stands};
 ghost use Rattle.simulator.specs.Calls.{Edits};
 
 use crate::edits::set_or_refuse;
-use kinds::{Refusal, refused_by};
+use kinds::Refusal;
 use tables::{Counts, FlatIdx};
 
 // The old way of an edit: sets the port likewise and appends the component to the standing list unless there, so that it is evaluated no
@@ -27,12 +27,9 @@ pub fn edit_standing(
         current.now following.now standing.new (counts_after result counts) in
         Edits stands index.0 number before result after }
 {
-    let refused = set_or_refuse(
+    set_or_refuse(
         components, inputs, outputs, wires, current, following, standing, counts, index.0, number,
-    );
-    if refused != 0 {
-        return Err(refused_by(refused));
-    }
+    )?;
     let mut left = counts;
     left.standing = tables::append_new(standing, counts.standing, index.0 as u16);
     Ok(left)

@@ -5,7 +5,7 @@ use Prim.Native.Nat.{ℕ, ◌≤◌, ◌<◌}
 use mathlib.Core.Bool.{Bool, true, false, cond, not, ◌&&◌, ◌||◌}
 use mathlib.Core.List.{List, [], ◌∷◌}
 use native.Mathlib.Omega.{arith}
-use borrow.Author.Tests.{ne_eqb, leb-false, not-false}
+use borrow.Author.Tests.{leb-false, not-false}
 use lib.ListN.{length, take, take-append-drop}
 use lib.Seq.{length-take-le}
 use lib.Dec.{leb}
@@ -15,7 +15,7 @@ use Rattle.lists.proofs.TestsLaws.{and_left}
 use Rattle.kinds.specs.declared.answers.Refusal.{Refusal}
 use Rattle.kinds.specs.declared.Kind.TheVariants.{Switch, Input}
 use Rattle.kinds.specs.Kinds.{is, input_width, output_width}
-use Rattle.kinds.specs.Given.{refused_by, Verdict}
+use Rattle.kinds.specs.Given.{refusing, Verdict}
 use Rattle.value.specs.Value.{fits, of_width}
 use Rattle.component.specs.declared.Record.{Record}
 use Rattle.component.specs.Record.{record_at, record_count}
@@ -107,12 +107,11 @@ module _ (file ix fs cs : List ℕ) (k : ℕ) (ins outs cur fol std : List ℕ) 
         ∙ accepted_behind file (slow_full S) (refusal ((20 if not (slow_right (record_at file) (record_count file) S)) ∷ [])) own
         (ap (λ (b : Bool). refusal ((20 if not b) ∷ [])) p.right) h
 
-    pub edit_refused : (Ok tt) ≡ slow_verdict file (slow_full S) (slow_number (record_at file) (record_count file) S) → (r : ℕ) → r ≡ own → (r ≡ 0 → ⊥)
-        → (Err (refused_by r) ≡ slow_edit_verdict file S i v)
-        × (ins ≡ set_by (Err (refused_by r)) (drawn_inputs (record_at file) (record_count file) i v ins) ins)
-        × (outs ≡ set_by (Err (refused_by r)) (drawn_outputs (record_at file) (record_count file) i v outs) outs)
-    edit_refused h r e ne =
-        (sym (edit_verdict h ∙ rw (← e, ne_eqb r 0 ne)), refl, refl)
+    pub edit_refused : (Ok tt) ≡ slow_verdict file (slow_full S) (slow_number (record_at file) (record_count file) S) → (said : Verdict) → said ≡ refusing own
+        → (r : Refusal) → said ≡ Err r
+        → (Err r ≡ slow_edit_verdict file S i v) × (ins ≡ set_by (Err r) (drawn_inputs (record_at file) (record_count file) i v ins) ins)
+        × (outs ≡ set_by (Err r) (drawn_outputs (record_at file) (record_count file) i v outs) outs)
+    edit_refused h said e r f = (sym f ∙ e ∙ sym (edit_verdict h), refl, refl)
 
     pub edit_passed : (Ok tt) ≡ slow_verdict file (slow_full S) (slow_number (record_at file) (record_count file) S) → own ≡ 0 → (ins' outs' : List ℕ)
         → ins' ≡ inputs_set cs i v ins → outs' ≡ outputs_set cs i v outs

@@ -8,8 +8,8 @@ ghost use Rattle.slow.specs.Sending.{set_by, drawn_inputs, drawn_outputs};
 use crate::SlowCounts;
 use crate::entering::is_led_into;
 use crate::preparing::{are_full, prepare};
-use kinds::{Refusal, refused_by};
-use simulator::{edit_number, set_port};
+use kinds::Refusal;
+use simulator::{check_port, set_port};
 use tables::FlatIdx;
 
 // Makes the checks of an edit, on any file and tables, and sets the port where none refuses: 1, 2, 3 to 15, 20, 17, 18, 19.
@@ -49,10 +49,7 @@ fn set_or_refuse(
         &mut components,
     )?;
     let entered = is_led_into(file, &index, &indexes, i);
-    let refused = edit_number(&components, count, entered, i, number);
-    if refused != 0 {
-        return Err(refused_by(refused));
-    }
+    check_port(&components, count, entered, i, number)?;
     set_port(&components, inputs, outputs, i, number);
     Ok(())
 }

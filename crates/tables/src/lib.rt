@@ -2,18 +2,18 @@
 // Components are 8 words each, wires 4, ports and the entries of lists 1; an index of a component is a 16-bit number.
 #![tactic(auto)]
 
+mod lent;
 mod named;
 mod rows;
-mod sizes;
 mod wires;
 mod words;
 
+pub use lent::Lent;
 pub use named::{append_new, copy, strike};
 pub use rows::{
     fields_at, fields_fit, first_input, first_output, has_id, id_word, input_count, is_kind,
     kind_word, lay_row, output_count, parameter_word,
 };
-pub use sizes::full_size;
 pub use wires::{lay_wire, wire_at};
 pub use words::{entry, word};
 

@@ -1,34 +1,26 @@
--- `is_calm`: refused by the number, or what the three lists name.
+-- `is_calm`: refused by the check of the net, or what the three lists name.
 -- Assumes nothing.
 use mathlib.Core.Path.{◌∙◌}
-use Rattle.tables.specs.Tables.{Tables, tables_of}
+use Rattle.kinds.proofs.GivenLaws.{handed_on}
+use Rattle.net.proofs.NetLaws.{passed_net}
 use Rattle.rounds.specs.Round.{calm}
 use Rattle.rounds.proofs.RoundLaws.{net_listed, calm_lists}
 use Rattle.questions.proofs.QuestionsLaws.{whether_refused, whether_is}
-use Rattle.net.proofs.NetLaws.{passed_net}
 use Rattle.questions.proofs.is_calm.Goals as goal
-use Rattle.questions.proofs.is_calm.Lts as lts
-use Rattle.questions.proofs.is_calm.Tie as tie
-use Rattle.questions.proofs.is_calm.Reads as reads
 
-abbrev Start : Type 0
-Start = lts.Start tie.the-claims reads.Pre reads.Post
-
-abbrev came : Start → Tables
-came s =
-    let a = s.args in
-    tables_of a.components.now a.inputs.now a.outputs.now a.wires.now a.current.now
-    a.following.now
-    a.standing.now a.counts
-
-pub returns-then-number-ne0 : goal.returns-then-number-ne0
-returns-then-number-ne0 c =
-    rw c.refused_by.ensures (whether_refused (came c.before.before.before.before.before.before.before.before.before.before.before) (calm (came c.before.before.before.before.before.before.before.before.before.before.before)) _ c.net_number-number.ensures c.if-number-ne0.true)
+pub returns-in_err-check_net : goal.returns-in_err-check_net
+returns-in_err-check_net c =
+    rw (handed_on c.from_residual.result _ c.from_residual.ensures.1)
+    (whether_refused c.args.lent.now (calm c.args.lent.now) _ _ c.check_net.ensures c.in_err-check_net.was)
 
 pub net_calm-requires : goal.net_calm-requires
 net_calm-requires c =
-    net_listed (came c.before.before.before.before.before.before.before.before.before.before) (passed_net (came c.before.before.before.before.before.before.before.before.before.before) _ c.net_number-number.ensures c.if-number-ne0.false)
+    let T = c.args.lent.now in
+    rw (c.components.ensures, c.current.ensures, c.following.ensures, c.standing.ensures, c.counts.ensures)
+    (net_listed T (passed_net T _ c.check_net.ensures c.in_ok-check_net.was))
 
 pub returns : goal.returns
 returns c =
-    whether_is (came c.before.before.before.before.before.before.before.before.before.before.before) (calm (came c.before.before.before.before.before.before.before.before.before.before.before)) _ (passed_net (came c.before.before.before.before.before.before.before.before.before.before.before) _ c.net_number-number.ensures c.if-number-ne0.false) (c.net_calm.ensures ∙ calm_lists (came c.before.before.before.before.before.before.before.before.before.before.before))
+    let T = c.args.lent.now in
+    whether_is T (calm T) _ (passed_net T _ c.check_net.ensures c.in_ok-check_net.was)
+    (rw (c.components.ensures, c.current.ensures, c.following.ensures, c.standing.ensures, c.counts.ensures) at c.net_calm.ensures ∙ calm_lists T)

@@ -1,39 +1,25 @@
--- `value_of`: refused by the number, or the value on the net.
+-- `value_of`: refused by the check of the net, or the value on the net.
 -- Assumes nothing.
-use Rattle.tables.specs.Tables.{Tables, tables_of}
-use Rattle.questions.proofs.QuestionsLaws.{net_row, value_refused, value_there}
+use Rattle.kinds.proofs.GivenLaws.{handed_on}
 use Rattle.net.proofs.NetLaws.{passed_net}
+use Rattle.questions.proofs.QuestionsLaws.{net_row, value_refused, value_there}
 use Rattle.questions.proofs.value_of.Goals as goal
-use Rattle.questions.proofs.value_of.Lts as lts
-use Rattle.questions.proofs.value_of.Tie as tie
-use Rattle.questions.proofs.value_of.Reads as reads
 
-abbrev Start : Type 0
-Start = lts.Start tie.the-claims reads.Pre reads.Post
-
-abbrev ElseNumberNe0 : Type 0
-ElseNumberNe0 = lts.Else1 tie.the-claims reads.Pre reads.Post
-
-abbrev came : Start → Tables
-came s =
-    let a = s.args in
-    tables_of a.components.now a.inputs.now a.outputs.now a.wires.now a.current.now
-    a.following.now
-    a.standing.now a.counts
-
-abbrev start : ElseNumberNe0 → Start
-start c = c.before.before.before.before.before.before.before.before.before
-
-pub returns-then-number-ne0 : goal.returns-then-number-ne0
-returns-then-number-ne0 c =
+pub returns-in_err-check_net : goal.returns-in_err-check_net
+returns-in_err-check_net c =
     let a = c.args in
-    rw c.refused_by.ensures (value_refused (came c.before.before.before.before.before.before.before.before.before.before.before) a.side a.index.0 a.port _ c.net_number-number.ensures c.if-number-ne0.true)
+    rw (handed_on c.from_residual.result _ c.from_residual.ensures.1)
+    (value_refused a.lent.now a.side a.index.0 a.port _ _ c.check_net.ensures c.in_err-check_net.was)
 
 pub value_in-requires : goal.value_in-requires
 value_in-requires c =
-    net_row (came c.before.before.before.before.before.before.before.before.before.before) (passed_net (came c.before.before.before.before.before.before.before.before.before.before) _ c.net_number-number.ensures c.if-number-ne0.false) c.args.index.0
+    let T = c.args.lent.now in
+    rw (c.components.ensures, c.inputs.ensures, c.outputs.ensures, c.counts.ensures)
+    (net_row T (passed_net T _ c.check_net.ensures c.in_ok-check_net.was) c.args.index.0)
 
 pub returns : goal.returns
 returns c =
     let a = c.args in
-    value_there (came c.before.before.before.before.before.before.before.before.before.before.before) a.side a.index.0 a.port c.value_in.result (passed_net (came c.before.before.before.before.before.before.before.before.before.before.before) _ c.net_number-number.ensures c.if-number-ne0.false) c.value_in.ensures
+    let T = a.lent.now in
+    value_there T a.side a.index.0 a.port c.value_in.result (passed_net T _ c.check_net.ensures c.in_ok-check_net.was)
+    (rw (c.components.ensures, c.inputs.ensures, c.outputs.ensures, c.counts.ensures) at c.value_in.ensures)

@@ -1,6 +1,6 @@
--- `berxundar_check`: too few count words, or the number.
+-- `berxundar_check`: too few count words, or the number of the refusal, 0 where there is none.
 -- Assumes nothing.
-use mathlib.Core.Path.{◌≡◌, refl, sym, ap, ◌∙◌, subst}
+use mathlib.Core.Path.{◌≡◌, refl, sym, ap, ◌∙◌}
 use mathlib.Core.Bool.{Bool, true, false, cond}
 use mathlib.Core.List.{[]}
 use Prim.Native.Nat.{ℕ, ◌*◌}
@@ -10,26 +10,16 @@ use lib.ListN.{length}
 use lib.Dec.{eqb}
 use Rattle.lists.specs.Lists.{overlay}
 use Rattle.kinds.specs.Given.{done, declined, refused_by, giving, spoken}
-use Rattle.tables.specs.declared.Counts.{Counts}
-use Rattle.tables.specs.Tables.{Tables, tables_of}
-use Rattle.net.specs.Net.{net_number, Checks}
+use Rattle.tables.specs.Tables.{tables_of}
+use Rattle.kinds.specs.declared.answers.Refusal.{Refusal}
+use Rattle.kinds.proofs.GivenLaws.{refusing_err}
+use Rattle.net.specs.Net.{net_number}
+use Rattle.net.proofs.NetLaws.{passed_net}
+use Rattle.asking.specs.Asking.{Numbers}
 use Rattle.words.specs.Words.{values_in}
 use Rattle.words.proofs.PlainLaws.{net_small, Plain, giving_plain}
 use Rattle.asking.proofs.AskingLaws.{ask_short, ask_made}
 use Rattle.asking.proofs.is_net.berxundar_check.Goals as goal
-use Rattle.asking.proofs.is_net.berxundar_check.Lts as lts
-use Rattle.asking.proofs.is_net.berxundar_check.Tie as tie
-use Rattle.asking.proofs.is_net.berxundar_check.Reads as reads
-
-abbrev Start : Type 0
-Start = lts.Start tie.the-claims reads.Pre reads.Post
-
--- The tables that came in, by their counts.
-abbrev came : Start → Counts → Tables
-came s =
-    tables_of s.args.components.now s.args.inputs.now s.args.outputs.now s.args.wires.now
-    s.args.current.now
-    s.args.following.now s.args.standing.now
 
 -- A number that is given with no values is said as it is, and lays nothing.
 said : (k : ℕ) → Plain (giving k []) → 65536 * k ≡ spoken (giving k [])
@@ -49,18 +39,28 @@ none k = by_test (eqb k 0)
 
 pub returns-then-counts-lt7 : goal.returns-then-counts-lt7
 returns-then-counts-lt7 c =
-    ask_short _ _ _ _ _ (came c.before.before.before.before.before.before.before.before.before.before) (lt-ltb (length c.args.counts.now) 7 c.if-counts-lt7.true)
+    let a = c.args in
+    ask_short _ Numbers _ _ _ (tables_of a.components.now a.inputs.now a.outputs.now a.wires.now a.current.now a.following.now a.standing.now) (lt-ltb (length a.counts.now) 7 c.if-counts-lt7.true)
 
 pub speak-requires : goal.speak-requires
 speak-requires c =
-    rw c.net_number-number.ensures (omega (arith, net_small (came c.before.before.before.before.before.before.before.before.before.before.before.before c.counts_in.result)))
+    let p = refusing_err (net_number c.new-lent.result) _ _ c.check_net.ensures c.in-Err.is in
+    rw p.1 (omega (arith, net_small c.new-lent.result))
 
-pub returns : goal.returns
-returns c =
-    let m = c.counts_in in
-    let k = c.net_number-number in
-    let n = net_number (came c.before.before.before.before.before.before.before.before.before.before.before.before.before m.result) in
-    let p = subst (λ (x : ℕ). Plain (giving x [])) (sym k.ensures) (giving_plain n [] (net_small (came c.before.before.before.before.before.before.before.before.before.before.before.before.before m.result))) in
-    ask_made (λ (x : ℕ). giving x []) Checks _ c.args.counts.now [] (came c.before.before.before.before.before.before.before.before.before.before.before.before.before) k.result m.result [] c.speak.result
-    (le-ltb (length c.args.counts.now) 7 c.if-counts-lt7.false) m.ensures k.ensures
-    (c.speak.ensures ∙ said k.result p) (none k.result)
+pub returns-in-Ok : goal.returns-in-Ok
+returns-in-Ok c =
+    let a = c.args in
+    let came = tables_of a.components.now a.inputs.now a.outputs.now a.wires.now a.current.now a.following.now a.standing.now in
+    let z = passed_net (came c.counts_in.result) _ (rw c.new-lent.ensures at c.check_net.ensures) c.in-Ok.is in
+    ask_made (λ (x : ℕ). giving x []) Numbers _ a.counts.now [] came 0 c.counts_in.result [] 0
+    (le-ltb (length a.counts.now) 7 c.if-counts-lt7.false) c.counts_in.ensures (sym z) refl (none 0)
+
+pub returns-in-Err : goal.returns-in-Err
+returns-in-Err c =
+    let a = c.args in
+    let came = tables_of a.components.now a.inputs.now a.outputs.now a.wires.now a.current.now a.following.now a.standing.now in
+    let n = net_number (came c.counts_in.result) in
+    let p = refusing_err n _ _ (rw c.new-lent.ensures at c.check_net.ensures) c.in-Err.is in
+    ask_made (λ (x : ℕ). giving x []) Numbers _ a.counts.now [] came n c.counts_in.result [] c.speak.result
+    (le-ltb (length a.counts.now) 7 c.if-counts-lt7.false) c.counts_in.ensures refl
+    (c.speak.ensures ∙ ap (λ (r : Refusal). 65536 * r.number) p.1 ∙ said n (giving_plain n [] (net_small (came c.counts_in.result)))) (none n)

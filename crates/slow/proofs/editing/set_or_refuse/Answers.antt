@@ -2,7 +2,8 @@
 -- Assumes nothing.
 use mathlib.Core.Path.{refl, sym, ap, ◌∙◌}
 use mathlib.Core.Bool.{Bool}
-use Rattle.kinds.proofs.GivenLaws.{handed_on}
+use Rattle.kinds.specs.Given.{refusing}
+use Rattle.kinds.proofs.GivenLaws.{handed_on, refusing_ok}
 use Rattle.component.specs.Record.{record_at, record_count}
 use Rattle.simulator.specs.Asked.{edit_refusal}
 use Rattle.slow.specs.Slow.{slow_tables_of, slow_number, slow_verdict}
@@ -16,30 +17,30 @@ prepare-requires c = record { index_len = (refl, refl, refl); counts_value = λ 
 pub is_led_into-entered-requires : goal.is_led_into-entered-requires
 is_led_into-entered-requires c = (c.prepare.ensures.1 _ c.in_ok-count.was).ready
 
-pub edit_number-refused-requires : goal.edit_number-refused-requires
-edit_number-refused-requires c h =
+pub check_port-requires : goal.check_port-requires
+check_port-requires c h =
     let a = c.args in
     row_there a.file.now _ _ _ _ _ _ _ _ _ _ (c.prepare.ensures.1 _ c.in_ok-count.was) a.i h
 
-pub returns-then-refused-ne0 : goal.returns-then-refused-ne0
-returns-then-refused-ne0 c =
+pub returns-in_err-check_port : goal.returns-in_err-check_port
+returns-in_err-check_port c =
     let a = c.args in
     let S = slow_tables_of a.inputs.now a.outputs.now a.current.now a.following.now a.standing.now a.counts in
     let said = c.prepare.ensures.0
     ∙ ap (λ (b : Bool). slow_verdict a.file.now b (slow_number (record_at a.file.now) (record_count a.file.now) S)) (c.are_full-long.ensures a.counts) in
-    let number = c.edit_number-refused.ensures
-    ∙ ap (λ (b : Bool). edit_refusal c.prepare.new.components c.in_ok-count.count b a.i a.number) c.is_led_into-entered.ensures in
-    rw c.refused_by.ensures
+    let own = c.check_port.ensures
+    ∙ ap (λ (b : Bool). refusing (edit_refusal c.prepare.new.components c.in_ok-count.count b a.i a.number)) c.is_led_into-entered.ensures in
+    rw (handed_on c.from_residual-in_err-check_port.result _ c.from_residual-in_err-check_port.ensures.1)
     (edit_refused a.file.now _ _ _ _ _ _ _ _ _ _ (c.prepare.ensures.1 _ c.in_ok-count.was) a.i a.number
-    (ap prepared_verdict (sym c.in_ok-count.was) ∙ said) _ number c.if-refused-ne0.true)
+    (ap prepared_verdict (sym c.in_ok-count.was) ∙ said) _ own _ c.in_err-check_port.was)
 
 pub set_port-requires : goal.set_port-requires
 set_port-requires c =
     let a = c.args in
     let p = c.prepare.ensures.1 _ c.in_ok-count.was in
-    let number = c.edit_number-refused.ensures
-    ∙ ap (λ (b : Bool). edit_refusal c.prepare.new.components c.in_ok-count.count b a.i a.number) c.is_led_into-entered.ensures in
-    let z = sym number ∙ c.if-refused-ne0.false in (
+    let own = c.check_port.ensures
+    ∙ ap (λ (b : Bool). refusing (edit_refusal c.prepare.new.components c.in_ok-count.count b a.i a.number)) c.is_led_into-entered.ensures in
+    let z = refusing_ok _ _ own c.in_ok-check_port.was in (
       number_given a.file.now _ _ _ _ _ _ _ _ _ _ p a.i a.number z,
       port_output a.file.now _ _ _ _ _ _ _ _ _ _ p a.i a.number z,
       port_input a.file.now _ _ _ _ _ _ _ _ _ _ p a.i a.number z,
@@ -60,9 +61,9 @@ returns c =
     let S = slow_tables_of a.inputs.now a.outputs.now a.current.now a.following.now a.standing.now a.counts in
     let said = c.prepare.ensures.0
     ∙ ap (λ (b : Bool). slow_verdict a.file.now b (slow_number (record_at a.file.now) (record_count a.file.now) S)) (c.are_full-long.ensures a.counts) in
-    let number = c.edit_number-refused.ensures
-    ∙ ap (λ (b : Bool). edit_refusal c.prepare.new.components c.in_ok-count.count b a.i a.number) c.is_led_into-entered.ensures in
+    let own = c.check_port.ensures
+    ∙ ap (λ (b : Bool). refusing (edit_refusal c.prepare.new.components c.in_ok-count.count b a.i a.number)) c.is_led_into-entered.ensures in
     let p = c.prepare.ensures.1 _ c.in_ok-count.was in
-    let z = sym number ∙ c.if-refused-ne0.false in
+    let z = refusing_ok _ _ own c.in_ok-check_port.was in
     edit_passed a.file.now _ _ _ _ _ _ _ _ _ _ p a.i a.number (ap prepared_verdict (sym c.in_ok-count.was) ∙ said) z _ _
     c.set_port.ensures.0 c.set_port.ensures.1
