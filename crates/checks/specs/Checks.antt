@@ -6,12 +6,11 @@
 --   is_entry at p         the record at p enters a child's input
 --   id_mark, place_mark, entry_mark   the marks of the id of component p, of an input of a child, and of the one that record p enters
 -- Assumes nothing.
-use Rattle.std.specs.Prelude.{ℕ, ◌+◌, ◌*◌, ◌%◌, ◌≤◌, ◌<◌, ◌≡◌, Bool, true, false, cond, eqb}
+use Rattle.std.specs.Prelude.{ℕ, ◌+◌, ◌*◌, ◌%◌, ◌≤◌, ◌<◌, ◌≡◌, Bool, true, false, cond, eqb, Option, Some, None}
 use Rattle.component.specs.declared.Record.{Record}
 use Rattle.component.specs.Record.{to_of, input_of, entering}
 use Rattle.component.specs.Reading.{owner_of}
 use Rattle.checks.specs.declared.Entry.{Entry}
-use Rattle.checks.specs.declared.Entry.TheVariants.{Of, Nothing as NoEntry}
 use Rattle.kinds.specs.Marks.{mark_of}
 use Rattle.component.specs.Drawing.{child}
 use Rattle.component.specs.Drawing.{fails3, fails4, fails5, fails6, fails7, fails8, fails9}
@@ -25,9 +24,9 @@ fails_by at n k p =
     (cond (eqb k 14) (fails14 at n p) false)))))))))))
 
 -- What is seen of an entry: the input that a record enters, or that it enters none.
-abbrev pub EntryAs : Entry → Record → Type 0
-EntryAs (Of o c d) r = (entering r ≡ true) × (owner_of r ≡ o) × (to_of r ≡ c.0) × (input_of r ≡ d)
-EntryAs NoEntry r = entering r ≡ false
+abbrev pub EntryAs : Option Entry → Record → Type 0
+EntryAs (Some x) r = (entering r ≡ true) × (owner_of r ≡ x.owner) × (to_of r ≡ x.to.0) × (input_of r ≡ x.input)
+EntryAs None r = entering r ≡ false
 
 pub record IsFirst (f : ℕ → Bool) (n r : ℕ) : Type 0 where
   pub within : r ≤ n

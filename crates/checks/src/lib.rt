@@ -19,7 +19,7 @@ ghost use Rattle.component.specs.Drawing.{fails3, fails4, fails5, fails6, fails7
 ghost use Rattle.component.specs.Drawing.{fails12, fails14, earlier_of};
 
 use component::{
-    ChildNo, Reading, Says, Stands, component_at, deepest, fields_at, given, known_at, record_at,
+    ChildNo, Component, Reading, Says, component_at, deepest, fields_at, given, known_at, record_at,
 };
 use index::{child_of, out_map_count};
 use kinds::{Id, Kind, number_of};
@@ -67,7 +67,7 @@ fn check4(file: &[u8], p: usize) -> u32
     ensures { result ≡ given 4 (fails4 (record_at file.now) p) }
 {
     if p == 0 {
-        let Stands::Component { .. } = component_at(file, 0) else {
+        let Some(Component { .. }) = component_at(file, 0) else {
             return 4;
         };
         return 0;
@@ -95,7 +95,7 @@ fn holds(file: &[u8], f: usize, o: usize, q: usize) -> bool
         if inner == 0 {
             return false;
         }
-        let Stands::Component { owner, .. } = component_at(file, inner) else {
+        let Some(Component { owner, .. }) = component_at(file, inner) else {
             return false;
         };
         let outer = owner as usize;
@@ -149,7 +149,7 @@ fn deeper(file: &[u8], d: u8, p: usize) -> bool
         if inner == 0 {
             return false;
         }
-        let Stands::Component { owner, .. } = component_at(file, inner) else {
+        let Some(Component { owner, .. }) = component_at(file, inner) else {
             return false;
         };
         inner = owner as usize;
@@ -162,7 +162,7 @@ fn check6(file: &[u8], p: usize) -> u32
     requires { Readable file.now }
     ensures { result ≡ given 6 (fails6 (record_at file.now) p) }
 {
-    let Stands::Component { .. } = component_at(file, p) else {
+    let Some(Component { .. }) = component_at(file, p) else {
         return 0;
     };
     if 256 <= p {
@@ -176,7 +176,7 @@ fn check7(file: &[u8], p: usize) -> u32
     requires { Readable file.now }
     ensures { result ≡ given 7 (fails7 (record_at file.now) p) }
 {
-    let Stands::Component { fields, .. } = component_at(file, p) else {
+    let Some(Component { fields, .. }) = component_at(file, p) else {
         return 0;
     };
     given(7, kinds::is_kept(fields.kind))
@@ -187,7 +187,7 @@ fn check8(file: &[u8], p: usize) -> u32
     requires { Readable file.now }
     ensures { result ≡ given 8 (fails8 (record_at file.now) p) }
 {
-    let Stands::Component { fields, .. } = component_at(file, p) else {
+    let Some(Component { fields, .. }) = component_at(file, p) else {
         return 0;
     };
     given(8, kinds::is_unknown(fields.kind))
@@ -198,7 +198,7 @@ fn check9(file: &[u8], p: usize) -> u32
     requires { Readable file.now }
     ensures { result ≡ given 9 (fails9 (record_at file.now) p) }
 {
-    let Stands::Component { fields, .. } = component_at(file, p) else {
+    let Some(Component { fields, .. }) = component_at(file, p) else {
         return 0;
     };
     given(9, !kinds::obeys(fields))
@@ -209,7 +209,7 @@ fn has_id(file: &[u8], q: usize, id: Id) -> bool
     requires { Readable file.now }
     ensures { result ≡ has_id id.0 (record_at file.now q) }
 {
-    let Stands::Component { id: other, .. } = component_at(file, q) else {
+    let Some(Component { id: other, .. }) = component_at(file, q) else {
         return false;
     };
     other.0 == id.0
@@ -237,7 +237,7 @@ fn ports_at(file: &[u8], q: usize) -> Ports
         (result.inputs ≤ 65535) × (result.outputs ≡ cond (is_primitive (record_at file.now q)) (outputs_of (record_at file.now q)) 0) ×
         (result.outputs ≤ 65535) }
 {
-    let Stands::Component { fields, .. } = component_at(file, q) else {
+    let Some(Component { fields, .. }) = component_at(file, q) else {
         return Ports {
             inputs: 0,
             outputs: 0,
@@ -260,7 +260,7 @@ pub fn has_input(file: &[u8], c: usize, i: u16) -> bool
     requires { Readable file.now }
     ensures { result ≡ ltb i (inputs_of (record_at file.now c)) }
 {
-    let Stands::Component { fields, .. } = component_at(file, c) else {
+    let Some(Component { fields, .. }) = component_at(file, c) else {
         return false;
     };
     i < fields.inputs
@@ -271,7 +271,7 @@ pub fn has_output(file: &[u8], c: usize, i: u16) -> bool
     requires { Readable file.now }
     ensures { result ≡ ltb i (outputs_of (record_at file.now c)) }
 {
-    let Stands::Component { fields, .. } = component_at(file, c) else {
+    let Some(Component { fields, .. }) = component_at(file, c) else {
         return false;
     };
     i < fields.outputs
@@ -309,59 +309,52 @@ fn check12(file: &[u8], index: &[u16], p: usize) -> u32
     }
 }
 
-// A child's input that a record enters, or none.
-#[derive(Clone, Copy)]
-pub enum Entry {
-    Of { owner: u16, to: ChildNo, input: u16 },
-    Nothing,
+// A child's input that a record enters.
+#[derive(Clone, Copy, PartialEq, Eq)]
+pub struct Entry {
+    pub owner: u16,
+    pub to: ChildNo,
+    pub input: u16,
 }
 
-// The child's input that a record enters.
-pub fn entry_of(r: Reading) -> Entry
+// The child's input that a record enters, if it enters one. Crate mend calls it too.
+pub fn entry_of(r: Reading) -> Option<Entry>
     ensures { EntryAs result (said r) }
 {
     let Reading::Taken { owner, says } = r else {
-        return Entry::Nothing;
+        return None;
     };
     match says {
-        Says::Component { .. } => Entry::Nothing,
-        Says::Connection { to, input, .. } => Entry::Of { owner, to, input },
-        Says::InputMap { to, input, .. } => Entry::Of { owner, to, input },
-        Says::OutputMap { .. } => Entry::Nothing,
+        Says::Component { .. } => None,
+        Says::Connection { to, input, .. } => Some(Entry { owner, to, input }),
+        Says::InputMap { to, input, .. } => Some(Entry { owner, to, input }),
+        Says::OutputMap { .. } => None,
     }
 }
 
 // The one that the record at a position enters, also of a file that check 3 has not been asked of.
-fn entry_at(file: &[u8], p: usize) -> Entry
+fn entry_at(file: &[u8], p: usize) -> Option<Entry>
     ensures { EntryAs result (record_at file.now p) }
 {
     entry_of(record_at(file, p))
 }
 
-// Whether the record at q enters the input of child `to` of an owner.
-fn same_entry(file: &[u8], q: usize, owner: u16, to: ChildNo, input: u16) -> bool
-    ensures { result ≡ enters owner to.0 input (record_at file.now q) }
+// Whether the record at q enters the input of an entry.
+fn same_entry(file: &[u8], q: usize, entry: Entry) -> bool
+    ensures { result ≡ enters entry.owner entry.to.0 entry.input (record_at file.now q) }
 {
-    let Entry::Of {
-        owner: other,
-        to: child,
-        input: port,
-    } = entry_at(file, q)
-    else {
-        return false;
-    };
-    (other == owner) & (child.0 == to.0) & (port == input)
+    entry_at(file, q) == Some(entry)
 }
 
 // The first record that enters the child's input which the record at p enters, as an earlier one of two that meet; p where there is none.
 pub fn earlier_of(file: &[u8], p: usize) -> usize
     ensures { result ≡ earlier_of (record_at file.now) p }
 {
-    let Entry::Of { owner, to, input } = entry_at(file, p) else {
+    let Some(entry) = entry_at(file, p) else {
         return p;
     };
     for q in 0..p {
-        if same_entry(file, q, owner, to, input) {
+        if same_entry(file, q, entry) {
             return q;
         }
     }
@@ -373,7 +366,7 @@ fn check14(file: &[u8], index: &[u16], p: usize) -> u32
     requires { IsIndex file.now index.now × (fails6 (record_at file.now) p ≡ false) }
     ensures { result ≡ given 14 (fails14 (record_at file.now) (record_count file.now) p) }
 {
-    let Stands::Component { fields, .. } = component_at(file, p) else {
+    let Some(Component { fields, .. }) = component_at(file, p) else {
         return 0;
     };
     if fields.kind != number_of(Kind::Composite) {

@@ -11,7 +11,7 @@ pub use reader::{
 };
 
 // A child, counted below one owner.
-#[derive(Clone, Copy)]
+#[derive(Clone, Copy, PartialEq, Eq)]
 pub struct ChildNo(pub u16);
 
 // A record as the file has it: its nine numbers.
@@ -52,16 +52,18 @@ pub enum Says {
     },
 }
 
-// What reading a record answers: the record taken apart, or the number that refuses it.
+// What reading a record answers: the record taken apart, or the number that refuses it. It is an enum of its own because
+// docs/SPECIFICATION.md, "Expected form in each place", names that form: reading a record answers an enum, and callers use `let .. else`.
 #[derive(Clone, Copy)]
 pub enum Reading {
     Taken { owner: u16, says: Says },
     Refused(u32),
 }
 
-// The component at a position, if there is one.
+// The component at a position.
 #[derive(Clone, Copy)]
-pub enum Stands {
-    Component { owner: u16, id: Id, fields: Fields },
-    Nothing,
+pub struct Component {
+    pub owner: u16,
+    pub id: Id,
+    pub fields: Fields,
 }
