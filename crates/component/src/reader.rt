@@ -218,16 +218,6 @@ pub fn is_primitive_at(file: &[u8], p: usize) -> bool
     kinds::is_primitive(fields_at(file, p))
 }
 
-// The number of a check that fails, else 0.
-pub fn given(number: u32, fails: bool) -> u32
-    ensures { result ≡ given number fails }
-{
-    if fails {
-        return number;
-    }
-    0
-}
-
 // The greatest depth, the root's being 1.
 pub fn deepest() -> u8
     ensures { result ≡ deepest }
