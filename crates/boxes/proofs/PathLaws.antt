@@ -13,11 +13,8 @@ use borrow.Author.Tests.{eqb-true}
 use Rattle.lists.specs.Lists.{from, keep}
 use Rattle.lists.proofs.TestsLaws.{and_left, and_right}
 use Rattle.lists.proofs.MembersLaws.{In, get_or-cases, keep_sound, from_sound}
-use Rattle.kinds.specs.declared.Id.{Id}
-use Rattle.kinds.specs.declared.table.Fields.{Fields}
 use Rattle.component.specs.declared.Record.{Record}
-use Rattle.component.specs.declared.Stands.{Stands}
-use Rattle.component.specs.declared.Stands.TheVariants.{Component, Nothing}
+use Rattle.component.specs.declared.Component.{Component}
 use Rattle.component.specs.Record.{record_at, record_count, owned_as}
 use Rattle.component.specs.Reading.{StandsAs}
 use Rattle.component.proofs.RecordLaws.{unseen_test, seen_is}
@@ -26,15 +23,15 @@ use Rattle.flatten.proofs.Accepted.{Passed, accepted_passed}
 use Rattle.flatten.proofs.Components.{component_below, owner_before}
 use Rattle.boxes.specs.Boxes.{child_named}
 use Rattle.boxes.specs.Naming.{named}
-use Rattle.std.specs.Prelude.{Ok}
+use Rattle.std.specs.Prelude.{Ok, Option, Some, None}
 
 -- A record that is no component is no child, and a component is one where owner and id are those asked for.
-module _ (at : ℕ → Record) (c id q : ℕ) (g : Stands) (e : StandsAs g (at q)) where
-  pub named_none : g ≡ Nothing → false ≡ named at c id q
+module _ (at : ℕ → Record) (c id q : ℕ) (g : Option Component) (e : StandsAs g (at q)) where
+  pub named_none : g ≡ None → false ≡ named at c id q
   named_none h = rw (unseen_test (at q) g e h)
 
-  pub named_is : (o : ℕ) (i : Id) (f : Fields) → g ≡ Component o i f → (eqb o c && eqb i.0 id) ≡ named at c id q
-  named_is o i f h = rw (seen_is (at q) g e o i f h)
+  pub named_is : (x : Component) → g ≡ Some x → (eqb x.owner c && eqb x.id.0 id) ≡ named at c id q
+  named_is x h = rw (seen_is (at q) g e x h)
 
 -- Below none there is none.
 module _ (at : ℕ → Record) (n : ℕ) (d : Passed at n) where

@@ -6,7 +6,7 @@ ghost use Rattle.flatten.specs.Verdict.{verdict};
 ghost use Rattle.boxes.specs.Boxes.{child_named, place_of};
 ghost use Rattle.boxes.specs.Naming.{named};
 
-use component::{Stands, component_at};
+use component::{Component, component_at};
 use kinds::Id;
 
 // Whether the record at q is a component of owner c that has this id.
@@ -14,7 +14,7 @@ fn is_named(file: &[u8], c: usize, id: Id, q: usize) -> bool
     requires { Readable file.now }
     ensures { result ≡ named (record_at file.now) c id.0 q }
 {
-    let Stands::Component { owner, id: own, .. } = component_at(file, q) else {
+    let Some(Component { owner, id: own, .. }) = component_at(file, q) else {
         return false;
     };
     (owner as usize == c) & (own == id)

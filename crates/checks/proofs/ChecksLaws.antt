@@ -27,14 +27,15 @@ use Rattle.component.specs.declared.Says.{Says}
 use Rattle.component.specs.declared.Says.TheVariants.{Component, Connection, InputMap, OutputMap}
 use Rattle.component.specs.declared.Reading.{Reading}
 use Rattle.component.specs.declared.Reading.TheVariants.{Taken, Refused}
-use Rattle.component.specs.declared.Stands.{Stands}
-use Rattle.component.specs.declared.Stands.TheVariants.{Component as StandsComponent, Nothing}
+use Rattle.component.specs.declared.Component.{Component as Seen}
 use Rattle.checks.specs.declared.Entry.{Entry}
-use Rattle.checks.specs.declared.Entry.TheVariants.{Of, Nothing as NoEntry}
+use Rattle.std.specs.Prelude.{Option, Some, None, is_some}
+use Rattle.std.specs.Option.{option_eq}
+use Rattle.std.proofs.Math.Bool.{and_assoc}
+use Rattle.checks.specs.contracts.EntryPartialEq.TheImpl.{eq-value}
 use Rattle.component.specs.Record.{record_at, to_of, input_of}
-use Rattle.component.specs.Reading.{id_of, owner_of, form_of, apart, form_by, said, number, StandsAs}
+use Rattle.component.specs.Reading.{id_of, owner_of, form_of, apart, form_by, said, StandsAs}
 use Rattle.checks.specs.Checks.{EntryAs}
-use Rattle.component.specs.Reading.{given}
 use Rattle.component.specs.Record.{inputs_of, outputs_of, is_primitive, composite}
 use Rattle.component.specs.Record.{entering, entering_as}
 use Rattle.component.specs.Reading.{has_id, enters}
@@ -46,41 +47,6 @@ use Rattle.component.specs.Drawing.{missing, fails10, fails12, fails13, fails14,
 use Rattle.component.specs.contracts.Says.{the_type}
 use Rattle.component.proofs.RecordLaws.{form_by-tag, no_component, refused_is, taken_is, taken_form, taken_owner, unseen_test, unseen_fields, seen_is}
 use Rattle.component.proofs.ScanLaws.{tested}
-
--- A check fails, or not; r is what `given` answers.
-module _ (k : ℕ) (b : Bool) where
-  pub given_fails : true ≡ b → k ≡ given k b
-  given_fails e = ap (given k) e
-
-  pub given_passes : false ≡ b → 0 ≡ given k b
-  given_passes e = ap (given k) e
-
-  pub given_by : (r : ℕ) (a : Bool) → r ≡ given k a → a ≡ b → r ≡ given k b
-  given_by r a h e = h ∙ ap (given k) e
-
-  -- and what the number given says of it: it is not 0; it is 0
-  module _ (r : ℕ) (e : r ≡ given k b) where
-    pub given_failed : (r ≡ 0 → ⊥) → b ≡ true
-    given_failed h = by_test b e
-      where
-        by_test : (c : Bool) → r ≡ given k c → c ≡ true
-        by_test true d = refl
-        by_test false d = absurd (h d)
-
-    pub given_passed : r ≡ 0 → 0 < k → b ≡ false
-    given_passed z h = by_test b e
-      where
-        by_test : (c : Bool) → r ≡ given k c → c ≡ false
-        by_test true d = absurd (omega arith)
-        by_test false d = refl
-
--- 3: taken apart; refused
-module _ (m : ℕ) (r : Reading) (e : number r ≡ m) where
-  pub number_taken : {o : ℕ} {x : Says} → r ≡ Taken o x → 0 ≡ m
-  number_taken h = sym (ap number h) ∙ e
-
-  pub number_refused : (k : ℕ) → r ≡ Refused k → k ≡ m
-  number_refused k h = sym (ap number h) ∙ e
 
 -- 4: the order of two record kinds
 module _ (f g o m : ℕ) where
@@ -157,13 +123,21 @@ module _ (s : List ℕ) where
   pub not_refused : (p : ℕ) (r : Reading) {k : ℕ} → fails3 (record_at s) p ≡ false → said r ≡ record_at s p → r ≡ Refused k → ⊥
   not_refused p r t e h = eqb-false (form_of (record_at s p)) 0 t (ap form_of (refused_is (record_at s p) r e h))
 
-  -- 4: the first record is no component; it is one; one after a refused one; any other
-  pub fails4_first_none : (p : ℕ) (g : Stands) → p ≡ 0 → StandsAs g (record_at s 0) → g ≡ Nothing → true ≡ fails4 (record_at s) p
-  fails4_first_none p g z e h = rw (z, unseen_test (record_at s 0) g e h)
+  -- 3: refused; taken apart
+  module _ (p : ℕ) (r : Reading) (e : said r ≡ record_at s p) where
+    pub fails3_refused : {k : ℕ} → r ≡ Refused k → true ≡ fails3 (record_at s) p
+    fails3_refused h = rw (refused_is (record_at s p) r e h)
 
-  pub fails4_first : (p o : ℕ) (i : Id) (f : Fields) (g : Stands) → p ≡ 0 → StandsAs g (record_at s 0) → g ≡ StandsComponent o i f
-      → false ≡ fails4 (record_at s) p
-  fails4_first p o i f g z e h = rw (z, seen_is (record_at s 0) g e o i f h)
+    pub fails3_taken : (o : ℕ) (x : Says) → r ≡ Taken o x → false ≡ fails3 (record_at s) p
+    fails3_taken o x h = sym (ne_eqb (form_of (record_at s p)) 0 (λ z. form_by-some x (sym (taken_form (record_at s p) r e o x h) ∙ z)))
+
+  -- 4: the first record; one after a refused one; any other
+  pub fails4_first : (p : ℕ) (g : Option Seen) (b : Bool) → p ≡ 0 → StandsAs g (record_at s 0) → is_some g ≡ not b → b ≡ fails4 (record_at s) p
+  fails4_first p g b z e h = by_case g e h ∙ ap (fails4 (record_at s)) (sym z)
+    where
+      by_case : (g : Option Seen) → StandsAs g (record_at s 0) → is_some g ≡ not b → b ≡ fails4 (record_at s) 0
+      by_case None e h = rw (unseen_test (record_at s 0) None e refl, not-false b (sym h))
+      by_case (Some x) e h = rw (e, not-true b (sym h))
 
   module _ (p : ℕ) (z : p ≡ 0 → ⊥) (r : Reading) (e : said r ≡ record_at s p) where
     fails4_pred : (p : ℕ) → (p ≡ 0 → ⊥) → fails4 (record_at s) p
@@ -198,22 +172,22 @@ module _ (s : List ℕ) where
   holds_root zero o q b e h z = absurd (omega arith)
   holds_root (suc f) o q b e h z = rw z at e
 
-  pub holds_unseen : (f o q : ℕ) (g : Stands) (b : Bool) → holds (record_at s) f o q ≡ b → 0 < f → (q ≡ 0 → ⊥)
-      → StandsAs g (record_at s q) → g ≡ Nothing → false ≡ b
+  pub holds_unseen : (f o q : ℕ) (g : Option Seen) (b : Bool) → holds (record_at s) f o q ≡ b → 0 < f → (q ≡ 0 → ⊥)
+      → StandsAs g (record_at s q) → g ≡ None → false ≡ b
   holds_unseen zero o q g b e h z d k = absurd (omega arith)
   holds_unseen (suc f) o q g b e h z d k = rw (ne_eqb q 0 z, unseen_test (record_at s q) g d k) at e
 
-  pub holds_owner : (f o q m : ℕ) (i : Id) (w : Fields) (g : Stands) (b : Bool) → holds (record_at s) f o q ≡ b → 0 < f → (q ≡ 0 → ⊥)
-      → StandsAs g (record_at s q) → g ≡ StandsComponent m i w → m ≡ o → true ≡ b
-  holds_owner zero o q m i w g b e h z d k j = absurd (omega arith)
-  holds_owner (suc f) o q m i w g b e h z d k j = rw (ne_eqb q 0 z, seen_is (record_at s q) g d m i w k, eq-eqb m o j) at e
+  pub holds_owner : (f o q : ℕ) (x : Seen) (g : Option Seen) (b : Bool) → holds (record_at s) f o q ≡ b → 0 < f → (q ≡ 0 → ⊥)
+      → StandsAs g (record_at s q) → g ≡ Some x → x.owner ≡ o → true ≡ b
+  holds_owner zero o q x g b e h z d k j = absurd (omega arith)
+  holds_owner (suc f) o q x g b e h z d k j = rw (ne_eqb q 0 z, seen_is (record_at s q) g d x k, eq-eqb x.owner o j) at e
 
-  pub holds_outer : (f o q m : ℕ) (i : Id) (w : Fields) (g : Stands) (b : Bool) → holds (record_at s) f o q ≡ b → 0 < f → (q ≡ 0 → ⊥)
-      → StandsAs g (record_at s q) → g ≡ StandsComponent m i w → (m ≡ o → ⊥) → holds (record_at s) (f - 1) o m ≡ b
-  holds_outer zero o q m i w g b e h z d k j = absurd (omega arith)
-  holds_outer (suc f) o q m i w g b e h z d k j =
+  pub holds_outer : (f o q : ℕ) (x : Seen) (g : Option Seen) (b : Bool) → holds (record_at s) f o q ≡ b → 0 < f → (q ≡ 0 → ⊥)
+      → StandsAs g (record_at s q) → g ≡ Some x → (x.owner ≡ o → ⊥) → holds (record_at s) (f - 1) o x.owner ≡ b
+  holds_outer zero o q x g b e h z d k j = absurd (omega arith)
+  holds_outer (suc f) o q x g b e h z d k j =
       let v : suc f - 1 ≡ f = omega arith in
-      rw v (rw (ne_eqb q 0 z, seen_is (record_at s q) g d m i w k, ne_eqb m o j) at e)
+      rw v (rw (ne_eqb q 0 z, seen_is (record_at s q) g d x k, ne_eqb x.owner o j) at e)
 
   pub holds_none : (f o q : ℕ) (b : Bool) → holds (record_at s) f o q ≡ b → f ≤ 0 → false ≡ b
   holds_none zero o q b e h = e
@@ -224,17 +198,17 @@ module _ (s : List ℕ) where
   deeper_root zero q b e h z = absurd (omega arith)
   deeper_root (suc d) q b e h z = rw z at e
 
-  pub deeper_unseen : (d q : ℕ) (g : Stands) (b : Bool) → deeper (record_at s) d q ≡ b → 0 < d → (q ≡ 0 → ⊥)
-      → StandsAs g (record_at s q) → g ≡ Nothing → false ≡ b
+  pub deeper_unseen : (d q : ℕ) (g : Option Seen) (b : Bool) → deeper (record_at s) d q ≡ b → 0 < d → (q ≡ 0 → ⊥)
+      → StandsAs g (record_at s q) → g ≡ None → false ≡ b
   deeper_unseen zero q g b e h z i k = absurd (omega arith)
   deeper_unseen (suc d) q g b e h z i k = rw (ne_eqb q 0 z, unseen_test (record_at s q) g i k) at e
 
-  pub deeper_outer : (d q m : ℕ) (i : Id) (w : Fields) (g : Stands) (b : Bool) → deeper (record_at s) d q ≡ b → 0 < d → (q ≡ 0 → ⊥)
-      → StandsAs g (record_at s q) → g ≡ StandsComponent m i w → deeper (record_at s) (d - 1) m ≡ b
-  deeper_outer zero q m i w g b e h z j k = absurd (omega arith)
-  deeper_outer (suc d) q m i w g b e h z j k =
+  pub deeper_outer : (d q : ℕ) (x : Seen) (g : Option Seen) (b : Bool) → deeper (record_at s) d q ≡ b → 0 < d → (q ≡ 0 → ⊥)
+      → StandsAs g (record_at s q) → g ≡ Some x → deeper (record_at s) (d - 1) x.owner ≡ b
+  deeper_outer zero q x g b e h z j k = absurd (omega arith)
+  deeper_outer (suc d) q x g b e h z j k =
       let v : suc d - 1 ≡ d = omega arith in
-      rw v (rw (ne_eqb q 0 z, seen_is (record_at s q) g j m i w k) at e)
+      rw v (rw (ne_eqb q 0 z, seen_is (record_at s q) g j x k) at e)
 
   pub deeper_none : (d q : ℕ) (b : Bool) → deeper (record_at s) d q ≡ b → d ≤ 0 → true ≡ b
   deeper_none zero q b e h = e
@@ -282,8 +256,8 @@ module _ (s : List ℕ) where
             fails5_held a l m = sym (fails5_pred ∙ rw (not-false b k, g, ne_eqb o (p - 1) l, ← m))
 
   -- 6 to 11 and 14: no component; a component
-  module _ (p : ℕ) (g : Stands) (e : StandsAs g (record_at s p)) where
-    module _ (h : g ≡ Nothing) where
+  module _ (p : ℕ) (g : Option Seen) (e : StandsAs g (record_at s p)) where
+    module _ (h : g ≡ None) where
       pub fails_other : (b : Bool) → false ≡ (is_component (record_at s) p && b)
       fails_other b = rw (unseen_test (record_at s p) g e h)
 
@@ -305,9 +279,9 @@ module _ (s : List ℕ) where
       pub fails14_other : (n : ℕ) → false ≡ fails14 (record_at s) n p
       fails14_other n = rw (unseen_test (record_at s p) g e h)
 
-    module _ (o : ℕ) (i : Id) (f : Fields) (h : g ≡ StandsComponent o i f) where
+    module _ (v : Seen) (h : g ≡ Some v) where
       form_is : eqb (form_of (record_at s p)) 1 ≡ true
-      form_is = rw (seen_is (record_at s p) g e o i f h)
+      form_is = rw (seen_is (record_at s p) g e v h)
 
       pub fails6_number : 256 ≤ p → true ≡ fails6 (record_at s) p
       fails6_number k = rw (form_is, le-leb 256 p k)
@@ -315,32 +289,32 @@ module _ (s : List ℕ) where
       pub fails6_depth : (d : ℕ) (b : Bool) → p < 256 → d ≡ deepest → b ≡ deeper (record_at s) d p → b ≡ fails6 (record_at s) p
       fails6_depth d b k l j = j ∙ rw (form_is, lt-leb 256 p k, l)
 
-      pub fails7_component : (b : Bool) → b ≡ for_custom f.kind → b ≡ fails7 (record_at s) p
-      fails7_component b k = rw (k, seen_is (record_at s p) g e o i f h)
+      pub fails7_component : (b : Bool) → b ≡ for_custom v.fields.kind → b ≡ fails7 (record_at s) p
+      fails7_component b k = rw (k, seen_is (record_at s p) g e v h)
 
-      pub fails8_component : (b : Bool) → b ≡ unknown f.kind → b ≡ fails8 (record_at s) p
-      fails8_component b k = rw (k, seen_is (record_at s p) g e o i f h)
+      pub fails8_component : (b : Bool) → b ≡ unknown v.fields.kind → b ≡ fails8 (record_at s) p
+      fails8_component b k = rw (k, seen_is (record_at s p) g e v h)
 
-      pub fails9_component : (b : Bool) → b ≡ obeys f → not b ≡ fails9 (record_at s) p
-      fails9_component b k = rw (k, seen_is (record_at s p) g e o i f h)
+      pub fails9_component : (b : Bool) → b ≡ obeys v.fields → not b ≡ fails9 (record_at s) p
+      fails9_component b k = rw (k, seen_is (record_at s p) g e v h)
 
-      pub has_id-component : (j : Id) → eqb i.0 j.0 ≡ has_id j.0 (record_at s p)
-      has_id-component j = rw (seen_is (record_at s p) g e o i f h)
+      pub has_id-component : (j : Id) → eqb v.id.0 j.0 ≡ has_id j.0 (record_at s p)
+      has_id-component j = rw (seen_is (record_at s p) g e v h)
 
-      pub fails10_component : (b : Bool) → b ≡ any (λ q. has_id i.0 (record_at s q)) (from 0 p) → b ≡ fails10 (record_at s) p
+      pub fails10_component : (b : Bool) → b ≡ any (λ q. has_id v.id.0 (record_at s q)) (from 0 p) → b ≡ fails10 (record_at s) p
       fails10_component b k =
-          let y : id_of (record_at s p) ≡ i.0 = rw (seen_is (record_at s p) g e o i f h) in
+          let y : id_of (record_at s p) ≡ v.id.0 = rw (seen_is (record_at s p) g e v h) in
           k ∙ rw (form_is, y)
 
-      pub inputs_component : (j : ℕ) → ltb j f.inputs ≡ ltb j (inputs_of (record_at s p))
-      inputs_component j = rw (seen_is (record_at s p) g e o i f h)
+      pub inputs_component : (j : ℕ) → ltb j v.fields.inputs ≡ ltb j (inputs_of (record_at s p))
+      inputs_component j = rw (seen_is (record_at s p) g e v h)
 
-      pub outputs_component : (j : ℕ) → ltb j f.outputs ≡ ltb j (outputs_of (record_at s p))
-      outputs_component j = rw (seen_is (record_at s p) g e o i f h)
+      pub outputs_component : (j : ℕ) → ltb j v.fields.outputs ≡ ltb j (outputs_of (record_at s p))
+      outputs_component j = rw (seen_is (record_at s p) g e v h)
 
-      module _ (b : Bool) (k : b ≡ primitive f) where
+      module _ (b : Bool) (k : b ≡ primitive v.fields) where
         primitive_is : (x : Bool) → b ≡ x → is_primitive (record_at s p) ≡ x
-        primitive_is x l = ap is_primitive (seen_is (record_at s p) g e o i f h) ∙ sym k ∙ l
+        primitive_is x l = ap is_primitive (seen_is (record_at s p) g e v h) ∙ sym k ∙ l
 
         pub inputs_composite : not b ≡ true → 0 ≡ cond (is_primitive (record_at s p)) (inputs_of (record_at s p)) 0
         inputs_composite l = rw (primitive_is false (not-true b l))
@@ -348,34 +322,34 @@ module _ (s : List ℕ) where
         pub outputs_composite : not b ≡ true → 0 ≡ cond (is_primitive (record_at s p)) (outputs_of (record_at s p)) 0
         outputs_composite l = rw (primitive_is false (not-true b l))
 
-        pub inputs_primitive : not b ≡ false → f.inputs ≡ cond (is_primitive (record_at s p)) (inputs_of (record_at s p)) 0
-        inputs_primitive l = rw (primitive_is true (not-false b l), seen_is (record_at s p) g e o i f h)
+        pub inputs_primitive : not b ≡ false → v.fields.inputs ≡ cond (is_primitive (record_at s p)) (inputs_of (record_at s p)) 0
+        inputs_primitive l = rw (primitive_is true (not-false b l), seen_is (record_at s p) g e v h)
 
-        pub outputs_primitive : not b ≡ false → f.outputs ≡ cond (is_primitive (record_at s p)) (outputs_of (record_at s p)) 0
-        outputs_primitive l = rw (primitive_is true (not-false b l), seen_is (record_at s p) g e o i f h)
+        pub outputs_primitive : not b ≡ false → v.fields.outputs ≡ cond (is_primitive (record_at s p)) (outputs_of (record_at s p)) 0
+        outputs_primitive l = rw (primitive_is true (not-false b l), seen_is (record_at s p) g e v h)
 
-      pub fails14_primitive : (n c : ℕ) → c ≡ number_of Composite → (f.kind ≡ c → ⊥) → false ≡ fails14 (record_at s) n p
+      pub fails14_primitive : (n c : ℕ) → c ≡ number_of Composite → (v.fields.kind ≡ c → ⊥) → false ≡ fails14 (record_at s) n p
       fails14_primitive n c q k =
-          rw (seen_is (record_at s p) g e o i f h, ne_eqb f.kind (number_of Composite) (λ z. k (z ∙ sym q)))
+          rw (seen_is (record_at s p) g e v h, ne_eqb v.fields.kind (number_of Composite) (λ z. k (z ∙ sym q)))
 
-      pub fails14_composite : (n m c : ℕ) → c ≡ number_of Composite → f.kind ≡ c → m ≡ length (out_maps (record_at s) n p)
-          → not (eqb f.outputs m) ≡ fails14 (record_at s) n p
+      pub fails14_composite : (n m c : ℕ) → c ≡ number_of Composite → v.fields.kind ≡ c → m ≡ length (out_maps (record_at s) n p)
+          → not (eqb v.fields.outputs m) ≡ fails14 (record_at s) n p
       fails14_composite n m c q k l =
           let y : composite (record_at s p) ≡ true =
-          rw (seen_is (record_at s p) g e o i f h, eq-eqb f.kind (number_of Composite) (k ∙ q)) in
-          let z : outputs_of (record_at s p) ≡ f.outputs = rw (seen_is (record_at s p) g e o i f h) in
+          rw (seen_is (record_at s p) g e v h, eq-eqb v.fields.kind (number_of Composite) (k ∙ q)) in
+          let z : outputs_of (record_at s p) ≡ v.fields.outputs = rw (seen_is (record_at s p) g e v h) in
           rw (l, y, z)
 
   -- 14: a component that check 6 passes has a word in the index, which counts its output maps
-  module _ (t : List ℕ) (ix : IsIndex s t) (p : ℕ) (g : Stands) (e : StandsAs g (record_at s p)) (few : fails6 (record_at s) p ≡ false) where
-    pub component_few : (o : ℕ) (i : Id) (f : Fields) → g ≡ StandsComponent o i f → p < 256
-    component_few o i f h =
-        let z : (leb 256 p || deeper (record_at s) deepest p) ≡ false = and_right_false (is_component (record_at s) p) _ few (form_is p g e o i f h) in
+  module _ (t : List ℕ) (ix : IsIndex s t) (p : ℕ) (g : Option Seen) (e : StandsAs g (record_at s p)) (few : fails6 (record_at s) p ≡ false) where
+    pub component_few : (v : Seen) → g ≡ Some v → p < 256
+    component_few v h =
+        let z : (leb 256 p || deeper (record_at s) deepest p) ≡ false = and_right_false (is_component (record_at s) p) _ few (form_is p g e v h) in
         leb-false 256 p (or_left (leb 256 p) (deeper (record_at s) deepest p) z)
 
-    pub fails14_counted : (o : ℕ) (i : Id) (f : Fields) (m : ℕ) → g ≡ StandsComponent o i f → m ≡ out_count t p
+    pub fails14_counted : (v : Seen) (m : ℕ) → g ≡ Some v → m ≡ out_count t p
         → m ≡ length (out_maps (record_at s) (length s / 24) p)
-    fails14_counted o i f m h d = d ∙ ix.counts p (component_few o i f h)
+    fails14_counted v m h d = d ∙ ix.counts p (component_few v h)
 
   -- what is missing, by what a record says
   module _ (n o : ℕ) (x : Says) where
@@ -425,49 +399,55 @@ module _ (s : List ℕ) where
 
 -- The entry of a record: refused; by what it says
 module _ (t : Record) (r : Reading) (e : said r ≡ t) where
-  pub entry_refused : {k : ℕ} → r ≡ Refused k → EntryAs NoEntry t
+  pub entry_refused : {k : ℕ} → r ≡ Refused k → EntryAs None t
   entry_refused h = rw (refused_is t r e h)
 
   module _ (o : ℕ) (x : Says) (h : r ≡ Taken o x) where
-    pub entry_component : {i : Id} {f : Fields} → x ≡ Component i f → EntryAs NoEntry t
+    pub entry_component : {i : Id} {f : Fields} → x ≡ Component i f → EntryAs None t
     entry_component k = rw (taken_is t r e o x h, k)
 
-    pub entry_output_map : {a : ChildNo} {b : ℕ} → x ≡ OutputMap a b → EntryAs NoEntry t
+    pub entry_output_map : {a : ChildNo} {b : ℕ} → x ≡ OutputMap a b → EntryAs None t
     entry_output_map k = rw (taken_is t r e o x h, k)
 
-    pub entry_connection : {a : ChildNo} {b : ℕ} (c : ChildNo) (d : ℕ) → x ≡ Connection a b c d → EntryAs (Of o c d) t
+    pub entry_connection : {a : ChildNo} {b : ℕ} (c : ChildNo) (d : ℕ) → x ≡ Connection a b c d → EntryAs (Some (record { owner = o; to = c; input = d })) t
     entry_connection c d k =
         let z = taken_is t r e o x h ∙ ap (apart o) k in
         (ap entering z, ap owner_of z, ap to_of z, ap input_of z)
 
-    pub entry_input_map : {a : ℕ} (c : ChildNo) (d : ℕ) → x ≡ InputMap a c d → EntryAs (Of o c d) t
+    pub entry_input_map : {a : ℕ} (c : ChildNo) (d : ℕ) → x ≡ InputMap a c d → EntryAs (Some (record { owner = o; to = c; input = d })) t
     entry_input_map c d k =
         let z = taken_is t r e o x h ∙ ap (apart o) k in
         (ap entering z, ap owner_of z, ap to_of z, ap input_of z)
 
 -- 13: a record enters no input; it enters one
-module _ (t : Record) (g : Entry) (e : EntryAs g t) where
-  pub entering_none : g ≡ NoEntry → entering t ≡ false
+module _ (t : Record) (g : Option Entry) (e : EntryAs g t) where
+  pub entering_none : g ≡ None → entering t ≡ false
   entering_none h = rw h at e
 
-  module _ (o d : ℕ) (c : ChildNo) (h : g ≡ Of o c d) where
-    pub entering_is : (entering t ≡ true) × (owner_of t ≡ o) × (to_of t ≡ c.0) × (input_of t ≡ d)
+  module _ (x : Entry) (h : g ≡ Some x) where
+    pub entering_is : (entering t ≡ true) × (owner_of t ≡ x.owner) × (to_of t ≡ x.to.0) × (input_of t ≡ x.input)
     entering_is = rw h at e
 
-    pub enters_is : (m j : ℕ) (k : ChildNo) → (eqb o m && eqb c.0 k.0 && eqb d j) ≡ enters m k.0 j t
-    enters_is m j k = rw (entering_is.0, entering_is.1, entering_is.2, entering_is.3)
+    pub enters_is : (y : Entry) → (eqb x.owner y.owner && eqb x.to.0 y.to.0 && eqb x.input y.input) ≡ enters y.owner y.to.0 y.input t
+    enters_is y = rw (entering_is.0, entering_is.1, entering_is.2, entering_is.3)
 
-  pub enters_none : (m k j : ℕ) → g ≡ NoEntry → false ≡ enters m k j t
+  pub enters_none : (m k j : ℕ) → g ≡ None → false ≡ enters m k j t
   enters_none m k j h = rw (entering_none h)
 
-module _ (s : List ℕ) (p : ℕ) (g : Entry) (e : EntryAs g (record_at s p)) where
-  pub earlier_none : g ≡ NoEntry → p ≡ earlier_of (record_at s) p
+-- An entry that is compared with another, part by part.
+pub same_as : (t : Record) (g : Option Entry) (y : Entry) → EntryAs g t → option_eq eq-value.it g (Some y) ≡ enters y.owner y.to.0 y.input t
+same_as t None y e = enters_none t None e y.owner y.to.0 y.input refl
+same_as t (Some x) y e =
+    sym (and_assoc (eqb x.owner y.owner) (eqb x.to.0 y.to.0) (eqb x.input y.input)) ∙ enters_is t (Some x) e x refl y
+
+module _ (s : List ℕ) (p : ℕ) (g : Option Entry) (e : EntryAs g (record_at s p)) where
+  pub earlier_none : g ≡ None → p ≡ earlier_of (record_at s) p
   earlier_none h = rw (entering_none (record_at s p) g e h, keep_nothing (from 0 p))
 
-  pub earlier_start : (o d : ℕ) (c : ChildNo) → g ≡ Of o c d
-      → get_or (keep (tested s (enters o c.0 d)) (from 0 (p - 0))) 0 p ≡ earlier_of (record_at s) p
-  earlier_start o d c h =
-      let z = entering_is (record_at s p) g e o d c h in
+  pub earlier_start : (x : Entry) → g ≡ Some x
+      → get_or (keep (tested s (enters x.owner x.to.0 x.input)) (from 0 (p - 0))) 0 p ≡ earlier_of (record_at s) p
+  earlier_start x h =
+      let z = entering_is (record_at s p) g e x h in
       rw (sub-zero p, z.0, z.1, z.2, z.3)
 
 -- An earlier record stands before.

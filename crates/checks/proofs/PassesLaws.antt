@@ -19,14 +19,10 @@ use Rattle.lists.proofs.MembersLaws.{total_append, from_last}
 use Rattle.lists.proofs.TestsLaws.{and_left, and_right}
 use Rattle.lists.proofs.KeysLaws.{unmarked_none, marks_up, marks_skip}
 use Rattle.kinds.specs.Marks.{mark_of}
-use Rattle.kinds.specs.declared.Id.{Id}
-use Rattle.kinds.specs.declared.table.Fields.{Fields}
-use Rattle.component.specs.declared.ChildNo.{ChildNo}
 use Rattle.component.specs.declared.Record.{Record}
-use Rattle.component.specs.declared.Stands.{Stands}
-use Rattle.component.specs.declared.Stands.TheVariants.{Component as StandsComponent, Nothing}
+use Rattle.component.specs.declared.Component.{Component as Seen}
 use Rattle.checks.specs.declared.Entry.{Entry}
-use Rattle.checks.specs.declared.Entry.TheVariants.{Of, Nothing as NoEntry}
+use Rattle.std.specs.Prelude.{Option, Some, None}
 use Rattle.kinds.specs.Kinds.{primitive}
 use Rattle.component.specs.Record.{record_at, fields_of, to_of, input_of, inputs_of, outputs_of, is_primitive, entering, entering_as}
 use Rattle.component.specs.Reading.{id_of, owner_of, form_of, no_fields, has_id, StandsAs}
@@ -64,55 +60,55 @@ any_false f q (suc k) h = rw (h q (omega arith) (omega arith)) (any_false f (suc
 
 -- 10, where the ids before are marked: no component; an id that was searched for and found; one that is new.
 module _ (s marks : List ℕ) (p : ℕ) (m : IsMarked 4096 (is_component (record_at s)) (id_mark (record_at s)) 0 p marks)
-    (g : Stands) (e : StandsAs g (record_at s p)) where
+    (g : Option Seen) (e : StandsAs g (record_at s p)) where
   abbrev IdsTo : List ℕ → Type 0
   IdsTo u = IsMarked 4096 (is_component (record_at s)) (id_mark (record_at s)) 0 (p + 1) u
 
-  pub id_other : g ≡ Nothing → (false ≡ fails10 (record_at s) p) × (false ≡ false → IdsTo marks)
+  pub id_other : g ≡ None → (false ≡ fails10 (record_at s) p) × (false ≡ false → IdsTo marks)
   id_other h = (
     fails_other s p g e h _,
     λ z. marks_skip 4096 (is_component (record_at s)) (id_mark (record_at s)) 0 p marks m (unseen_test (record_at s p) g e h),
   )
 
-  module _ (o : ℕ) (i : Id) (f : Fields) (h : g ≡ StandsComponent o i f) where
-    id_is : id_of (record_at s p) ≡ i.0
-    id_is = rw (seen_is (record_at s p) g e o i f h)
+  module _ (v : Seen) (h : g ≡ Some v) where
+    id_is : id_of (record_at s p) ≡ v.id.0
+    id_is = rw (seen_is (record_at s p) g e v h)
 
-    pub id_found : (b : Bool) (u : List ℕ) → b ≡ any (λ q. has_id i.0 (record_at s q)) (from 0 p) → b ≡ true
+    pub id_found : (b : Bool) (u : List ℕ) → b ≡ any (λ q. has_id v.id.0 (record_at s q)) (from 0 p) → b ≡ true
         → (true ≡ fails10 (record_at s) p) × (true ≡ false → IdsTo u)
-    id_found b u d k = (sym k ∙ fails10_component s p g e o i f h b d, λ z. absurd (false≢true (sym z)))
+    id_found b u d k = (sym k ∙ fails10_component s p g e v h b d, λ z. absurd (false≢true (sym z)))
 
-    id_unmarked : (x : ℕ) → x ≡ mark_of i.0 → get_or marks x 0 ≡ 0 → false ≡ any (λ q. has_id i.0 (record_at s q)) (from 0 p)
-    id_unmarked x k z = sym (any_false (λ q. has_id i.0 (record_at s q)) 0 p (λ j a b. other j (omega arith) (has_id i.0 (record_at s j)) refl))
+    id_unmarked : (x : ℕ) → x ≡ mark_of v.id.0 → get_or marks x 0 ≡ 0 → false ≡ any (λ q. has_id v.id.0 (record_at s q)) (from 0 p)
+    id_unmarked x k z = sym (any_false (λ q. has_id v.id.0 (record_at s q)) 0 p (λ j a b. other j (omega arith) (has_id v.id.0 (record_at s j)) refl))
       where
-        other : (j : ℕ) → j < p → (b : Bool) → has_id i.0 (record_at s j) ≡ b → has_id i.0 (record_at s j) ≡ false
+        other : (j : ℕ) → j < p → (b : Bool) → has_id v.id.0 (record_at s j) ≡ b → has_id v.id.0 (record_at s j) ≡ false
         other j l false y = y
         other j l true y =
-            let c = and_left (eqb (form_of (record_at s j)) 1) (eqb (id_of (record_at s j)) i.0) y in
-            let w = eqb-true (id_of (record_at s j)) i.0 (and_right (eqb (form_of (record_at s j)) 1) (eqb (id_of (record_at s j)) i.0) y) in
+            let c = and_left (eqb (form_of (record_at s j)) 1) (eqb (id_of (record_at s j)) v.id.0) y in
+            let w = eqb-true (id_of (record_at s j)) v.id.0 (and_right (eqb (form_of (record_at s j)) 1) (eqb (id_of (record_at s j)) v.id.0) y) in
             absurd (unmarked_none 4096 (is_component (record_at s)) (id_mark (record_at s)) 0 p marks m x j z (omega arith) l c (ap mark_of w ∙ sym k))
 
-    pub id_new : (x : ℕ) → x ≡ mark_of i.0 → x < 4096
-        → (get_or marks x 0 ≡ 0) ⊎ (false ≡ any (λ q. has_id i.0 (record_at s q)) (from 0 p))
+    pub id_new : (x : ℕ) → x ≡ mark_of v.id.0 → x < 4096
+        → (get_or marks x 0 ≡ 0) ⊎ (false ≡ any (λ q. has_id v.id.0 (record_at s q)) (from 0 p))
         → (false ≡ fails10 (record_at s) p) × (false ≡ false → IdsTo (set marks x 1))
     id_new x k l w = (
-      fails10_component s p g e o i f h false (by_way w),
+      fails10_component s p g e v h false (by_way w),
       λ z. marks_up 4096 (is_component (record_at s)) (id_mark (record_at s)) 0 p marks m x l (k ∙ ap mark_of (sym id_is)),
     )
       where
-        by_way : (get_or marks x 0 ≡ 0) ⊎ (false ≡ any (λ q. has_id i.0 (record_at s q)) (from 0 p))
-            → false ≡ any (λ q. has_id i.0 (record_at s q)) (from 0 p)
+        by_way : (get_or marks x 0 ≡ 0) ⊎ (false ≡ any (λ q. has_id v.id.0 (record_at s q)) (from 0 p))
+            → false ≡ any (λ q. has_id v.id.0 (record_at s q)) (from 0 p)
         by_way (inl z) = id_unmarked x k z
         by_way (inr z) = z
 
 -- 13, where what the records before enter is marked: it enters nothing; an input that was searched for and found; one that is new.
 module _ (s marks : List ℕ) (p : ℕ)
     (m : IsMarked 16384 (is_entry (record_at s)) (entry_mark (record_at s) (length s / 24)) 0 p marks)
-    (g : Entry) (e : EntryAs g (record_at s p)) where
+    (g : Option Entry) (e : EntryAs g (record_at s p)) where
   abbrev EntriesTo : List ℕ → Type 0
   EntriesTo u = IsMarked 16384 (is_entry (record_at s)) (entry_mark (record_at s) (length s / 24)) 0 (p + 1) u
 
-  pub entry_other : g ≡ NoEntry → (false ≡ fails13 (record_at s) p) × (false ≡ false → EntriesTo marks)
+  pub entry_other : g ≡ None → (false ≡ fails13 (record_at s) p) × (false ≡ false → EntriesTo marks)
   entry_other h =
       let z = entering_none (record_at s p) g e h in (
         sym (ap (λ (b : Bool). b && any (λ q. entering_as (record_at s p) (record_at s q)) (from 0 p)) z),
@@ -124,17 +120,17 @@ module _ (s marks : List ℕ) (p : ℕ)
   entry_found x u d k =
       (sym (ap not (ne_eqb x p k)) ∙ fails13_earlier (record_at s) p x d, λ z. absurd (false≢true (sym z)))
 
-  module _ (o d : ℕ) (c : ChildNo) (h : g ≡ Of o c d) where
-    mark_is : entry_mark (record_at s) (length s / 24) p ≡ place_mark (record_at s) (length s / 24) o c.0 d
+  module _ (r : Entry) (h : g ≡ Some r) where
+    mark_is : entry_mark (record_at s) (length s / 24) p ≡ place_mark (record_at s) (length s / 24) r.owner r.to.0 r.input
     mark_is =
-        let z = entering_is (record_at s p) g e o d c h in
+        let z = entering_is (record_at s p) g e r h in
         ap (λ (x : ℕ). place_mark (record_at s) (length s / 24) x (to_of (record_at s p)) (input_of (record_at s p))) z.1
-        ∙ ap (λ (x : ℕ). place_mark (record_at s) (length s / 24) o x (input_of (record_at s p))) z.2
-        ∙ ap (place_mark (record_at s) (length s / 24) o c.0) z.3
+        ∙ ap (λ (x : ℕ). place_mark (record_at s) (length s / 24) r.owner x (input_of (record_at s p))) z.2
+        ∙ ap (place_mark (record_at s) (length s / 24) r.owner r.to.0) z.3
 
-    entry_unmarked : (x : ℕ) → x ≡ place_mark (record_at s) (length s / 24) o c.0 d → get_or marks x 0 ≡ 0 → false ≡ fails13 (record_at s) p
+    entry_unmarked : (x : ℕ) → x ≡ place_mark (record_at s) (length s / 24) r.owner r.to.0 r.input → get_or marks x 0 ≡ 0 → false ≡ fails13 (record_at s) p
     entry_unmarked x k z =
-        sym (ap (λ (b : Bool). b && any (λ q. entering_as (record_at s p) (record_at s q)) (from 0 p)) (entering_is (record_at s p) g e o d c h).0
+        sym (ap (λ (b : Bool). b && any (λ q. entering_as (record_at s p) (record_at s q)) (from 0 p)) (entering_is (record_at s p) g e r h).0
         ∙ any_false (λ q. entering_as (record_at s p) (record_at s q)) 0 p
         (λ j a b. other j (omega arith) (entering_as (record_at s p) (record_at s j)) refl))
       where
@@ -163,7 +159,7 @@ module _ (s marks : List ℕ) (p : ℕ)
             absurd (unmarked_none 16384 (is_entry (record_at s)) (entry_mark (record_at s) (length s / 24)) 0 p marks m x j z (omega arith) l w.0
             (v ∙ mark_is ∙ sym k))
 
-    pub entry_new : (x : ℕ) → x ≡ place_mark (record_at s) (length s / 24) o c.0 d → x < 16384
+    pub entry_new : (x : ℕ) → x ≡ place_mark (record_at s) (length s / 24) r.owner r.to.0 r.input → x < 16384
         → (get_or marks x 0 ≡ 0) ⊎ (p ≡ earlier_of (record_at s) p) → (false ≡ fails13 (record_at s) p) × (false ≡ false → EntriesTo (set marks x 1))
     entry_new x k l w = (
       by_way w,

@@ -1,33 +1,22 @@
 -- What the functions of src/lib.rt answer.
 -- Nobody has to believe anything here: each word only shortens what a definition of specs/Drawing.antt says.
---   fails_by at n k p     the record at p fails check k, of 3 to 14
 --   EntryAs              what is seen of an entry
 --   IsFirst f n r        of n positions r is the first that f holds of; n where it holds of none
 --   is_entry at p         the record at p enters a child's input
 --   id_mark, place_mark, entry_mark   the marks of the id of component p, of an input of a child, and of the one that record p enters
 -- Assumes nothing.
-use Rattle.std.specs.Prelude.{ℕ, ◌+◌, ◌*◌, ◌%◌, ◌≤◌, ◌<◌, ◌≡◌, Bool, true, false, cond, eqb}
+use Rattle.std.specs.Prelude.{ℕ, ◌+◌, ◌*◌, ◌%◌, ◌≤◌, ◌<◌, ◌≡◌, Bool, true, false, Option, Some, None}
 use Rattle.component.specs.declared.Record.{Record}
 use Rattle.component.specs.Record.{to_of, input_of, entering}
 use Rattle.component.specs.Reading.{owner_of}
 use Rattle.checks.specs.declared.Entry.{Entry}
-use Rattle.checks.specs.declared.Entry.TheVariants.{Of, Nothing as NoEntry}
 use Rattle.kinds.specs.Marks.{mark_of}
 use Rattle.component.specs.Drawing.{child}
-use Rattle.component.specs.Drawing.{fails3, fails4, fails5, fails6, fails7, fails8, fails9}
-use Rattle.component.specs.Drawing.{fails10, fails11, fails12, fails13, fails14}
-
-unfoldable pub fails_by : (ℕ → Record) → ℕ → ℕ → ℕ → Bool
-fails_by at n k p =
-    cond (eqb k 3) (fails3 at p) (cond (eqb k 4) (fails4 at p) (cond (eqb k 5) (fails5 at p) (cond (eqb k 6) (fails6 at p)
-    (cond (eqb k 7) (fails7 at p) (cond (eqb k 8) (fails8 at p) (cond (eqb k 9) (fails9 at p) (cond (eqb k 10) (fails10 at p)
-    (cond (eqb k 11) (fails11 at p) (cond (eqb k 12) (fails12 at n p) (cond (eqb k 13) (fails13 at p)
-    (cond (eqb k 14) (fails14 at n p) false)))))))))))
 
 -- What is seen of an entry: the input that a record enters, or that it enters none.
-abbrev pub EntryAs : Entry → Record → Type 0
-EntryAs (Of o c d) r = (entering r ≡ true) × (owner_of r ≡ o) × (to_of r ≡ c.0) × (input_of r ≡ d)
-EntryAs NoEntry r = entering r ≡ false
+abbrev pub EntryAs : Option Entry → Record → Type 0
+EntryAs (Some x) r = (entering r ≡ true) × (owner_of r ≡ x.owner) × (to_of r ≡ x.to.0) × (input_of r ≡ x.input)
+EntryAs None r = entering r ≡ false
 
 pub record IsFirst (f : ℕ → Bool) (n r : ℕ) : Type 0 where
   pub within : r ≤ n

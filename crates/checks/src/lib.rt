@@ -1,4 +1,4 @@
-// The checks 3 to 14. Those of one record by itself answer the refusal's number, or 0; those that look at earlier records too go over all of
+// The checks 3 to 14. Those of one record by itself answer whether the record fails; those that look at earlier records too go over all of
 // them, with what they have to know of the earlier ones carried along. Rule: docs/SPECIFICATION.md, "Numbers given back".
 #![tactic(auto)]
 
@@ -9,8 +9,6 @@ ghost use Rattle.lists.specs.Lists.{from, any};
 ghost use Rattle.component.specs.Record.{record_at, record_count};
 ghost use Rattle.component.specs.Reading.{form_by, said, Readable};
 ghost use Rattle.index.specs.Index.{IsIndex};
-ghost use Rattle.component.specs.Reading.{given};
-ghost use Rattle.checks.specs.Checks.{fails_by};
 ghost use Rattle.component.specs.Record.{inputs_of, outputs_of, is_primitive, composite};
 ghost use Rattle.component.specs.Reading.{has_id, enters};
 ghost use Rattle.checks.specs.Checks.{EntryAs};
@@ -19,20 +17,17 @@ ghost use Rattle.component.specs.Drawing.{fails3, fails4, fails5, fails6, fails7
 ghost use Rattle.component.specs.Drawing.{fails12, fails14, earlier_of};
 
 use component::{
-    ChildNo, Reading, Says, Stands, component_at, deepest, fields_at, given, known_at, record_at,
+    ChildNo, Component, Reading, Says, component_at, deepest, fields_at, known_at, record_at,
 };
 use index::{child_of, out_map_count};
 use kinds::{Id, Kind, number_of};
 pub use passes::{first10, first11, first13, place_mark};
 
-// 3: the record is not taken apart.
-fn check3(file: &[u8], p: usize) -> u32
-    ensures { result ≡ given 3 (fails3 (record_at file.now) p) }
+// 3: the record is not taken apart. Crate flatten calls it over all records of a file, and so each of the other checks of one record, in number order.
+pub fn check3(file: &[u8], p: usize) -> bool
+    ensures { result ≡ fails3 (record_at file.now) p }
 {
-    let Reading::Refused(number) = record_at(file, p) else {
-        return 0;
-    };
-    number
+    matches!(record_at(file, p), Reading::Refused(_))
 }
 
 // Whether the record kind falls, or the owner among equal kinds 2 to 4.
@@ -62,27 +57,24 @@ fn falls(here: Says, owner: u16, before: Says, was: u16) -> bool
 }
 
 // 4: kinds do not fall, nor owners among equal kinds 2 to 4; the first record is of kind 1. Check 3 has passed.
-fn check4(file: &[u8], p: usize) -> u32
+pub fn check4(file: &[u8], p: usize) -> bool
     requires { Readable file.now × (fails3 (record_at file.now) p ≡ false) }
-    ensures { result ≡ given 4 (fails4 (record_at file.now) p) }
+    ensures { result ≡ fails4 (record_at file.now) p }
 {
     if p == 0 {
-        let Stands::Component { .. } = component_at(file, 0) else {
-            return 4;
-        };
-        return 0;
+        return component_at(file, 0).is_none();
     }
     let Reading::Taken { owner, says } = known_at(file, p) else {
-        return 0;
+        return false;
     };
     let Reading::Taken {
         owner: was,
         says: before,
     } = known_at(file, p - 1)
     else {
-        return 0;
+        return false;
     };
-    given(4, falls(says, owner, before, was))
+    falls(says, owner, before, was)
 }
 
 // Whether composite o holds component q, at most f owners up.
@@ -95,7 +87,7 @@ fn holds(file: &[u8], f: usize, o: usize, q: usize) -> bool
         if inner == 0 {
             return false;
         }
-        let Stands::Component { owner, .. } = component_at(file, inner) else {
+        let Some(Component { owner, .. }) = component_at(file, inner) else {
             return false;
         };
         let outer = owner as usize;
@@ -116,27 +108,27 @@ pub fn is_composite_at(file: &[u8], p: usize) -> bool
 }
 
 // 5: the root's owner is 0; any other is a composite, a component's one that is the component before or holds it. Check 3 has passed.
-fn check5(file: &[u8], p: usize) -> u32
+pub fn check5(file: &[u8], p: usize) -> bool
     requires { Readable file.now × (fails3 (record_at file.now) p ≡ false) }
-    ensures { result ≡ given 5 (fails5 (record_at file.now) p) }
+    ensures { result ≡ fails5 (record_at file.now) p }
 {
     let Reading::Taken { owner, says } = known_at(file, p) else {
-        return 0;
+        return false;
     };
     let o = owner as usize;
     if p == 0 {
-        return given(5, o != 0);
+        return o != 0;
     }
     if !is_composite_at(file, o) {
-        return 5;
+        return true;
     }
     let Says::Component { .. } = says else {
-        return 0;
+        return false;
     };
     if o == p - 1 {
-        return 0;
+        return false;
     }
-    given(5, !holds(file, p - 1, o, p - 1))
+    !holds(file, p - 1, o, p - 1)
 }
 
 // Whether the depth of component p is over d.
@@ -149,7 +141,7 @@ fn deeper(file: &[u8], d: u8, p: usize) -> bool
         if inner == 0 {
             return false;
         }
-        let Stands::Component { owner, .. } = component_at(file, inner) else {
+        let Some(Component { owner, .. }) = component_at(file, inner) else {
             return false;
         };
         inner = owner as usize;
@@ -158,50 +150,50 @@ fn deeper(file: &[u8], d: u8, p: usize) -> bool
 }
 
 // 6: component number 256 or more, or too deep.
-fn check6(file: &[u8], p: usize) -> u32
+pub fn check6(file: &[u8], p: usize) -> bool
     requires { Readable file.now }
-    ensures { result ≡ given 6 (fails6 (record_at file.now) p) }
+    ensures { result ≡ fails6 (record_at file.now) p }
 {
-    let Stands::Component { .. } = component_at(file, p) else {
-        return 0;
+    let Some(_) = component_at(file, p) else {
+        return false;
     };
     if 256 <= p {
-        return 6;
+        return true;
     }
-    given(6, deeper(file, deepest(), p))
+    deeper(file, deepest(), p)
 }
 
 // 7: the kind is the one kept for Custom.
-fn check7(file: &[u8], p: usize) -> u32
+pub fn check7(file: &[u8], p: usize) -> bool
     requires { Readable file.now }
-    ensures { result ≡ given 7 (fails7 (record_at file.now) p) }
+    ensures { result ≡ fails7 (record_at file.now) p }
 {
-    let Stands::Component { fields, .. } = component_at(file, p) else {
-        return 0;
+    let Some(Component { fields, .. }) = component_at(file, p) else {
+        return false;
     };
-    given(7, kinds::is_kept(fields.kind))
+    kinds::is_kept(fields.kind)
 }
 
 // 8: the kind is none.
-fn check8(file: &[u8], p: usize) -> u32
+pub fn check8(file: &[u8], p: usize) -> bool
     requires { Readable file.now }
-    ensures { result ≡ given 8 (fails8 (record_at file.now) p) }
+    ensures { result ≡ fails8 (record_at file.now) p }
 {
-    let Stands::Component { fields, .. } = component_at(file, p) else {
-        return 0;
+    let Some(Component { fields, .. }) = component_at(file, p) else {
+        return false;
     };
-    given(8, kinds::is_unknown(fields.kind))
+    kinds::is_unknown(fields.kind)
 }
 
 // 9: the component breaks the table of kinds.
-fn check9(file: &[u8], p: usize) -> u32
+pub fn check9(file: &[u8], p: usize) -> bool
     requires { Readable file.now }
-    ensures { result ≡ given 9 (fails9 (record_at file.now) p) }
+    ensures { result ≡ fails9 (record_at file.now) p }
 {
-    let Stands::Component { fields, .. } = component_at(file, p) else {
-        return 0;
+    let Some(Component { fields, .. }) = component_at(file, p) else {
+        return false;
     };
-    given(9, !kinds::obeys(fields))
+    !kinds::obeys(fields)
 }
 
 // Whether a component at a position of the file has the id.
@@ -209,7 +201,7 @@ fn has_id(file: &[u8], q: usize, id: Id) -> bool
     requires { Readable file.now }
     ensures { result ≡ has_id id.0 (record_at file.now q) }
 {
-    let Stands::Component { id: other, .. } = component_at(file, q) else {
+    let Some(Component { id: other, .. }) = component_at(file, q) else {
         return false;
     };
     other.0 == id.0
@@ -237,7 +229,7 @@ fn ports_at(file: &[u8], q: usize) -> Ports
         (result.inputs ≤ 65535) × (result.outputs ≡ cond (is_primitive (record_at file.now q)) (outputs_of (record_at file.now q)) 0) ×
         (result.outputs ≤ 65535) }
 {
-    let Stands::Component { fields, .. } = component_at(file, q) else {
+    let Some(Component { fields, .. }) = component_at(file, q) else {
         return Ports {
             inputs: 0,
             outputs: 0,
@@ -260,7 +252,7 @@ pub fn has_input(file: &[u8], c: usize, i: u16) -> bool
     requires { Readable file.now }
     ensures { result ≡ ltb i (inputs_of (record_at file.now c)) }
 {
-    let Stands::Component { fields, .. } = component_at(file, c) else {
+    let Some(Component { fields, .. }) = component_at(file, c) else {
         return false;
     };
     i < fields.inputs
@@ -271,23 +263,23 @@ pub fn has_output(file: &[u8], c: usize, i: u16) -> bool
     requires { Readable file.now }
     ensures { result ≡ ltb i (outputs_of (record_at file.now c)) }
 {
-    let Stands::Component { fields, .. } = component_at(file, c) else {
+    let Some(Component { fields, .. }) = component_at(file, c) else {
         return false;
     };
     i < fields.outputs
 }
 
 // 12: a child or port in kinds 2 to 4 does not exist.
-fn check12(file: &[u8], index: &[u16], p: usize) -> u32
+pub fn check12(file: &[u8], index: &[u16], p: usize) -> bool
     requires { IsIndex file.now index.now }
-    ensures { result ≡ given 12 (fails12 (record_at file.now) (record_count file.now) p) }
+    ensures { result ≡ fails12 (record_at file.now) (record_count file.now) p }
 {
     let Reading::Taken { owner, says } = known_at(file, p) else {
-        return 0;
+        return false;
     };
     let o = owner as usize;
     match says {
-        Says::Component { .. } => 0,
+        Says::Component { .. } => false,
         Says::Connection {
             from,
             output,
@@ -296,72 +288,65 @@ fn check12(file: &[u8], index: &[u16], p: usize) -> u32
         } => {
             let from_there = has_output(file, child_of(file, index, o, from), output);
             let to_there = has_input(file, child_of(file, index, o, to), input);
-            given(12, !(from_there & to_there))
+            !(from_there & to_there)
         }
         Says::InputMap { port, to, input } => {
             let to_there = has_input(file, child_of(file, index, o, to), input);
-            given(12, !(has_input(file, o, port) & to_there))
+            !(has_input(file, o, port) & to_there)
         }
         Says::OutputMap { from, output } => {
             let from_there = has_output(file, child_of(file, index, o, from), output);
-            given(12, !from_there)
+            !from_there
         }
     }
 }
 
-// A child's input that a record enters, or none.
-#[derive(Clone, Copy)]
-pub enum Entry {
-    Of { owner: u16, to: ChildNo, input: u16 },
-    Nothing,
+// A child's input that a record enters.
+#[derive(Clone, Copy, PartialEq, Eq)]
+pub struct Entry {
+    pub owner: u16,
+    pub to: ChildNo,
+    pub input: u16,
 }
 
-// The child's input that a record enters.
-pub fn entry_of(r: Reading) -> Entry
+// The child's input that a record enters, if it enters one. Crate mend calls it too.
+pub fn entry_of(r: Reading) -> Option<Entry>
     ensures { EntryAs result (said r) }
 {
     let Reading::Taken { owner, says } = r else {
-        return Entry::Nothing;
+        return None;
     };
     match says {
-        Says::Component { .. } => Entry::Nothing,
-        Says::Connection { to, input, .. } => Entry::Of { owner, to, input },
-        Says::InputMap { to, input, .. } => Entry::Of { owner, to, input },
-        Says::OutputMap { .. } => Entry::Nothing,
+        Says::Component { .. } => None,
+        Says::Connection { to, input, .. } => Some(Entry { owner, to, input }),
+        Says::InputMap { to, input, .. } => Some(Entry { owner, to, input }),
+        Says::OutputMap { .. } => None,
     }
 }
 
 // The one that the record at a position enters, also of a file that check 3 has not been asked of.
-fn entry_at(file: &[u8], p: usize) -> Entry
+fn entry_at(file: &[u8], p: usize) -> Option<Entry>
     ensures { EntryAs result (record_at file.now p) }
 {
     entry_of(record_at(file, p))
 }
 
-// Whether the record at q enters the input of child `to` of an owner.
-fn same_entry(file: &[u8], q: usize, owner: u16, to: ChildNo, input: u16) -> bool
-    ensures { result ≡ enters owner to.0 input (record_at file.now q) }
+// Whether the record at q enters the input of an entry.
+fn same_entry(file: &[u8], q: usize, entry: Entry) -> bool
+    ensures { result ≡ enters entry.owner entry.to.0 entry.input (record_at file.now q) }
 {
-    let Entry::Of {
-        owner: other,
-        to: child,
-        input: port,
-    } = entry_at(file, q)
-    else {
-        return false;
-    };
-    (other == owner) & (child.0 == to.0) & (port == input)
+    entry_at(file, q) == Some(entry)
 }
 
 // The first record that enters the child's input which the record at p enters, as an earlier one of two that meet; p where there is none.
 pub fn earlier_of(file: &[u8], p: usize) -> usize
     ensures { result ≡ earlier_of (record_at file.now) p }
 {
-    let Entry::Of { owner, to, input } = entry_at(file, p) else {
+    let Some(entry) = entry_at(file, p) else {
         return p;
     };
     for q in 0..p {
-        if same_entry(file, q, owner, to, input) {
+        if same_entry(file, q, entry) {
             return q;
         }
     }
@@ -369,44 +354,15 @@ pub fn earlier_of(file: &[u8], p: usize) -> usize
 }
 
 // 14: a composite's output maps differ in number from its outputs. Check 6 has passed, so that the index has a word of it.
-fn check14(file: &[u8], index: &[u16], p: usize) -> u32
+pub fn check14(file: &[u8], index: &[u16], p: usize) -> bool
     requires { IsIndex file.now index.now × (fails6 (record_at file.now) p ≡ false) }
-    ensures { result ≡ given 14 (fails14 (record_at file.now) (record_count file.now) p) }
+    ensures { result ≡ fails14 (record_at file.now) (record_count file.now) p }
 {
-    let Stands::Component { fields, .. } = component_at(file, p) else {
-        return 0;
+    let Some(Component { fields, .. }) = component_at(file, p) else {
+        return false;
     };
     if fields.kind != number_of(Kind::Composite) {
-        return 0;
+        return false;
     }
-    given(14, fields.outputs as usize != out_map_count(index, p))
-}
-
-// What check k gives of the record at p, of the checks 3 to 9, for which no index is filled. Crate flatten calls it over all records of a file, in number
-// order: where k is past 3, check 3 has passed.
-pub fn check_alone(file: &[u8], k: u32, p: usize) -> u32
-    requires { (k < 10) × (3 < k → Readable file.now × (fails3 (record_at file.now) p ≡ false)) }
-    ensures { result ≡ given k (fails_by (record_at file.now) (record_count file.now) k p) }
-{
-    match k {
-        3 => check3(file, p),
-        4 => check4(file, p),
-        5 => check5(file, p),
-        6 => check6(file, p),
-        7 => check7(file, p),
-        8 => check8(file, p),
-        9 => check9(file, p),
-        _ => 0,
-    }
-}
-
-// The same of the checks 12 and 14, with the index filled. Crate flatten calls it likewise.
-pub fn check_indexed(file: &[u8], index: &[u16], k: u32, p: usize) -> u32
-    requires { IsIndex file.now index.now × (fails6 (record_at file.now) p ≡ false) × ((k ≡ 12) ⊎ (k ≡ 14)) }
-    ensures { result ≡ given k (fails_by (record_at file.now) (record_count file.now) k p) }
-{
-    if k == 12 {
-        return check12(file, index, p);
-    }
-    check14(file, index, p)
+    fields.outputs as usize != out_map_count(index, p)
 }

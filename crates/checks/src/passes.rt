@@ -9,7 +9,7 @@ ghost use Rattle.index.specs.Index.{IsIndex};
 ghost use Rattle.checks.specs.Checks.{IsFirst, id_mark, is_entry, place_mark, entry_mark};
 
 use crate::{Entry, earlier_of, entry_of, id_before, ports_at};
-use component::{ChildNo, Stands, component_at, known_at};
+use component::{ChildNo, Component, component_at, known_at};
 use index::child_of;
 
 // 10 of the record at p, where the ids of the components before it are marked: an id whose mark is not set is none of theirs, and one whose
@@ -20,7 +20,7 @@ fn id_again(file: &[u8], marks: &mut [u8; 4096], p: usize) -> bool
     ensures marked { result ≡ false → IsMarked 4096 (is_component (record_at file.now)) (id_mark (record_at file.now)) 0 (p + 1)
         marks.new }
 {
-    let Stands::Component { id, .. } = component_at(file, p) else {
+    let Some(Component { id, .. }) = component_at(file, p) else {
         return false;
     };
     let at = kinds::mark_of(id);
@@ -86,7 +86,7 @@ fn enters_again(file: &[u8], index: &[u16], marks: &mut [u8; 16384], p: usize) -
     ensures marked { result ≡ false → IsMarked 16384 (is_entry (record_at file.now))
         (entry_mark (record_at file.now) (record_count file.now)) 0 (p + 1) marks.new }
 {
-    let Entry::Of { owner, to, input } = entry_of(known_at(file, p)) else {
+    let Some(Entry { owner, to, input }) = entry_of(known_at(file, p)) else {
         return false;
     };
     let place = place_mark(file, index, owner, to, input);

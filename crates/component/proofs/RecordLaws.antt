@@ -28,8 +28,8 @@ use Rattle.component.specs.declared.Says.{Says}
 use Rattle.component.specs.declared.Says.TheVariants.{Component, Connection, InputMap, OutputMap}
 use Rattle.component.specs.declared.Reading.{Reading}
 use Rattle.component.specs.declared.Reading.TheVariants.{Taken, Refused}
-use Rattle.component.specs.declared.Stands.{Stands}
-use Rattle.component.specs.declared.Stands.TheVariants.{Component as StandsComponent, Nothing}
+use Rattle.component.specs.declared.Component.{Component as Seen}
+use Rattle.std.specs.Prelude.{Option, Some, None}
 use Rattle.component.specs.contracts.Says.{the_type}
 
 -- The record kind and the owner of a record taken apart.
@@ -122,35 +122,35 @@ fields_cases r = by_test (eqb (form_of r) 1) refl
     by_test false e = inr (rw e)
 
 -- A component that is seen, and none.
-module _ (t : Record) (g : Stands) (e : StandsAs g t) where
-  pub unseen : g ≡ Nothing → form_of t ≡ 1 → ⊥
+module _ (t : Record) (g : Option Seen) (e : StandsAs g t) where
+  pub unseen : g ≡ None → form_of t ≡ 1 → ⊥
   unseen h = rw h at e
 
-  pub unseen_test : g ≡ Nothing → eqb (form_of t) 1 ≡ false
+  pub unseen_test : g ≡ None → eqb (form_of t) 1 ≡ false
   unseen_test h = ne_eqb (form_of t) 1 (unseen h)
 
-  pub unseen_fields : g ≡ Nothing → fields_of t ≡ no_fields
+  pub unseen_fields : g ≡ None → fields_of t ≡ no_fields
   unseen_fields h = rw (unseen_test h)
 
-  module _ (o : ℕ) (i : Id) (f : Fields) (h : g ≡ StandsComponent o i f) where
-    pub seen_is : t ≡ apart o (Component i f)
+  module _ (x : Seen) (h : g ≡ Some x) where
+    pub seen_is : t ≡ apart x.owner (Component x.id x.fields)
     seen_is = rw h at e
 
-    pub seen_fields : fields_of t ≡ f
+    pub seen_fields : fields_of t ≡ x.fields
     seen_fields = ap fields_of seen_is
 
-  pub unseen_primitive : g ≡ Nothing → false ≡ is_primitive t
+  pub unseen_primitive : g ≡ None → false ≡ is_primitive t
   unseen_primitive h = rw (unseen_test h)
 
 -- Seeing one: the record is refused; it is none; it is one.
 module _ (t : Record) (r : Reading) (e : said r ≡ t) where
-  pub sees_refused : {k : ℕ} → r ≡ Refused k → StandsAs Nothing t
+  pub sees_refused : {k : ℕ} → r ≡ Refused k → StandsAs None t
   sees_refused h z = omega (arith, ap form_of (refused_is t r e h))
 
-  pub sees_line : (o : ℕ) (x : Says) → r ≡ Taken o x → OneOf (1 ∷ 2 ∷ 3 ∷ []) (tag_of the_type x) → StandsAs Nothing t
+  pub sees_line : (o : ℕ) (x : Says) → r ≡ Taken o x → OneOf (1 ∷ 2 ∷ 3 ∷ []) (tag_of the_type x) → StandsAs None t
   sees_line o x h k z = no_component x k (sym (taken_form t r e o x h) ∙ z)
 
-  pub sees_component : (o : ℕ) (x : Says) (i : Id) (f : Fields) → r ≡ Taken o x → x ≡ Component i f → StandsAs (StandsComponent o i f) t
+  pub sees_component : (o : ℕ) (x : Says) (i : Id) (f : Fields) → r ≡ Taken o x → x ≡ Component i f → StandsAs (Some (record { owner = o; id = i; fields = f })) t
   sees_component o x i f h k = taken_is t r e o x h ∙ ap (apart o) k
 
 -- Taking a record apart, by its record kind.

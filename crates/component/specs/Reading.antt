@@ -1,7 +1,7 @@
 -- What reading a record answers, and what is seen of one, as its nine numbers.
 -- Nobody has to believe anything here: each word ties an enum of the code to the nine numbers of specs/Record.antt, of which the checks speak.
 -- Assumes nothing.
-use Rattle.std.specs.Prelude.{◌≡◌, ℕ, ◌<◌, Bool, false, cond, ◌&&◌, List, eqb}
+use Rattle.std.specs.Prelude.{◌≡◌, ℕ, ◌<◌, Bool, false, cond, ◌&&◌, List, eqb, Option, Some, None}
 use Rattle.lists.specs.Lists.{within}
 use Rattle.kinds.specs.declared.table.Fields.{Fields}
 use Rattle.kinds.specs.Kinds.{no_kind}
@@ -10,8 +10,7 @@ use Rattle.component.specs.declared.Says.{Says}
 use Rattle.component.specs.declared.Says.TheVariants.{Component, Connection, InputMap, OutputMap}
 use Rattle.component.specs.declared.Reading.{Reading}
 use Rattle.component.specs.declared.Reading.TheVariants.{Taken, Refused}
-use Rattle.component.specs.declared.Stands.{Stands}
-use Rattle.component.specs.declared.Stands.TheVariants.{Component as StandsComponent, Nothing}
+use Rattle.component.specs.declared.Component.{Component as Seen}
 use Rattle.component.specs.Record.{no_record, well_formed, record_at, record_count, entering, to_of, input_of}
 
 -- Its record kind, its owner and its id, as laws speak of them.
@@ -75,9 +74,9 @@ number (Taken o s) = 0
 number (Refused k) = k
 
 -- What is seen of a record: the component, taken apart, or that it is none.
-abbrev pub StandsAs : Stands → Record → Type 0
-StandsAs (StandsComponent o i f) r = r ≡ apart o (Component i f)
-StandsAs Nothing r = form_of r ≡ 1 → ⊥
+abbrev pub StandsAs : Option Seen → Record → Type 0
+StandsAs (Some x) r = r ≡ apart x.owner (Component x.id x.fields)
+StandsAs None r = form_of r ≡ 1 → ⊥
 
 -- The number of a check that fails, else 0.
 abbrev pub given : ℕ → Bool → ℕ

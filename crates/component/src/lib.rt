@@ -6,8 +6,7 @@ mod reader;
 
 use kinds::{Fields, Id};
 pub use reader::{
-    component_at, deepest, fields_at, given, is_primitive_at, is_sized, known_at, loose_at,
-    record_at,
+    component_at, deepest, fields_at, is_primitive_at, is_sized, known_at, loose_at, record_at,
 };
 
 // A child, counted below one owner.
@@ -52,16 +51,18 @@ pub enum Says {
     },
 }
 
-// What reading a record answers: the record taken apart, or the number that refuses it.
+// What reading a record answers: the record taken apart, or the number that refuses it. It is an enum of its own because
+// docs/SPECIFICATION.md, "Expected form in each place", names that form: reading a record answers an enum, and callers use `let .. else`.
 #[derive(Clone, Copy)]
 pub enum Reading {
     Taken { owner: u16, says: Says },
     Refused(u32),
 }
 
-// The component at a position, if there is one.
+// The component at a position.
 #[derive(Clone, Copy)]
-pub enum Stands {
-    Component { owner: u16, id: Id, fields: Fields },
-    Nothing,
+pub struct Component {
+    pub owner: u16,
+    pub id: Id,
+    pub fields: Fields,
 }

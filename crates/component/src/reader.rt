@@ -7,7 +7,7 @@ ghost use Rattle.component.specs.Record.{fields_of, is_primitive};
 ghost use Rattle.component.specs.Reading.{apart, said, number, given, Readable, StandsAs};
 ghost use Rattle.component.specs.Drawing.{deepest, fails3};
 
-use crate::{ChildNo, Reading, Record, Says, Stands};
+use crate::{ChildNo, Component, Reading, Record, Says};
 use kinds::{Fields, Id, NO_KIND};
 
 fn wide16(x: u8) -> u16
@@ -178,17 +178,17 @@ pub fn loose_at(file: &[u8], p: usize) -> Reading
 }
 
 // The component at a position of the file, if there is one. Check 3 has passed. Crates index, checks, laying and boxes call it.
-pub fn component_at(file: &[u8], p: usize) -> Stands
+pub fn component_at(file: &[u8], p: usize) -> Option<Component>
     requires { Readable file.now }
     ensures { StandsAs result (record_at file.now p) }
 {
     let Reading::Taken { owner, says } = known_at(file, p) else {
-        return Stands::Nothing;
+        return None;
     };
     let Says::Component { id, fields } = says else {
-        return Stands::Nothing;
+        return None;
     };
-    Stands::Component { owner, id, fields }
+    Some(Component { owner, id, fields })
 }
 
 // The fields of the component at a position of the file; those of no component where none stands there. Check 3 has passed. Crates checks,
@@ -197,7 +197,7 @@ pub fn fields_at(file: &[u8], p: usize) -> Fields
     requires { Readable file.now }
     ensures { result ≡ fields_of (record_at file.now p) }
 {
-    let Stands::Component { fields, .. } = component_at(file, p) else {
+    let Some(Component { fields, .. }) = component_at(file, p) else {
         return Fields {
             kind: NO_KIND,
             inputs: 0,
@@ -216,16 +216,6 @@ pub fn is_primitive_at(file: &[u8], p: usize) -> bool
     ensures { result ≡ is_primitive (record_at file.now p) }
 {
     kinds::is_primitive(fields_at(file, p))
-}
-
-// The number of a check that fails, else 0.
-pub fn given(number: u32, fails: bool) -> u32
-    ensures { result ≡ given number fails }
-{
-    if fails {
-        return number;
-    }
-    0
 }
 
 // The greatest depth, the root's being 1.

@@ -32,8 +32,7 @@ use Rattle.component.specs.Record.{owned_as}
 use Rattle.component.specs.contracts.Says.{the_type}
 use Rattle.component.proofs.RecordLaws.{no_input_map, no_output_map, refused_is, taken_is, taken_form}
 use Rattle.flatten.specs.declared.Pin.{Pin}
-use Rattle.flatten.specs.declared.descent.Entered.{Entered}
-use Rattle.flatten.specs.declared.descent.Entered.TheVariants.{To, Nothing}
+use Rattle.std.specs.Prelude.{Option, Some, None}
 use Rattle.flatten.specs.Descent.{pin, output_below, inputs_below, comes_from, goes_to}
 use Rattle.flatten.specs.Searches.{entered, IsStretch}
 
@@ -154,29 +153,29 @@ module _ (at : ℕ → Record) (n : ℕ) where
       (λ q l u. given_none (d - 1) c i q (λ o. omega (arith, s.ends q l o))))
 
   -- One turn of a loop over it: the record at q leads on, or nowhere.
-  abbrev follow : ℕ → Entered → List Pin
-  follow d (To t j) = inputs_below at n d t j
-  follow d Nothing = []
+  abbrev follow : ℕ → Option Pin → List Pin
+  follow d (Some t) = inputs_below at n d t.comp t.port
+  follow d None = []
 
-  given_is : (d c i q : ℕ) (g : Entered) → g ≡ entered at n c i q → given d c i q ≡ follow d g
+  given_is : (d c i q : ℕ) (g : Option Pin) → g ≡ entered at n c i q → given d c i q ≡ follow d g
   given_is d c i q g h = sym (by_test (maps_in at c i q)) ∙ ap (follow d) (sym h)
     where
-      by_test : (b : Bool) → follow d (cond b (To (child at n c (to_of (at q))) (input_of (at q))) Nothing)
+      by_test : (b : Bool) → follow d (cond b (Some (pin (child at n c (to_of (at q))) (input_of (at q)))) None)
           ≡ cond b (inputs_below at n d (child at n c (to_of (at q))) (input_of (at q))) []
       by_test true = refl
       by_test false = refl
 
-  pub given_to : (d c i q e t j : ℕ) → q < e → To t j ≡ entered at n c i q
-      → joined (given d c i) (from q (e - q)) ≡ inputs_below at n d t j ++ joined (given d c i) (from (q + 1) (e - (q + 1)))
-  given_to d c i q e t j h k =
+  pub given_to : (d c i q e : ℕ) (t : Pin) → q < e → Some t ≡ entered at n c i q
+      → joined (given d c i) (from q (e - q)) ≡ inputs_below at n d t.comp t.port ++ joined (given d c i) (from (q + 1) (e - (q + 1)))
+  given_to d c i q e t h k =
       joined_step (given d c i) q e h
-      ∙ ap (λ (l : List Pin). l ++ joined (given d c i) (from (q + 1) (e - (q + 1)))) (given_is d c i q (To t j) k)
+      ∙ ap (λ (l : List Pin). l ++ joined (given d c i) (from (q + 1) (e - (q + 1)))) (given_is d c i q (Some t) k)
 
-  pub given_nothing : (d c i q e : ℕ) → q < e → Nothing ≡ entered at n c i q
+  pub given_nothing : (d c i q e : ℕ) → q < e → None ≡ entered at n c i q
       → joined (given d c i) (from q (e - q)) ≡ joined (given d c i) (from (q + 1) (e - (q + 1)))
   given_nothing d c i q e h k =
       joined_step (given d c i) q e h
-      ∙ ap (λ (l : List Pin). l ++ joined (given d c i) (from (q + 1) (e - (q + 1)))) (given_is d c i q Nothing k)
+      ∙ ap (λ (l : List Pin). l ++ joined (given d c i) (from (q + 1) (e - (q + 1)))) (given_is d c i q None k)
 
 -- The stretch of an index.
 pub stretch_is : (s t : List ℕ) (c a e : ℕ) → IsIndex s t → a ≡ stretch_first t c → e ≡ stretch_end t (length s / 24) c
@@ -223,11 +222,11 @@ module _ (s : List ℕ) (n : ℕ) where
 
   -- where the record at q leads: it is refused; no input map; one of another owner; of another input; of this one
   module _ (c i q : ℕ) (r : Reading) (e : said r ≡ record_at s q) where
-    pub entered_refused : {z : ℕ} → r ≡ Refused z → Nothing ≡ entered (record_at s) n c i q
+    pub entered_refused : {z : ℕ} → r ≡ Refused z → None ≡ entered (record_at s) n c i q
     entered_refused k = rw (refused_is (record_at s q) r e k)
 
     module _ (o : ℕ) (x : Says) (h : r ≡ Taken o x) where
-      pub entered_other : OneOf (0 ∷ 1 ∷ 3 ∷ []) (tag_of the_type x) → Nothing ≡ entered (record_at s) n c i q
+      pub entered_other : OneOf (0 ∷ 1 ∷ 3 ∷ []) (tag_of the_type x) → None ≡ entered (record_at s) n c i q
       entered_other k =
           rw (ne_eqb (form_of (record_at s q)) 3 (λ z. no_input_map x k (sym (taken_form (record_at s q) r e o x h) ∙ z)))
 
@@ -235,13 +234,13 @@ module _ (s : List ℕ) (n : ℕ) where
         at_map : record_at s q ≡ apart o (InputMap a t d)
         at_map = taken_is (record_at s q) r e o x h ∙ ap (apart o) k
 
-        pub entered_owner : (o ≡ c → ⊥) → Nothing ≡ entered (record_at s) n c i q
+        pub entered_owner : (o ≡ c → ⊥) → None ≡ entered (record_at s) n c i q
         entered_owner y = rw (at_map, ne_eqb o c y)
 
-        pub entered_port : o ≡ c → (a ≡ i → ⊥) → Nothing ≡ entered (record_at s) n c i q
+        pub entered_port : o ≡ c → (a ≡ i → ⊥) → None ≡ entered (record_at s) n c i q
         entered_port y g = rw (at_map, eq-eqb o c y, ne_eqb a i g)
 
-        pub entered_to : (u : ℕ) → o ≡ c → a ≡ i → u ≡ child (record_at s) n c t.0 → To u d ≡ entered (record_at s) n c i q
+        pub entered_to : (u : ℕ) → o ≡ c → a ≡ i → u ≡ child (record_at s) n c t.0 → Some (pin u d) ≡ entered (record_at s) n c i q
         entered_to u y g z = rw (z, at_map, eq-eqb o c y, eq-eqb a i g)
 
   -- a connection at p, and its ends

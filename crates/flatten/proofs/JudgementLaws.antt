@@ -1,14 +1,14 @@
 -- Laws of specs/Verdict.antt, one for each way out of a function of src/judgement.rt: what the first record that fails a check says;
--- the loop over the checks, by the place that a number has in their list; the file's size.
+-- one check more, by the place that its number has in their list; the file's size.
 -- Assumes nothing.
-use mathlib.Core.Path.{◌≡◌, refl, sym, ap, subst, ◌∙◌}
+use mathlib.Core.Path.{◌≡◌, refl, sym, ap, ◌∙◌}
 use mathlib.Core.Bool.{Bool, true, false, cond, not, ◌&&◌, false≢true}
 use mathlib.Core.List.{List, [], ◌∷◌, ◌++◌, map}
 use mathlib.Core.Option.{Option, none, some}
 use Prim.Native.Nat.{ℕ, zero, suc, ◌+◌, ◌-◌, ◌/◌, ◌%◌, ◌≤◌, ◌<◌}
 use native.Mathlib.Decide.{dec_lt}
 use native.Mathlib.Omega.{arith}
-use borrow.Author.Tests.{ne_eqb, not-true, not-false, ltb-true, leb-true}
+use borrow.Author.Tests.{not-true, not-false, ltb-true, leb-true}
 use lib.Dec.{eqb, ltb, leb}
 use lib.ListN.{length, get_or, take, drop, take-append-drop}
 use lib.Seq.{drop-cons, take-suc}
@@ -19,9 +19,8 @@ use Rattle.kinds.specs.declared.answers.Refusal.{Refusal}
 use Rattle.kinds.proofs.GivenLaws.{done_declined, declined_refusal}
 use Rattle.component.specs.Record.{record_at, sized}
 use Rattle.component.specs.declared.Record.{Record}
-use Rattle.component.specs.Reading.{given, Readable}
-use Rattle.checks.proofs.ChecksLaws.{given_failed, given_passed}
-use Rattle.checks.specs.Checks.{fails_by, IsFirst}
+use Rattle.component.specs.Reading.{Readable}
+use Rattle.checks.specs.Checks.{IsFirst}
 use Rattle.flatten.specs.Verdict.{checks, refused, or_later, judged, verdict, verdict_gives}
 use Rattle.flatten.specs.Searches.{fails_at, PassedBefore, Judged}
 use Rattle.flatten.proofs.Accepted.{Check, not_accepted, refused_not, no_check, passed_check}
@@ -57,18 +56,6 @@ module _ (f : ℕ → Bool) (n k p : ℕ) (h : IsFirst f n p) where
   accepted_first l =
       ap (λ (x : Option ℕ). or_later k x (Ok tt)) (sym (first_nothing f (from 0 n) (λ j m. h.before j (omega (arith, from0_sound n j m)))))
 
--- What the number that a check of one record gives says of it, where it is not 15: it fails; it passes.
-module _ (at : ℕ → Record) (n k p r : ℕ) (e : r ≡ given k (fails_by at n k p)) (h : 3 ≤ k) (h15 : k < 15) where
-  plain : fails_at at n k p ≡ fails_by at n k p
-  unfolding fails_at
-  plain = rw (ne_eqb k 15 (λ z. omega arith))
-
-  pub fails_here : (r ≡ 0 → ⊥) → true ≡ fails_at at n k p
-  fails_here z = sym (plain ∙ given_failed k (fails_by at n k p) r e z)
-
-  pub passes_here : r ≡ 0 → false ≡ fails_at at n k p
-  passes_here z = sym (plain ∙ given_passed k (fails_by at n k p) r e z (omega arith))
-
 -- Checks numbered from m on: the one at place j has number m + j, and F says what fails it, if F says that of each.
 pub number_at : (cs : List Check) (m j : ℕ) → map (λ (c : Check). c.0) cs ≡ from m (length cs) → j < length cs
     → (get_or cs j no_check).0 ≡ m + j
@@ -77,14 +64,6 @@ number_at (c ∷ cs) m zero e h = let z : c.0 ≡ m = cc in omega arith
 number_at (c ∷ cs) m (suc j) e h =
     let z : map (λ (x : Check). x.0) cs ≡ from (suc m) (length cs) = cc in
     omega (arith, number_at cs (suc m) j z (omega arith))
-
-fails_at_lem : (F : ℕ → ℕ → Bool) (cs : List Check) (j : ℕ) → map (λ (c : Check). c.1) cs ≡ map (λ (c : Check). F c.0) cs
-    → j < length cs → (get_or cs j no_check).1 ≡ F (get_or cs j no_check).0
-fails_at_lem F [] j e h = absurd (omega arith)
-fails_at_lem F (c ∷ cs) zero e h = cc
-fails_at_lem F (c ∷ cs) (suc j) e h =
-    let z : map (λ (x : Check). x.1) cs ≡ map (λ (x : Check). F x.0) cs = cc in
-    fails_at_lem F cs j z (omega arith)
 
 -- What a check says that finds a record, or none, before the later ones.
 later_refused : (k : ℕ) (x : Option ℕ) (v : Verdict) (r : Refusal) → or_later k x (Ok tt) ≡ Err r → or_later k x v ≡ Err r
@@ -101,18 +80,15 @@ judged_append n (x ∷ xs) ys e = by_found (judged_append n xs ys) (first x.1 (f
     by_found later (some q) e = absurd (refused_not x.0 q e)
     by_found later none e = later e
 
--- The loop over the checks, of which those before k have passed and those from place k - 3 on are still to be made.
+-- The checks, of which those before k have passed and those from place k - 3 on are still to be made.
 module _ (s : List ℕ) (n k : ℕ) (passed : PassedBefore (record_at s) n k) where
   abbrev all : List Check
   all = checks (record_at s) n
 
   check_at : 3 ≤ k → k < 16 → get_or all (k - 3) no_check ≡ (k, fails_at (record_at s) n k)
-  unfolding fails_at fails_by
   check_at h l =
       let z : (get_or all (k - 3) no_check).0 ≡ k = let e = number_at all 3 (k - 3) refl (omega arith) in omega arith in
-      let f : (get_or all (k - 3) no_check).1 ≡ fails_at (record_at s) n k =
-      fails_at_lem (fails_at (record_at s) n) all (k - 3) refl (omega arith) ∙ ap (fails_at (record_at s) n) z in
-      λ j. (z j, f j)
+      λ j. (z j, fails_at (record_at s) n k)
 
   -- a record fails check k; none does; all checks are made
   module _ (g : Verdict) (e : g ≡ or_later k (first (fails_at (record_at s) n k) (from 0 n)) (Ok tt)) where
@@ -138,15 +114,26 @@ module _ (s : List ℕ) (n k : ℕ) (passed : PassedBefore (record_at s) n k) wh
       let z : k - 3 ≡ 13 = omega arith in
       sym (ap (λ (m : ℕ). judged n (take m (checks (record_at s) n))) (sym z) ∙ passed)
 
--- The checks up to some number: one has refused; all have passed.
-module _ (at : ℕ → Record) (n m : ℕ) where
-  pub judged_refused : (r : Refusal) → Err r ≡ judged n (checks at n) → Judged m at n (Err r)
-  judged_refused r e = record { passed = λ z. absurd (not_accepted r z); refused = λ q z. sym z ∙ e }
+-- One check more, p being the first record that fails it: it refuses; it passes.
+module _ (s : List ℕ) (n k p : ℕ) (passed : PassedBefore (record_at s) n k) (h : 3 ≤ k) (l : k < 16) (f : IsFirst (fails_at (record_at s) n k) n p) where
+  pub judged_refused : p < n → Judged (k + 1) (record_at s) n (refused k p)
+  judged_refused b =
+      record {
+        passed = λ z. absurd (not_accepted _ z);
+        refused = λ r z. judged_here s n k passed (refused k p) (refused_first (fails_at (record_at s) n k) n k p f b) r h l z;
+      }
 
-  pub judged_passed : (k : ℕ) → PassedBefore at n k → k ≤ m → m ≤ k → Judged m at n (Ok tt)
-  judged_passed k h a b =
-      let z : k ≡ m = omega arith in
-      record { passed = λ y. subst (PassedBefore at n) z h; refused = λ r y. absurd (not_accepted r (sym y)) }
+  pub judged_passed : n ≤ p → Judged (k + 1) (record_at s) n (Ok tt)
+  judged_passed b =
+      record {
+        passed = λ z. passed_next s n k passed (Ok tt) (accepted_first (fails_at (record_at s) n k) n k p f b) h l refl;
+        refused = λ r y. absurd (not_accepted r (sym y));
+      }
+
+-- A check that has refused before check m is the verdict of those before m.
+pub judged_before : (at : ℕ → Record) (n k m : ℕ) (v : Verdict) (r : Refusal) → Judged k at n v → v ≡ Err r → Judged m at n (Err r)
+judged_before at n k m v r d e =
+    record { passed = λ z. absurd (not_accepted r z); refused = λ q z. sym z ∙ d.refused r e }
 
 -- The checks before 4 and before 12 leave what the later ones ask.
 pub readable_before : (s : List ℕ) (k : ℕ) → 3 < k → PassedBefore (record_at s) (length s / 24) k → Readable s

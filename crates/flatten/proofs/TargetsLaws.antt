@@ -16,8 +16,7 @@ use Rattle.lists.specs.Lists.{from, joined, overlay}
 use Rattle.lists.proofs.OverlayLaws.{sets_append, sets_overlay, joined_append, joined_width, overlay_entry, map_indexes}
 use Rattle.component.specs.Record.{record_at, is_primitive}
 use Rattle.flatten.specs.declared.Pin.{Pin}
-use Rattle.flatten.specs.declared.descent.Entered.{Entered}
-use Rattle.flatten.specs.declared.descent.Entered.TheVariants.{To, Nothing}
+use Rattle.std.specs.Prelude.{Option, Some, None}
 use Rattle.flatten.specs.Descent.{pin, inputs_below}
 use Rattle.flatten.specs.Searches.{entered, IsStretch}
 use Rattle.flatten.specs.Targets.{target_place, target_words, target_in, targets_in, Listed}
@@ -116,17 +115,17 @@ module _ (s : List ℕ) (n d c i : ℕ) (t : List ℕ) (k : ℕ) where
 
   -- one turn of the loop: the map at q leads on; it leads nowhere; and its end
   module _ (u : List ℕ) (m q e : ℕ) (inv : Listing t k goals u m (mapped q e)) where
-    module _ (g : Entered) (x j : ℕ) (l : q < e) (eg : g ≡ To x j) (h : g ≡ entered (record_at s) n c i q) where
-      on : mapped q e ≡ inputs_below (record_at s) n (d - 1) x j ++ mapped (q + 1) e
-      on = given_to (record_at s) n (d - 1) c i q e x j l (sym eg ∙ h)
+    module _ (g : Option Pin) (x : Pin) (l : q < e) (eg : g ≡ Some x) (h : g ≡ entered (record_at s) n c i q) where
+      on : mapped q e ≡ inputs_below (record_at s) n (d - 1) x.comp x.port ++ mapped (q + 1) e
+      on = given_to (record_at s) n (d - 1) c i q e x l (sym eg ∙ h)
 
-      pub list_to_room : target_place (k + length goals) ≤ length t → target_place (m + length (inputs_below (record_at s) n (d - 1) x j)) ≤ length u
-      list_to_room = listing_room t k goals u m (mapped q e) inv (inputs_below (record_at s) n (d - 1) x j) (mapped (q + 1) e) on
+      pub list_to_room : target_place (k + length goals) ≤ length t → target_place (m + length (inputs_below (record_at s) n (d - 1) x.comp x.port)) ≤ length u
+      list_to_room = listing_room t k goals u m (mapped q e) inv (inputs_below (record_at s) n (d - 1) x.comp x.port) (mapped (q + 1) e) on
 
-      pub list_to : (v : List ℕ) (w : ℕ) → Listed u m (inputs_below (record_at s) n (d - 1) x j) v w → Listing t k goals v w (mapped (q + 1) e)
-      list_to = listing_next t k goals u m (mapped q e) inv (inputs_below (record_at s) n (d - 1) x j) (mapped (q + 1) e) on
+      pub list_to : (v : List ℕ) (w : ℕ) → Listed u m (inputs_below (record_at s) n (d - 1) x.comp x.port) v w → Listing t k goals v w (mapped (q + 1) e)
+      list_to = listing_next t k goals u m (mapped q e) inv (inputs_below (record_at s) n (d - 1) x.comp x.port) (mapped (q + 1) e) on
 
-    pub list_nothing : (g : Entered) → q < e → g ≡ Nothing → g ≡ entered (record_at s) n c i q → Listing t k goals u m (mapped (q + 1) e)
+    pub list_nothing : (g : Option Pin) → q < e → g ≡ None → g ≡ entered (record_at s) n c i q → Listing t k goals u m (mapped (q + 1) e)
     list_nothing g l eg h = subst (Listing t k goals u m) (given_nothing (record_at s) n (d - 1) c i q e l (sym eg ∙ h)) inv
 
     pub list_end : e ≤ q → Listed t k goals u m

@@ -13,13 +13,6 @@ use crate::targets::lay_target;
 use component::{Reading, Says, deepest, is_primitive_at, known_at};
 use index::{child_of, out_map_of, stretch_of};
 
-// Where a record leads from an input of a composite: to an input of a child, if it is one of that input's maps, or nowhere.
-#[derive(Clone, Copy)]
-enum Entered {
-    To(usize, u16),
-    Nothing,
-}
-
 // Output i of component c, down through output maps to a primitive's output, with the depth left. Crates flatten and boxes call it,
 // with the index filled.
 pub fn source_of(file: &[u8], index: &[u16], depth: u8, c: usize, i: u16) -> Pin
@@ -43,24 +36,27 @@ pub fn source_of(file: &[u8], index: &[u16], depth: u8, c: usize, i: u16) -> Pin
     source_of(file, index, depth - 1, inner, output)
 }
 
-// Where the record at q leads, if it maps input i of composite c.
-fn enter(file: &[u8], index: &[u16], c: usize, i: u16, q: usize) -> Entered
+// Where the record at q leads, if it maps input i of composite c: an input of a child.
+fn enter(file: &[u8], index: &[u16], c: usize, i: u16, q: usize) -> Option<Pin>
     requires { IsIndex file.now index.now }
     ensures { result ≡ entered (record_at file.now) (record_count file.now) c i q }
 {
     let Reading::Taken { owner, says } = known_at(file, q) else {
-        return Entered::Nothing;
+        return None;
     };
     let Says::InputMap { port, to, input } = says else {
-        return Entered::Nothing;
+        return None;
     };
     if owner as usize != c {
-        return Entered::Nothing;
+        return None;
     }
     if port != i {
-        return Entered::Nothing;
+        return None;
     }
-    Entered::To(child_of(file, index, c, to), input)
+    Some(Pin {
+        comp: child_of(file, index, c, to),
+        port: input,
+    })
 }
 
 // Lists the primitive inputs that input i of component c leads to, through input maps and with the depth left: in map order, all that one
@@ -90,8 +86,8 @@ pub fn list_targets(
     let maps = stretch_of(index, file.len() / 24, c);
     let mut next = at;
     for q in maps.first..maps.end {
-        if let Entered::To(inner, input) = enter(file, index, c, i, q) {
-            next = list_targets(file, index, depth - 1, inner, input, targets, next);
+        if let Some(Pin { comp, port }) = enter(file, index, c, i, q) {
+            next = list_targets(file, index, depth - 1, comp, port, targets, next);
         }
     }
     next

@@ -1,75 +1,38 @@
 // The verdict on a file's bytes. Rule: docs/SPECIFICATION.md, "Numbers given back". Check 2 is not made: no table is lent.
-ghost use Rattle.std.specs.Prelude.{◌≡◌, ◌≤◌, ◌<◌, length, ◌⊎◌};
-ghost use Rattle.lists.specs.Lists.{from, first};
+ghost use Rattle.std.specs.Prelude.{◌≡◌, true, false, ℕ, ◌+◌, ◌≤◌, ◌<◌, length};
 ghost use Rattle.component.specs.Record.{record_at, record_count};
 ghost use Rattle.index.specs.Index.{IsIndex};
 ghost use Rattle.checks.specs.Checks.{IsFirst};
-ghost use Rattle.flatten.specs.Verdict.{or_later, verdict};
+ghost use Rattle.flatten.specs.Verdict.{verdict};
 ghost use Rattle.flatten.specs.Searches.{fails_at, PassedBefore, Judged};
 
 use crate::widths::first15;
-use checks::{check_alone, check_indexed, first10, first11, first13};
+use checks::{
+    check3, check4, check5, check6, check7, check8, check9, check12, check14, first10, first11,
+    first13,
+};
 use component::is_sized;
 use index::fill_index;
 use kinds::{Refusal, refused_by};
 
-// The first record that fails check k, one of 3 to 9, the checks before k having passed; the number of records where none does.
-fn first_alone(file: &[u8], k: u32) -> usize
-    requires { (3 ≤ k) × (k < 10) × PassedBefore (record_at file.now) (record_count file.now) k }
-    ensures { IsFirst (fails_at (record_at file.now) (record_count file.now) k) (record_count file.now) result }
+// The first of n positions that fails a test; n where none does.
+fn first_failing<F: Fn(usize) -> bool>(n: usize, fails: F) -> usize
+    requires { (p : ℕ) → p < n → F.pre fails p }
+    ensures { (result ≤ n) × ((p : ℕ) → p < result → F.post fails p false) × (result < n → F.post fails result true) }
 {
-    let n = file.len() / 24;
     for p in 0..n {
-        if check_alone(file, k, p) != 0 {
+        if fails(p) {
             return p;
         }
     }
     n
 }
 
-// The same of the checks 12 and 14, with the index filled.
-fn first_indexed(file: &[u8], index: &[u16], k: u32) -> usize
-    requires { IsIndex file.now index.now × ((k ≡ 12) ⊎ (k ≡ 14)) × PassedBefore (record_at file.now) (record_count file.now) k }
-    ensures { IsFirst (fails_at (record_at file.now) (record_count file.now) k) (record_count file.now) result }
-{
-    let n = file.len() / 24;
-    for q in 0..n {
-        if check_indexed(file, index, k, q) != 0 {
-            return q;
-        }
-    }
-    n
-}
-
-// The same of the checks before the index is filled, 3 to 11.
-fn first_early(file: &[u8], k: u32) -> usize
-    requires { (3 ≤ k) × (k < 12) × PassedBefore (record_at file.now) (record_count file.now) k }
-    ensures { IsFirst (fails_at (record_at file.now) (record_count file.now) k) (record_count file.now) result }
-{
-    match k {
-        10 => first10(file),
-        11 => first11(file),
-        _ => first_alone(file, k),
-    }
-}
-
-// The same of the checks 12 to 15, with the index filled.
-fn first_late(file: &[u8], index: &[u16], k: u32) -> usize
-    requires { IsIndex file.now index.now × (12 ≤ k) × (k < 16) × PassedBefore (record_at file.now) (record_count file.now) k }
-    ensures { IsFirst (fails_at (record_at file.now) (record_count file.now) k) (record_count file.now) result }
-{
-    match k {
-        13 => first13(file, index),
-        15 => first15(file, index),
-        _ => first_indexed(file, index, k),
-    }
-}
-
-// Check k over all records: refused at the first record, in file order, that fails it, p being that record.
+// Check k over all records, the checks before it having passed: refused at the first record, in file order, that fails it, p being that record.
 fn refused_at(file: &[u8], k: u32, p: usize) -> Result<(), Refusal>
-    requires { (record_count file.now ≤ 1024) × IsFirst (fails_at (record_at file.now) (record_count file.now) k) (record_count file.now) p }
-    ensures { result ≡ or_later k (first (fails_at (record_at file.now) (record_count file.now) k)
-        (from 0 (record_count file.now))) (Ok tt) }
+    requires passed_before { PassedBefore (record_at file.now) (record_count file.now) k }
+    requires first { (record_count file.now ≤ 1024) × (3 ≤ k) × (k < 16) × IsFirst (fails_at (record_at file.now) (record_count file.now) k) (record_count file.now) p }
+    ensures { Judged (k + 1) (record_at file.now) (record_count file.now) result }
 {
     if p < file.len() / 24 {
         return Err(Refusal {
@@ -86,10 +49,16 @@ fn judge_early(file: &[u8]) -> Result<(), Refusal>
     requires { record_count file.now ≤ 1024 }
     ensures { Judged 12 (record_at file.now) (record_count file.now) result }
 {
-    for k in 3..12 {
-        refused_at(file, k, first_early(file, k))?;
-    }
-    Ok(())
+    let n = file.len() / 24;
+    refused_at(file, 3, first_failing(n, |p| check3(file, p)))?;
+    refused_at(file, 4, first_failing(n, |p| check4(file, p)))?;
+    refused_at(file, 5, first_failing(n, |p| check5(file, p)))?;
+    refused_at(file, 6, first_failing(n, |p| check6(file, p)))?;
+    refused_at(file, 7, first_failing(n, |p| check7(file, p)))?;
+    refused_at(file, 8, first_failing(n, |p| check8(file, p)))?;
+    refused_at(file, 9, first_failing(n, |p| check9(file, p)))?;
+    refused_at(file, 10, first10(file))?;
+    refused_at(file, 11, first11(file))
 }
 
 // The checks 12 to 15 likewise, where those before have passed and the index is filled.
@@ -97,10 +66,11 @@ fn judge_late(file: &[u8], index: &[u16]) -> Result<(), Refusal>
     requires { IsIndex file.now index.now × PassedBefore (record_at file.now) (record_count file.now) 12 }
     ensures { Judged 16 (record_at file.now) (record_count file.now) result }
 {
-    for k in 12..16 {
-        refused_at(file, k, first_late(file, index, k))?;
-    }
-    Ok(())
+    let n = file.len() / 24;
+    refused_at(file, 12, first_failing(n, |p| check12(file, index, p)))?;
+    refused_at(file, 13, first13(file, index))?;
+    refused_at(file, 14, first_failing(n, |p| check14(file, index, p)))?;
+    refused_at(file, 15, first15(file, index))
 }
 
 // The verdict on a file's bytes, 13 for any two records that meet; the lent index, of 3,072 words, is filled where the file is accepted. `verdict` calls

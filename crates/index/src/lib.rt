@@ -17,7 +17,7 @@ ghost use Rattle.component.specs.Record.{owned_as};
 ghost use Rattle.index.specs.Index.{IsClear, IsNumbered, IsRange, IsIndex, KeptBelow, stretch_first, stretch_end, out_count};
 ghost use Rattle.component.specs.Drawing.{child, out_map};
 
-use component::{ChildNo, Reading, Says, Stands, component_at, known_at};
+use component::{ChildNo, Component, Reading, Says, component_at, known_at};
 
 // The positions from `first` to before `end`.
 #[derive(Clone, Copy)]
@@ -184,7 +184,7 @@ fn guess_children(file: &[u8], index: &mut [u16])
 {
     guess_starts(index, file.len() / 24);
     for q in 1..256 {
-        let Stands::Component { owner, .. } = component_at(file, q) else {
+        let Some(Component { owner, .. }) = component_at(file, q) else {
             return;
         };
         guess_child(index, q, owner);

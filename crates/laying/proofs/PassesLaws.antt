@@ -12,12 +12,9 @@ use lib.Seq.{sets}
 use Rattle.lists.specs.Lists.{from, keep, total, joined, overlay}
 use Rattle.lists.proofs.MembersLaws.{total_append}
 use Rattle.lists.proofs.OverlayLaws.{joined_width}
-use Rattle.kinds.specs.declared.table.Fields.{Fields}
 use Rattle.kinds.specs.Kinds.{primitive}
-use Rattle.kinds.specs.declared.Id.{Id}
 use Rattle.component.specs.declared.Record.{Record}
-use Rattle.component.specs.declared.Stands.{Stands}
-use Rattle.component.specs.declared.Stands.TheVariants.{Component as SeenComponent, Nothing}
+use Rattle.component.specs.declared.Component.{Component}
 use Rattle.component.specs.Reading.{StandsAs}
 use Rattle.component.specs.Record.{record_at, record_count, inputs_of, outputs_of, is_primitive}
 use Rattle.component.specs.Drawing.{primitives_before}
@@ -26,8 +23,8 @@ use Rattle.flatten.specs.Verdict.{verdict}
 use Rattle.flatten.proofs.Primitives.{primitives_before-append, primitives_before-step, primitives_before-skip}
 use Rattle.flatten.proofs.Primitives.{ports_before-step}
 use Rattle.flatten.proofs.WireTheorems.{accepted_primitives_bound, accepted_inputs_bound, accepted_outputs_bound}
-use Rattle.laying.specs.declared.rows.Drawn.{Drawn}
-use Rattle.laying.specs.declared.rows.Drawn.TheVariants.{Primitive, Other}
+use Rattle.laying.specs.declared.rows.Primitive.{Primitive}
+use Rattle.std.specs.Prelude.{Option, Some, None}
 use Rattle.laying.specs.declared.rows.Before.{Before}
 use Rattle.laying.specs.Laid.{primitives, primitive_words}
 use Rattle.laying.specs.Laying.{seen_if, seen, component_by, row_by, before_by, before_at, row_at}
@@ -36,16 +33,16 @@ use Rattle.tables.specs.Words.{row_place}
 use Rattle.std.specs.Prelude.{Ok}
 
 -- What a record is drawn as: no component; a primitive; a component that is none.
-module _ (s : List ℕ) (p : ℕ) (g : Stands) (e : StandsAs g (record_at s p)) where
-  pub drawn_none : g ≡ Nothing → Other ≡ seen (record_at s p)
+module _ (s : List ℕ) (p : ℕ) (g : Option Component) (e : StandsAs g (record_at s p)) where
+  pub drawn_none : g ≡ None → None ≡ seen (record_at s p)
   drawn_none h = rw (sym (unseen_primitive (record_at s p) g e h))
 
-  module _ (o : ℕ) (d : Id) (f : Fields) (h : g ≡ SeenComponent o d f) (b : Bool) (k : b ≡ primitive f) where
-    pub drawn_primitive : b ≡ true → Primitive d f ≡ seen (record_at s p)
-    drawn_primitive t = rw (seen_is (record_at s p) g e o d f h, sym k ∙ t)
+  module _ (x : Component) (h : g ≡ Some x) (b : Bool) (k : b ≡ primitive x.fields) where
+    pub drawn_primitive : b ≡ true → Some (record { id = x.id; fields = x.fields }) ≡ seen (record_at s p)
+    drawn_primitive t = rw (seen_is (record_at s p) g e x h, sym k ∙ t)
 
-    pub drawn_composite : b ≡ false → Other ≡ seen (record_at s p)
-    drawn_composite t = rw (seen_is (record_at s p) g e o d f h, sym k ∙ t)
+    pub drawn_composite : b ≡ false → None ≡ seen (record_at s p)
+    drawn_composite t = rw (seen_is (record_at s p) g e x h, sym k ∙ t)
 
 -- What stands before the next primitive.
 module _ (at : ℕ → Record) (n : ℕ) where
@@ -102,12 +99,12 @@ module _ (at : ℕ → Record) (n : ℕ) where
   ports_before-few f p h = omega (arith, simp total_append at (ap (total (λ q. f (at q))) (primitives_split p h)))
 
 -- Laying the entry of one record.
-module _ (id : Id) (f : Fields) (b : Before) (drawn : Drawn) (e : drawn ≡ Primitive id f) (t : List ℕ) where
+module _ (r : Primitive) (b : Before) (drawn : Option Primitive) (e : drawn ≡ Some r) (t : List ℕ) where
   pub row_room : row_place b.components + length (row_by drawn b) ≤ length t → row_place b.components + 8 ≤ length t
   row_room h = rw e at h
 
-  pub row_laid : (u : List ℕ) (x y : ℕ) → u ≡ sets t (row_place b.components) (component_by id f b) → x ≡ f.inputs
-      → y ≡ f.outputs
+  pub row_laid : (u : List ℕ) (x y : ℕ) → u ≡ sets t (row_place b.components) (component_by r.id r.fields b) → x ≡ r.fields.inputs
+      → y ≡ r.fields.outputs
       → (u ≡ sets t (row_place b.components) (row_by drawn b))
       × (record { components = b.components + 1; inputs = b.inputs + x; outputs = b.outputs + y } ≡ before_by drawn b)
   row_laid u x y h i o = rw (e, i, o) (h, refl)
@@ -134,7 +131,7 @@ module _ (s : List ℕ) (accepted : verdict s ≡ Ok tt) (t : List ℕ) (full : 
       eb ∙ ap (before_at (record_at s) (record_count s)) e,
     )
 
-    module _ (drawn : Drawn) (ed : drawn ≡ seen (record_at s p)) (l : p < record_count s) where
+    module _ (drawn : Option Primitive) (ed : drawn ≡ seen (record_at s p)) (l : p < record_count s) where
       row_is : row_by drawn b ≡ row_at (record_at s) (record_count s) p
       row_is = rw (ed, eb)
 
@@ -173,6 +170,6 @@ module _ (s : List ℕ) (accepted : verdict s ≡ Ok tt) (t : List ℕ) (full : 
             laid_step _ t p u _ laid (row_by drawn b) v (row_place c.components) row_is ev
             (omega (arith, by_drawn drawn, ap (λ (x : Before). x.components) ec))
           where
-            by_drawn : (x : Drawn) → row_place (before_by x b).components ≡ row_place b.components + length (row_by x b)
-            by_drawn (Primitive i f) = omega arith
-            by_drawn Other = omega arith
+            by_drawn : (x : Option Primitive) → row_place (before_by x b).components ≡ row_place b.components + length (row_by x b)
+            by_drawn (Some r) = omega arith
+            by_drawn None = omega arith

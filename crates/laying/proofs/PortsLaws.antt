@@ -16,7 +16,6 @@ use Rattle.kinds.specs.declared.table.Fields.{Fields}
 use Rattle.kinds.specs.Kinds.{number_of, is, primitive, obeys}
 use Rattle.primitive.specs.Evaluate.{starting}
 use Rattle.kinds.proofs.ObeysLaws.{obeyed_row}
-use Rattle.kinds.specs.declared.Id.{Id}
 use Rattle.component.specs.declared.Record.{Record}
 use Rattle.component.specs.Record.{record_at, record_count, fields_of, outputs_of, is_primitive}
 use Rattle.component.specs.Drawing.{primitives_before, outputs_before}
@@ -24,40 +23,40 @@ use Rattle.flatten.specs.Verdict.{verdict}
 use Rattle.flatten.proofs.Accepted.{Passed, accepted_passed}
 use Rattle.flatten.proofs.Primitives.{primitives_before-sound, primitive_obeyed}
 use Rattle.flatten.proofs.WireTheorems.{accepted_outputs_bound}
-use Rattle.laying.specs.declared.rows.Drawn.{Drawn}
-use Rattle.laying.specs.declared.rows.Drawn.TheVariants.{Primitive, Other}
+use Rattle.laying.specs.declared.rows.Primitive.{Primitive}
+use Rattle.std.specs.Prelude.{Option, Some, None}
 use Rattle.laying.specs.Laid.{primitives}
 use Rattle.laying.specs.Laying.{seen_if, seen, outputs_by, starting_of, outputs_laid}
 use Rattle.lists.proofs.LayingLaws.{joined_keep, Laid, laid_room, laid_step, laid_end}
 use Rattle.std.specs.Prelude.{Ok}
 
 -- Laying the outputs of one record: it has none; a Const's; any other primitive's.
-pub outputs_none : (drawn : Drawn) → drawn ≡ Other → (t : List ℕ) (k : ℕ)
+pub outputs_none : (drawn : Option Primitive) → drawn ≡ None → (t : List ℕ) (k : ℕ)
     → (t ≡ sets t k (outputs_by drawn)) × (k ≡ k + length (outputs_by drawn))
 outputs_none drawn e t k = rw e (refl, omega arith)
 
-module _ (id : Id) (f : Fields) (drawn : Drawn) (e : drawn ≡ Primitive id f) (c : ℕ) (ec : c ≡ number_of Const)
+module _ (r : Primitive) (drawn : Option Primitive) (e : drawn ≡ Some r) (c : ℕ) (ec : c ≡ number_of Const)
     (t : List ℕ) (k : ℕ) where
-  pub outputs_const : f.kind ≡ c → outputs_by drawn ≡ f.parameter ∷ []
-  outputs_const h = rw (e, eq-eqb f.kind 13 (h ∙ ec))
+  pub outputs_const : r.fields.kind ≡ c → outputs_by drawn ≡ r.fields.parameter ∷ []
+  outputs_const h = rw (e, eq-eqb r.fields.kind 13 (h ∙ ec))
 
-  pub outputs_zeros : (f.kind ≡ c → ⊥) → outputs_by drawn ≡ replicate f.outputs 0
-  outputs_zeros h = rw (e, ne_eqb f.kind 13 (λ z. h (z ∙ sym ec)))
+  pub outputs_zeros : (r.fields.kind ≡ c → ⊥) → outputs_by drawn ≡ replicate r.fields.outputs 0
+  outputs_zeros h = rw (e, ne_eqb r.fields.kind 13 (λ z. h (z ∙ sym ec)))
 
-  pub const_room : f.kind ≡ c → k + length (outputs_by drawn) ≤ length t → k < length t
+  pub const_room : r.fields.kind ≡ c → k + length (outputs_by drawn) ≤ length t → k < length t
   const_room h room = omega (arith, ap (λ (l : List ℕ). length l) (outputs_const h))
 
-  pub const_laid : f.kind ≡ c
-      → (set t k f.parameter ≡ sets t k (outputs_by drawn)) × (k + 1 ≡ k + length (outputs_by drawn))
+  pub const_laid : r.fields.kind ≡ c
+      → (set t k r.fields.parameter ≡ sets t k (outputs_by drawn)) × (k + 1 ≡ k + length (outputs_by drawn))
   const_laid h = rw (outputs_const h) (refl, refl)
 
-  module _ (h : f.kind ≡ c → ⊥) (x : ℕ) (ex : x ≡ f.outputs) where
+  module _ (h : r.fields.kind ≡ c → ⊥) (x : ℕ) (ex : x ≡ r.fields.outputs) where
     pub zeros_count : k + x ≡ k + length (outputs_by drawn)
     zeros_count =
         omega (
           arith,
           ap (λ (l : List ℕ). length l) (outputs_zeros h),
-          length-replicate {A = ℕ} f.outputs 0,
+          length-replicate {A = ℕ} r.fields.outputs 0,
         )
 
     pub zeros_room : k + length (outputs_by drawn) ≤ length t → k + x ≤ length t
@@ -116,13 +115,13 @@ module _ (s : List ℕ) (accepted : verdict s ≡ Ok tt) where
           laid_end _ t p u k laid (record_count s) e outputs_all
           ∙ ap (λ (l : List ℕ). overlay l t) (sym (outputs_joined (record_at s) (record_count s) (record_count s)))
 
-      module _ (drawn : Drawn) (ed : drawn ≡ seen (record_at s p)) where
+      module _ (drawn : Option Primitive) (ed : drawn ≡ seen (record_at s p)) where
         pub outputs_requires : p < record_count s → k + length (outputs_by drawn) ≤ length u
         outputs_requires l =
             omega (
               arith,
               laid_room _ t p u k laid (record_count s) l outputs_all,
-              ap (λ (x : Drawn). length (outputs_by x)) ed,
+              ap (λ (x : Option Primitive). length (outputs_by x)) ed,
             )
 
         pub outputs_step : (v : List ℕ) (m : ℕ) → v ≡ sets u k (outputs_by drawn) → m ≡ k + length (outputs_by drawn)

@@ -15,9 +15,7 @@ use Rattle.std.proofs.lemmas.List.{get_or_append_left, get_or-append_right, get_
 use Rattle.lists.specs.Lists.{from, keep, joined, overlay}
 use Rattle.lists.proofs.MembersLaws.{keep_length, from_length}
 use Rattle.kinds.specs.declared.Kind.TheVariants.{Clock, Const}
-use Rattle.kinds.specs.declared.table.Fields.{Fields}
 use Rattle.kinds.specs.Kinds.{is}
-use Rattle.kinds.specs.declared.Id.{Id}
 use Rattle.component.specs.declared.Record.{Record}
 use Rattle.component.specs.Record.{record_at, record_count, fields_of, is_primitive}
 use Rattle.component.specs.Drawing.{primitives_before}
@@ -27,8 +25,8 @@ use Rattle.flatten.proofs.Accepted.{Passed, accepted_passed}
 use Rattle.flatten.proofs.Primitives.{primitives_before-step, primitives_before-skip, primitives_bound}
 use Rattle.flatten.proofs.WireTheorems.{accepted_primitives_bound}
 use Rattle.laying.specs.declared.names.Stood.{Stood}
-use Rattle.laying.specs.declared.rows.Drawn.{Drawn}
-use Rattle.laying.specs.declared.rows.Drawn.TheVariants.{Primitive, Other}
+use Rattle.laying.specs.declared.rows.Primitive.{Primitive}
+use Rattle.std.specs.Prelude.{Option, Some, None}
 use Rattle.laying.specs.Laid.{primitives, standing_at_load}
 use Rattle.laying.specs.Laying.{IsFlat, seen_if, seen, standing_if, standing_by, stood_by, standing_at}
 use Rattle.lists.proofs.LayingLaws.{joined_keep, Laid, laid_room, laid_step, laid_end, laid_count}
@@ -36,33 +34,33 @@ use Rattle.laying.proofs.PassesLaws.{primitives_before-few}
 use Rattle.std.specs.Prelude.{Ok}
 
 -- Laying one record into the standing list: a primitive that does not stand; one that does.
-module _ (id : Id) (f : Fields) (s : Stood) (drawn : Drawn) (e : drawn ≡ Primitive id f) (b : Bool)
-    (h : b ≡ (is Const f || is Clock f))
+module _ (r : Primitive) (s : Stood) (drawn : Option Primitive) (e : drawn ≡ Some r) (b : Bool)
+    (h : b ≡ (is Const r.fields || is Clock r.fields))
     (t : List ℕ) where
   pub stand_not : not b ≡ true → (t ≡ sets t s.count (standing_by drawn s.components))
       × (record { components = s.components + 1; count = s.count } ≡ stood_by drawn s)
-  stand_not k = let z : (is Const f || is Clock f) ≡ false = sym h ∙ not-true b k in rw (e, z) (refl, refl)
+  stand_not k = let z : (is Const r.fields || is Clock r.fields) ≡ false = sym h ∙ not-true b k in rw (e, z) (refl, refl)
 
   pub stand_room : not b ≡ false → s.count + length (standing_by drawn s.components) ≤ length t → s.count < length t
   stand_room k room =
-      let z : (is Const f || is Clock f) ≡ true = sym h ∙ not-false b k in
+      let z : (is Const r.fields || is Clock r.fields) ≡ true = sym h ∙ not-false b k in
       let one : s.count + 1 ≤ length t = rw (e, z) at room in
       omega arith
 
   pub stand_laid : not b ≡ false
       → (set t s.count s.components ≡ sets t s.count (standing_by drawn s.components))
       × (record { components = s.components + 1; count = s.count + 1 } ≡ stood_by drawn s)
-  stand_laid k = let z : (is Const f || is Clock f) ≡ true = sym h ∙ not-false b k in rw (e, z) (refl, refl)
+  stand_laid k = let z : (is Const r.fields || is Clock r.fields) ≡ true = sym h ∙ not-false b k in rw (e, z) (refl, refl)
 
 -- How many more the standing list names after a record.
-stood_count : (drawn : Drawn) (s : Stood)
+stood_count : (drawn : Option Primitive) (s : Stood)
     → (stood_by drawn s).count ≡ s.count + length (standing_by drawn s.components)
-stood_count (Primitive d f) s = by_test (is Const f || is Clock f)
+stood_count (Some r) s = by_test (is Const r.fields || is Clock r.fields)
   where
     by_test : (b : Bool) → cond b (s.count + 1) s.count ≡ s.count + length (standing_if b s.components)
     by_test true = refl
     by_test false = omega arith
-stood_count Other s = omega arith
+stood_count None s = omega arith
 
 -- Those that pass a test, by index, are what each gives under the test.
 map_keep : (T : ℕ → Bool) (f : ℕ → ℕ) (xs : List ℕ) → map f (keep T xs) ≡ joined (λ x. standing_if (T x) (f x)) xs
@@ -145,7 +143,7 @@ module _ (s : List ℕ) (accepted : verdict s ≡ Ok tt) where
             ∙ ap (λ (l : List ℕ). length l) (sym (standing_joined (record_at s) (record_count s))),
       )
 
-      module _ (drawn : Drawn) (ed : drawn ≡ seen (record_at s p)) where
+      module _ (drawn : Option Primitive) (ed : drawn ≡ seen (record_at s p)) where
         standing_is : standing_by drawn k.components ≡ standing_at (record_at s) (record_count s) p
         standing_is = λ j. standing_by (ed j) (ek j)
 
@@ -169,7 +167,7 @@ module _ (s : List ℕ) (accepted : verdict s ≡ Ok tt) where
             (em : m ≡ stood_by drawn k) where
           pub standing_components : m.components ≡ flat (record_at s) (record_count s) (p + 1)
           standing_components =
-              ap (λ (x : Stood). x.components) em ∙ ap (λ (x : Drawn). (stood_by x k).components) ed
+              ap (λ (x : Stood). x.components) em ∙ ap (λ (x : Option Primitive). (stood_by x k).components) ed
               ∙ by_kind (is_primitive (record_at s p)) refl
             where
               by_kind : (b : Bool) → is_primitive (record_at s p) ≡ b

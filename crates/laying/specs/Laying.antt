@@ -2,7 +2,7 @@
 -- definition of specs/Laid.antt says.
 --   Written t k xs u m    u is the table t with xs written from place k on, and m is the place past them
 -- Assumes nothing.
-use Rattle.std.specs.Prelude.{◌≡◌, ℕ, ◌+◌, ◌<◌, Bool, cond, ◌||◌, List, [], ◌∷◌, length, get_or, eqb}
+use Rattle.std.specs.Prelude.{◌≡◌, ℕ, ◌+◌, ◌<◌, Bool, cond, ◌||◌, List, [], ◌∷◌, length, get_or, eqb, Option, Some, None}
 use Rattle.std.proofs.lemmas.List.Edits.{sets}
 use Rattle.lists.specs.Lists.{joined}
 use Rattle.kinds.specs.declared.table.Fields.{Fields}
@@ -21,8 +21,7 @@ use Rattle.flatten.specs.Verdict.{verdict}
 use Rattle.tables.specs.declared.End.{End}
 use Rattle.tables.specs.Tables.{component_words, end_at, wire_words}
 use Rattle.laying.specs.declared.names.Stood.{Stood}
-use Rattle.laying.specs.declared.rows.Drawn.{Drawn}
-use Rattle.laying.specs.declared.rows.Drawn.TheVariants.{Primitive, Other}
+use Rattle.laying.specs.declared.rows.Primitive.{Primitive}
 use Rattle.laying.specs.declared.rows.Before.{Before}
 use Rattle.laying.specs.Laid.{flat_pin}
 use Rattle.std.specs.Prelude.{Ok}
@@ -31,39 +30,39 @@ pub record Written (t : List ℕ) (k : ℕ) (xs : List ℕ) (u : List ℕ) (m : 
   pub table : u ≡ sets t k xs
   pub place : m ≡ k + length xs
 
-abbrev pub seen_if : Bool → Record → Drawn
-seen_if b r = cond b (Primitive (record { 0 = id_of r }) (fields_of r)) Other
+abbrev pub seen_if : Bool → Record → Option Primitive
+seen_if b r = cond b (Some (record { id = record { 0 = id_of r }; fields = fields_of r })) None
 
-abbrev pub seen : Record → Drawn
+abbrev pub seen : Record → Option Primitive
 seen r = seen_if (is_primitive r) r
 
 abbrev pub component_by : Id → Fields → Before → List ℕ
 component_by d f b = component_words d.0 f b.inputs b.outputs
 
-abbrev pub row_by : Drawn → Before → List ℕ
-row_by (Primitive d f) b = component_by d f b
-row_by Other b = []
+abbrev pub row_by : Option Primitive → Before → List ℕ
+row_by (Some x) b = component_by x.id x.fields b
+row_by None b = []
 
-abbrev pub before_by : Drawn → Before → Before
-before_by (Primitive d f) b =
-    record { components = b.components + 1; inputs = b.inputs + f.inputs; outputs = b.outputs + f.outputs }
-before_by Other b = b
+abbrev pub before_by : Option Primitive → Before → Before
+before_by (Some x) b =
+    record { components = b.components + 1; inputs = b.inputs + x.fields.inputs; outputs = b.outputs + x.fields.outputs }
+before_by None b = b
 
-abbrev pub outputs_by : Drawn → List ℕ
-outputs_by (Primitive d f) = starting f
-outputs_by Other = []
+abbrev pub outputs_by : Option Primitive → List ℕ
+outputs_by (Some x) = starting x.fields
+outputs_by None = []
 
 abbrev pub standing_if : Bool → ℕ → List ℕ
 standing_if b i = cond b (i ∷ []) []
 
-abbrev pub standing_by : Drawn → ℕ → List ℕ
-standing_by (Primitive d f) i = standing_if (is Const f || is Clock f) i
-standing_by Other i = []
+abbrev pub standing_by : Option Primitive → ℕ → List ℕ
+standing_by (Some x) i = standing_if (is Const x.fields || is Clock x.fields) i
+standing_by None i = []
 
-abbrev pub stood_by : Drawn → Stood → Stood
-stood_by (Primitive d f) s =
-    record { components = s.components + 1; count = cond (is Const f || is Clock f) (s.count + 1) s.count }
-stood_by Other s = s
+abbrev pub stood_by : Option Primitive → Stood → Stood
+stood_by (Some x) s =
+    record { components = s.components + 1; count = cond (is Const x.fields || is Clock x.fields) (s.count + 1) s.count }
+stood_by None s = s
 
 abbrev pub starting_of : (ℕ → Record) → ℕ → List ℕ
 starting_of at p = starting (fields_of (at p))

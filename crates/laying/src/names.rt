@@ -11,7 +11,7 @@ ghost use Rattle.flatten.specs.Verdict.{verdict};
 ghost use Rattle.laying.specs.Laid.{standing_at_load};
 ghost use Rattle.laying.specs.Laying.{standing_by, stood_by, IsFlat};
 
-use crate::rows::{Drawn, drawn_at};
+use crate::rows::{Primitive, drawn_at};
 use component::is_primitive_at;
 use kinds::{Fields, Kind};
 
@@ -41,11 +41,11 @@ fn stands(fields: Fields) -> bool
 }
 
 // Lays the index of a primitive that stands behind those before.
-fn stand(standing: &mut [u16], drawn: Drawn, stood: Stood) -> Stood
+fn stand(standing: &mut [u16], drawn: Option<Primitive>, stood: Stood) -> Stood
     requires { (stood.count + length (standing_by drawn stood.components) ≤ length standing.old) × (stood.components ≤ 256) }
     ensures { (standing.new ≡ sets standing.old stood.count (standing_by drawn stood.components)) × (result ≡ stood_by drawn stood) }
 {
-    let Drawn::Primitive { fields, .. } = drawn else {
+    let Some(Primitive { fields, .. }) = drawn else {
         return stood;
     };
     let components = stood.components;

@@ -10,14 +10,14 @@ ghost use Rattle.laying.specs.Laid.{primitives, primitive_words};
 ghost use Rattle.laying.specs.Laying.{seen, row_by, before_by, before_at, outputs_by, starting_of};
 ghost use Rattle.tables.specs.Words.{row_place};
 
-use component::{Stands, component_at};
+use component::{Component, component_at};
 use kinds::{Fields, Id, Kind};
 
-// A primitive of the drawing, or any other record.
+// A primitive of the drawing.
 #[derive(Clone, Copy)]
-pub enum Drawn {
-    Primitive { id: Id, fields: Fields },
-    Other,
+pub struct Primitive {
+    pub id: Id,
+    pub fields: Fields,
 }
 
 // How many components, inputs and outputs the primitives before have.
@@ -28,18 +28,18 @@ pub struct Before {
     pub outputs: usize,
 }
 
-// The primitive at a position.
-pub(crate) fn drawn_at(file: &[u8], p: usize) -> Drawn
+// The primitive at a position, if there is one.
+pub(crate) fn drawn_at(file: &[u8], p: usize) -> Option<Primitive>
     requires { Readable file.now }
     ensures { result ≡ seen (record_at file.now p) }
 {
-    let Stands::Component { id, fields, .. } = component_at(file, p) else {
-        return Drawn::Other;
+    let Some(Component { id, fields, .. }) = component_at(file, p) else {
+        return None;
     };
     if kinds::is_primitive(fields) {
-        return Drawn::Primitive { id, fields };
+        return Some(Primitive { id, fields });
     }
-    Drawn::Other
+    None
 }
 
 fn wide(x: u16) -> usize
@@ -49,13 +49,13 @@ fn wide(x: u16) -> usize
 }
 
 // Lays the entry of a primitive behind those before. The answer is what stands before the next.
-fn lay_component(components: &mut [u64], drawn: Drawn, before: Before) -> Before
+fn lay_component(components: &mut [u64], drawn: Option<Primitive>, before: Before) -> Before
     requires { (row_place before.components + length (row_by drawn before) ≤ length components.old) × (before.components ≤ 256)
         × (before.inputs ≤ 1024) × (before.outputs ≤ 1024) }
     ensures { (components.new ≡ sets components.old (row_place before.components) (row_by drawn before)) ×
         (result ≡ before_by drawn before) }
 {
-    let Drawn::Primitive { id, fields } = drawn else {
+    let Some(Primitive { id, fields }) = drawn else {
         return before;
     };
     tables::lay_row(
@@ -103,11 +103,11 @@ pub fn zeros(ports: &mut [u64], at: usize, count: usize)
 }
 
 // Lays the outputs of a primitive behind those before: all 0, a Const's output its value. The answer is the place behind them.
-fn lay_output(outputs: &mut [u64], at: usize, drawn: Drawn) -> usize
+fn lay_output(outputs: &mut [u64], at: usize, drawn: Option<Primitive>) -> usize
     requires { at + length (outputs_by drawn) ≤ length outputs.old }
     ensures { (outputs.new ≡ sets outputs.old at (outputs_by drawn)) × (result ≡ at + length (outputs_by drawn)) }
 {
-    let Drawn::Primitive { fields, .. } = drawn else {
+    let Some(Primitive { fields, .. }) = drawn else {
         return at;
     };
     if fields.kind == u8::from(Kind::Const) {

@@ -17,7 +17,6 @@ use Rattle.lists.proofs.MembersLaws.{any_cong, from0_sound}
 use Rattle.lists.proofs.KeepLaws.{any_no, any_keep}
 use Rattle.lists.proofs.KeysLaws.{unmarked_none, marks_with, marks_skip}
 use Rattle.component.specs.declared.Record.{Record}
-use Rattle.component.specs.declared.ChildNo.{ChildNo}
 use Rattle.component.specs.declared.Reading.{Reading}
 use Rattle.component.specs.declared.Reading.TheVariants.{Taken, Refused}
 use Rattle.component.specs.declared.Says.{Says}
@@ -28,9 +27,9 @@ use Rattle.component.proofs.RecordLaws.{owner_apart}
 use Rattle.component.proofs.LooseLaws.{said_by-entering, said_by-enters, said_by-entering_as}
 use Rattle.component.proofs.EnteringLaws.{enters_sound}
 use Rattle.checks.specs.declared.Entry.{Entry}
-use Rattle.checks.specs.declared.Entry.TheVariants.{Of, Nothing as NoEntry}
+use Rattle.std.specs.Prelude.{Option, Some, None}
 use Rattle.checks.specs.Checks.{EntryAs, place_mark}
-use Rattle.checks.proofs.ChecksLaws.{entering_none, entering_is, enters_none, enters_is}
+use Rattle.checks.proofs.ChecksLaws.{entering_none, entering_is}
 use Rattle.mend.specs.Mend.{refused12}
 use Rattle.mend.specs.Sifting.{drops_plainly, parts_of, marked_kept, IsSifted, kept_entry, kept_mark}
 use Rattle.mend.proofs.KeptLaws.{drops_same}
@@ -41,22 +40,11 @@ enters_said : (o c d : ℕ) (r : Record) → enters o c d (said_by r) ≡ enters
 enters_said o c d r =
     said_by-entering_as (record { form = 0; kind = 0; owner = o; a = 0; b = 0; c = c; d = d; id = 0; parameter = 0 }) r
 
--- Whether the record at q is kept and enters an input: it enters none; it enters one.
-module _ (file kept : List ℕ) (q : ℕ) (g : Entry) (e : EntryAs g (said_by (loose_at file q))) where
-  pub kept_none : (m k j : ℕ) → g ≡ NoEntry → false ≡ (marked_kept kept q && enters m k j (loose_at file q))
-  kept_none m k j h =
-      sym (ap (λ (b : Bool). marked_kept kept q && b) (sym (enters_said m k j (loose_at file q)) ∙ sym (enters_none _ g e m k j h))
-      ∙ and-false (marked_kept kept q))
-
-  pub kept_is : (o d : ℕ) (c : ChildNo) → g ≡ Of o c d → (m j : ℕ) (k : ChildNo)
-      → (not (eqb (get_or kept q 0) 0) && eqb o m && eqb c.0 k.0 && eqb d j) ≡ (marked_kept kept q && enters m k.0 j (loose_at file q))
-  kept_is o d c h m j k =
-      by_mark (not (eqb (get_or kept q 0) 0))
-      ∙ ap (λ (b : Bool). marked_kept kept q && b) (enters_is _ g e o d c h m j k ∙ enters_said m k.0 j (loose_at file q))
-    where
-      by_mark : (b : Bool) → (b && eqb o m && eqb c.0 k.0 && eqb d j) ≡ (b && (eqb o m && eqb c.0 k.0 && eqb d j))
-      by_mark true = refl
-      by_mark false = refl
+-- Whether the record at q is kept and enters an input, b being whether it enters the input by its record kind.
+pub kept_same : (file kept : List ℕ) (q : ℕ) (b : Bool) (y : Entry) → b ≡ enters y.owner y.to.0 y.input (said_by (loose_at file q))
+    → (not (eqb (get_or kept q 0) 0) && b) ≡ (marked_kept kept q && enters y.owner y.to.0 y.input (loose_at file q))
+kept_same file kept q b y e =
+    ap (λ (b : Bool). marked_kept kept q && b) (e ∙ enters_said y.owner y.to.0 y.input (loose_at file q))
 
 -- Whether check 12 refuses a record: it is none; it is taken apart.
 module _ (parts : List ℕ) (r : Reading) where
@@ -111,7 +99,7 @@ module _ (file : List ℕ) where
           (ap (λ (y : ℕ). not (eqb y 0)) (get_or-set_same kept p x 0 (omega (arith, s.size, l))) ∙ e)
 
   module _ (kept marks : List ℕ) (p : ℕ) (sifted : IsSifted file p kept) (m : IsMarked 16384 (kept_entry file) (kept_mark file) 0 p marks)
-      (g : Entry) (e : EntryAs g (said_by (lo p))) where
+      (g : Option Entry) (e : EntryAs g (said_by (lo p))) where
     abbrev MarkedTo : List ℕ → Type 0
     MarkedTo u = IsMarked 16384 (kept_entry file) (kept_mark file) 0 (p + 1) u
 
@@ -124,32 +112,32 @@ module _ (file : List ℕ) where
         (sym (ap not h), skip (ap (λ (b : Bool). entering (lo p) && not b) h ∙ and-false (entering (lo p))))
 
     -- it enters nothing
-    pub is_other : g ≡ NoEntry → (true ≡ stays p) × MarkedTo marks
+    pub is_other : g ≡ None → (true ≡ stays p) × MarkedTo marks
     is_other h =
         let z : entering (lo p) ≡ false = sym (said_by-entering (lo p)) ∙ entering_none _ g e h in
         (sym (rw z), skip (rw z))
 
-    module _ (o d : ℕ) (c : ChildNo) (h : g ≡ Of o c d) where
-      told : (entering (said_by (lo p)) ≡ true) × (owner_of (said_by (lo p)) ≡ o) × (to_of (said_by (lo p)) ≡ c.0) × (input_of (said_by (lo p)) ≡ d)
-      told = entering_is _ g e o d c h
+    module _ (v : Entry) (h : g ≡ Some v) where
+      told : (entering (said_by (lo p)) ≡ true) × (owner_of (said_by (lo p)) ≡ v.owner) × (to_of (said_by (lo p)) ≡ v.to.0) × (input_of (said_by (lo p)) ≡ v.input)
+      told = entering_is _ g e v h
 
       pub enters_here : entering (lo p) ≡ true
       enters_here = sym (said_by-entering (lo p)) ∙ told.0
 
-      own : owner_of (lo p) ≡ o
+      own : owner_of (lo p) ≡ v.owner
       own = sym (said_by-enters (lo p) enters_here).0 ∙ told.1
 
-      to : to_of (lo p) ≡ c.0
+      to : to_of (lo p) ≡ v.to.0
       to = sym (said_by-enters (lo p) enters_here).1 ∙ told.2
 
-      input : input_of (lo p) ≡ d
+      input : input_of (lo p) ≡ v.input
       input = sym (said_by-enters (lo p) enters_here).2 ∙ told.3
 
-      same : (r : Record) → enters o c.0 d r ≡ entering_as (lo p) r
+      same : (r : Record) → enters v.owner v.to.0 v.input r ≡ entering_as (lo p) r
       same r = λ j. entering r && eqb (owner_of r) (sym own j) && eqb (to_of r) (sym to j) && eqb (input_of r) (sym input j)
 
       abbrev before : ℕ → Bool
-      before q = marked_kept kept q && enters o c.0 d (lo q)
+      before q = marked_kept kept q && enters v.owner v.to.0 v.input (lo q)
 
       searched : any before (from 0 p) ≡ any (λ q. entering_as (lo p) (lo q)) (keep stays (from 0 p))
       searched =
@@ -175,33 +163,33 @@ module _ (file : List ℕ) where
         pub is_entered : (f : Bool) → f ≡ any before (from 0 p) → f ≡ true → (false ≡ stays p) × MarkedTo marks
         is_entered f w z = dropped_so (passes ∙ sym w ∙ z)
 
-        mark_of_lem : (q : ℕ) → owner_of (lo q) ≡ o → to_of (lo q) ≡ c.0 → input_of (lo q) ≡ d
-            → kept_mark file q ≡ place_mark (record_at (parts_of file)) (record_count (parts_of file)) o c.0 d
+        mark_of_lem : (q : ℕ) → owner_of (lo q) ≡ v.owner → to_of (lo q) ≡ v.to.0 → input_of (lo q) ≡ v.input
+            → kept_mark file q ≡ place_mark (record_at (parts_of file)) (record_count (parts_of file)) v.owner v.to.0 v.input
         mark_of_lem q a b f = λ j. place_mark (record_at (parts_of file)) (record_count (parts_of file)) (a j) (b j) (f j)
 
         -- its mark is not set
-        unmarked : (i : ℕ) → i ≡ place_mark (record_at (parts_of file)) (record_count (parts_of file)) o c.0 d → get_or marks i 0 ≡ 0
+        unmarked : (i : ℕ) → i ≡ place_mark (record_at (parts_of file)) (record_count (parts_of file)) v.owner v.to.0 v.input → get_or marks i 0 ≡ 0
             → any before (from 0 p) ≡ false
         unmarked i w z = any_no before (from 0 p) (λ q u t. here q (from0_sound p q u) t)
           where
             here : (q : ℕ) → q < p → before q ≡ true → ⊥
             here q l t =
-                let s = enters_sound (lo p) (lo q) (sym (same (lo q)) ∙ and_right (marked_kept kept q) (enters o c.0 d (lo q)) t) in
-                let kept_q : stays q ≡ true = sym (sifted.marked q l) ∙ and_left (marked_kept kept q) (enters o c.0 d (lo q)) t in
+                let s = enters_sound (lo p) (lo q) (sym (same (lo q)) ∙ and_right (marked_kept kept q) (enters v.owner v.to.0 v.input (lo q)) t) in
+                let kept_q : stays q ≡ true = sym (sifted.marked q l) ∙ and_left (marked_kept kept q) (enters v.owner v.to.0 v.input (lo q)) t in
                 unmarked_none 16384 (kept_entry file) (kept_mark file) 0 p marks m i q z (omega arith) l
                 (and_both (entering (lo q)) (stays q) s.enters kept_q)
                 (mark_of_lem q (s.owner ∙ own) (s.to ∙ to) (s.input ∙ input) ∙ sym w)
 
         -- it is new
-        pub is_new : (parts : List ℕ) → parts ≡ parts_of file → (i : ℕ) → i ≡ place_mark (record_at parts) (record_count parts) o c.0 d → i < 16384
+        pub is_new : (parts : List ℕ) → parts ≡ parts_of file → (i : ℕ) → i ≡ place_mark (record_at parts) (record_count parts) v.owner v.to.0 v.input → i < 16384
             → (get_or marks i 0 ≡ 0) ⊎ (false ≡ any before (from 0 p)) → (true ≡ stays p) × MarkedTo (set marks i (p + 1))
-        is_new parts ep i u l v = (
-          sym (ap not (passes ∙ none v)),
+        is_new parts ep i u l way = (
+          sym (ap not (passes ∙ none way)),
           marks_with 16384 (kept_entry file) (kept_mark file) 0 p marks m (p + 1) (λ z. omega (arith, z)) i l (w ∙ sym (mark_of_lem p own to input)),
         )
           where
-            w : i ≡ place_mark (record_at (parts_of file)) (record_count (parts_of file)) o c.0 d
-            w = subst (λ (ps : List ℕ). i ≡ place_mark (record_at ps) (record_count ps) o c.0 d) ep u
+            w : i ≡ place_mark (record_at (parts_of file)) (record_count (parts_of file)) v.owner v.to.0 v.input
+            w = subst (λ (ps : List ℕ). i ≡ place_mark (record_at ps) (record_count ps) v.owner v.to.0 v.input) ep u
 
             none : (get_or marks i 0 ≡ 0) ⊎ (false ≡ any before (from 0 p)) → any before (from 0 p) ≡ false
             none (inl z) = unmarked i w z

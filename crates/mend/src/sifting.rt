@@ -10,7 +10,7 @@ ghost use Rattle.index.specs.Index.{IsIndex};
 ghost use Rattle.mend.specs.Sifting.{parts_of, marked_kept, drops_plainly, IsSifted, kept_entry, kept_mark};
 
 use checks::{Entry, entry_of, has_input, has_output, is_composite_at, place_mark};
-use component::{ChildNo, Reading, Says, loose_at};
+use component::{Reading, Says, loose_at};
 use index::child_of;
 
 // Check 12 of what a record says, of the components that stand in `parts`: whether a child or port that it names does not exist. `check12` of crate
@@ -56,40 +56,24 @@ fn refuses12(parts: &[u8], index: &[u16], r: Reading) -> bool
 }
 
 // Whether the record at q is kept and enters an input of a child.
-fn kept_enters(file: &[u8], kept: &[u8], q: usize, owner: u16, to: ChildNo, input: u16) -> bool
+fn kept_enters(file: &[u8], kept: &[u8], q: usize, entry: Entry) -> bool
     requires { q < length kept.now }
-    ensures { result ≡ (marked_kept kept.now q && enters owner to.0 input (loose_at file.now q)) }
+    ensures { result ≡ (marked_kept kept.now q && enters entry.owner entry.to.0 entry.input (loose_at file.now q)) }
 {
-    let Entry::Of {
-        owner: other,
-        to: child,
-        input: port,
-    } = entry_of(loose_at(file, q))
-    else {
-        return false;
-    };
-    (kept[q] != 0) & (other == owner) & (child.0 == to.0) & (port == input)
+    (kept[q] != 0) & (entry_of(loose_at(file, q)) == Some(entry))
 }
 
 // Whether a kept record before p enters an input of a child: the one that is guessed, or any.
-fn entered_before(
-    file: &[u8],
-    kept: &[u8],
-    p: usize,
-    guess: usize,
-    owner: u16,
-    to: ChildNo,
-    input: u16,
-) -> bool
+fn entered_before(file: &[u8], kept: &[u8], p: usize, guess: usize, entry: Entry) -> bool
     requires { p ≤ length kept.now }
-    ensures { result ≡ any (λ q. marked_kept kept.now q && enters owner to.0 input (loose_at file.now q)) (from 0 p) }
+    ensures { result ≡ any (λ q. marked_kept kept.now q && enters entry.owner entry.to.0 entry.input (loose_at file.now q)) (from 0 p) }
 {
     if guess < p {
-        if kept_enters(file, kept, guess, owner, to, input) {
+        if kept_enters(file, kept, guess, entry) {
             return true;
         }
     }
-    (0..p).any(|q| kept_enters(file, kept, q, owner, to, input))
+    (0..p).any(|q| kept_enters(file, kept, q, entry))
 }
 
 // The mark at a place: 0 where it is not set.
@@ -117,16 +101,16 @@ fn is_kept(
 {
     let reading = loose_at(file, p);
     let refused = refuses12(parts, index, reading);
-    let Entry::Of { owner, to, input } = entry_of(reading) else {
+    let Some(entry) = entry_of(reading) else {
         return true; // no connection and no input map
     };
     if refused {
         return false;
     }
-    let place = place_mark(parts, index, owner, to, input);
+    let place = place_mark(parts, index, entry.owner, entry.to, entry.input);
     let mark = mark_at(marks, place);
     if mark != 0 {
-        if entered_before(file, kept, p, mark - 1, owner, to, input) {
+        if entered_before(file, kept, p, mark - 1, entry) {
             return false;
         }
     }

@@ -13,15 +13,15 @@ loop-q-init c = search (earlier_start)
 
 pub returns-then-same_entry : goal.returns-then-same_entry
 returns-then-same_entry c =
-    let k = c.in-Of in
+    let k = c.in-Some.entry in
     search (scan_kth_here c.args.file.now (enters k.owner k.to.0 k.input))
 
 pub loop-q-preserved : goal.loop-q-preserved
 loop-q-preserved c =
-    let k = c.in-Of in
+    let k = c.in-Some.entry in
     search (scan_kth_next c.args.file.now (enters k.owner k.to.0 k.input))
 
 pub returns : goal.returns
 returns c =
-    let k = c.in-Of in
+    let k = c.in-Some.entry in
     search (scan_kth_none c.args.file.now (enters k.owner k.to.0 k.input))

@@ -12,4 +12,4 @@ use Rattle.checks.proofs.earlier_of.Given as goal
 
 abbrev pub invariant-loop-q : goal.invariant-loop-q
 invariant-loop-q l =
-    get_or (keep (tested l.file (enters l.owner l.to.0 l.input)) (from l.q (l.p - l.q))) 0 l.p ≡ earlier_of (record_at l.file) l.p
+    get_or (keep (tested l.file (enters l.entry.owner l.entry.to.0 l.entry.input)) (from l.q (l.p - l.q))) 0 l.p ≡ earlier_of (record_at l.file) l.p

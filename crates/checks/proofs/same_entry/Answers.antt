@@ -1,10 +1,8 @@
--- `same_entry`: the tests of the definition, at the entry read.
+-- `same_entry`: the record at q enters nothing, or its entry is compared part by part.
 -- Assumes nothing.
-use Rattle.checks.proofs.ChecksLaws.{enters_none, enters_is}
+use mathlib.Core.Path.{◌∙◌}
+use Rattle.checks.proofs.ChecksLaws.{same_as}
 use Rattle.checks.proofs.same_entry.Goals as goal
 
-pub returns-in_default : goal.returns-in_default
-returns-in_default c = search (enters_none)
-
 pub returns : goal.returns
-returns c = search (enters_is)
+returns c = c.eq.ensures ∙ same_as _ c.entry_at.result c.args.entry c.entry_at.ensures

@@ -24,6 +24,6 @@ pub returns : goal.returns
 returns c =
     let m = c.place_mark-place.ensures in
     let r = entry_new c.args.file.now c.args.marks.now c.args.p c.requires.1 c.entry_of.result
-    (subst (EntryAs c.entry_of.result) c.known_at.ensures c.entry_of.ensures) _ _ _ c.in-Of.is _ m.0 m.1
+    (subst (EntryAs c.entry_of.result) c.known_at.ensures c.entry_of.ensures) _ c.in-Some.is _ m.0 m.1
     (elim c.if-marks-place-ne0.branch [ then-marks-place-ne0+else-earlier_of-p w ↦ inr (sym w.if-earlier_of-p.false ∙ w.earlier_of.ensures) | else-marks-place-ne0 w ↦ inl w.if-marks-place-ne0.false ]) in
     record { value = r.0; marked = r.1 }

@@ -4,7 +4,7 @@ use Rattle.std.proofs.Common.{arith, rules}
 use Rattle.flatten.proofs.DescentLaws.{stretch_is}
 use Rattle.flatten.proofs.TargetsLaws.{list_bottom, list_room, list_here, list_maps, list_to_room, list_to, list_nothing, primitive_number}
 use Rattle.flatten.proofs.descent.+list_targets.Goals as goal
-use Rattle.flatten.proofs.descent.+list_targets.Goals.{in-To, in_default}
+use Rattle.flatten.proofs.descent.+list_targets.Goals.{in-Some, in_default}
 
 -- no depth left
 pub returns-then-depth-eq0 : goal.returns-then-depth-eq0
@@ -26,4 +26,4 @@ list_targets-next-requires t c = (omega arith, (search rules, search (list_to_ro
 
 pub loop-q-preserved : goal.loop-q-preserved
 loop-q-preserved t c =
-    elim c.match-enter.branch [ in-To w ↦ rw (w.targets-is, w.next-is) (search (list_to)) | in_default w ↦ rw (w.targets-is, w.next-is) (search (list_nothing)) ]
+    elim c.match-enter.branch [ in-Some w ↦ rw (w.targets-is, w.next-is) (search (list_to)) | in_default w ↦ rw (w.targets-is, w.next-is) (search (list_nothing)) ]

@@ -1,26 +1,41 @@
--- `judge_late`: the invariant: the checks made so far have passed.
+-- `judge_late`: the tests that ask the index, likewise.
 -- Assumes nothing.
-use Prim.Native.Nat.{◌/◌}
-use native.Mathlib.Omega.{arith}
+use Prim.Native.Nat.{ℕ, ◌/◌, ◌<◌}
+use mathlib.Core.Path.{◌≡◌}
+use mathlib.Core.Bool.{false}
 use lib.ListN.{length}
+use native.Mathlib.Omega.{arith}
+use borrow.Author.Rules.{rules}
+use borrow.Author.Tests.{tests}
+use Rattle.std.proofs.iter.Serving.{serving}
 use Rattle.component.specs.Record.{record_at}
-use Rattle.kinds.proofs.GivenLaws.{handed_on}
-use Rattle.flatten.proofs.JudgementLaws.{judged_here, passed_next, judged_refused, judged_passed}
+use Rattle.component.specs.Drawing.{fails6}
+use Rattle.flatten.proofs.Accepted.{passed_check}
 use Rattle.flatten.proofs.judgement.judge_late.Goals as goal
 
-pub returns-in_err-refused_at : goal.returns-in_err-refused_at
-returns-in_err-refused_at c =
-    let a = c.args in
-    let l = c.loop-k in
-    rw (handed_on c.from_residual.result _ c.from_residual.ensures.1)
-    (judged_refused (record_at a.file.now) (length a.file.now / 24) 16 _
-    (judged_here a.file.now (length a.file.now / 24) l.k l.invariant _ c.refused_at.ensures _ (omega arith) (omega arith) c.in_err-refused_at.was))
+-- 12
+pub refused_at-requires-clause-first : goal.refused_at-requires-clause-first
+refused_at-requires-clause-first c =
+    let e = c.first_failing.ensures in (
+      c.requires.0.few,
+      omega arith,
+      omega arith,
+      record { within = e.0; before = λ p h. let k = e.1 p h in search (rules, tests); here = λ h. let k = e.2 h in search (rules, tests) },
+    )
 
-pub loop-k-preserved : goal.loop-k-preserved
-loop-k-preserved c =
-    let a = c.args in
-    let l = c.loop-k in
-    passed_next a.file.now (length a.file.now / 24) l.k l.invariant _ c.refused_at.ensures (omega arith) (omega arith) c.in_ok-refused_at.was
+-- 14, of a record that check 6 passes
+pub first_failing-requires-2 : goal.first_failing-requires-2
+first_failing-requires-2 c =
+    let s = c.args.file.now in
+    let few : (p : ℕ) → p < length s / 24 → fails6 (record_at s) p ≡ false =
+    λ p. passed_check (record_at s) (length s / 24) 12 6 p c.requires.1 (omega arith) in
+    grind (serving, few)
 
-pub returns : goal.returns
-returns c = judged_passed (record_at c.args.file.now) _ 16 c.loop-k.k c.loop-k.invariant (omega arith) (omega arith)
+pub refused_at-requires-3-clause-first : goal.refused_at-requires-3-clause-first
+refused_at-requires-3-clause-first c =
+    let e = c.first_failing-2.ensures in (
+      c.requires.0.few,
+      omega arith,
+      omega arith,
+      record { within = e.0; before = λ p h. let k = e.1 p h in search (rules, tests); here = λ h. let k = e.2 h in search (rules, tests) },
+    )

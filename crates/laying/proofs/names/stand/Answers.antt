@@ -8,16 +8,16 @@ use Rattle.laying.proofs.names.stand.Goals as goal
 pub returns-then-not-stands : goal.returns-then-not-stands
 returns-then-not-stands c =
     let a = c.args in
-    stand_not _ _ a.stood a.drawn c.in-Primitive.is _ c.stands.ensures
+    stand_not _ a.stood a.drawn c.in-Some.is _ c.stands.ensures
     a.standing.now (ap not c.if-not-stands.true)
 
 pub bounds-standing-count : goal.bounds-standing-count
 bounds-standing-count c =
-    stand_room _ _ c.args.stood c.args.drawn c.in-Primitive.is _
+    stand_room _ c.args.stood c.args.drawn c.in-Some.is _
     c.stands.ensures c.args.standing.now (ap not c.if-not-stands.false) c.requires.0
 
 pub returns : goal.returns
 returns c =
     let a = c.args in
-    stand_laid _ _ a.stood a.drawn c.in-Primitive.is _ c.stands.ensures
+    stand_laid _ a.stood a.drawn c.in-Some.is _ c.stands.ensures
     a.standing.now (ap not c.if-not-stands.false)

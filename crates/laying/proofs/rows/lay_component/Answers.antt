@@ -5,11 +5,11 @@ use Rattle.laying.proofs.rows.lay_component.Goals as goal
 
 pub lay_row-requires : goal.lay_row-requires
 lay_row-requires c =
-    row_room _ _ c.args.before c.args.drawn c.in-Primitive.is
+    row_room _ c.args.before c.args.drawn c.in-Some.is
     c.args.components.now c.requires.0
 
 pub returns : goal.returns
 returns c =
-    row_laid _ _ c.args.before c.args.drawn c.in-Primitive.is
+    row_laid _ c.args.before c.args.drawn c.in-Some.is
     c.args.components.now _ _ _
     c.lay_row.ensures c.wide.ensures.0 c.wide-2.ensures.0

@@ -10,23 +10,23 @@ returns-in_default c =
 
 pub bounds-outputs-at : goal.bounds-outputs-at
 bounds-outputs-at c =
-    const_room _ _ c.args.drawn c.in-Primitive.is _
+    const_room _ c.args.drawn c.in-Some.is _
     c.from.ensures c.args.outputs.now c.args.at c.if-fields-from.true c.requires
 
 pub returns-then-fields-from : goal.returns-then-fields-from
 returns-then-fields-from c =
-    const_laid _ _ c.args.drawn c.in-Primitive.is _
+    const_laid _ c.args.drawn c.in-Some.is _
     c.from.ensures c.args.outputs.now c.args.at c.if-fields-from.true
 
 pub zeros-requires : goal.zeros-requires
 zeros-requires c =
-    zeros_room _ _ c.args.drawn c.in-Primitive.is _
+    zeros_room _ c.args.drawn c.in-Some.is _
     c.from.ensures c.args.outputs.now c.args.at
     c.if-fields-from.false
     _ c.wide-count.ensures.0 c.requires
 
 pub returns : goal.returns
 returns c =
-    zeros_laid _ _ c.args.drawn c.in-Primitive.is _
+    zeros_laid _ c.args.drawn c.in-Some.is _
     c.from.ensures c.args.outputs.now c.args.at
     c.if-fields-from.false _ c.wide-count.ensures.0 _ c.zeros.ensures

@@ -18,13 +18,13 @@ use Rattle.mend.proofs.sifting.entered_before.Goals as goal
 
 pub returns-then-kept_enters : goal.returns-then-kept_enters
 returns-then-kept_enters c =
-    let f : ℕ → Bool = λ j. marked_kept c.args.kept.now j && enters c.args.owner c.args.to.0 c.args.input (loose_at c.args.file.now j) in
+    let f : ℕ → Bool = λ j. marked_kept c.args.kept.now j && enters c.args.entry.owner c.args.entry.to.0 c.args.entry.input (loose_at c.args.file.now j) in
     sym (any_some f c.args.guess (from 0 c.args.p) (sym c.kept_enters.ensures ∙ c.if-kept_enters.true)
     (from0_complete c.args.p c.args.guess (omega arith)))
 
 pub returns : goal.returns
 returns c =
     let a = c.args in
-    any_range (λ j. marked_kept a.kept.now j && enters a.owner a.to.0 a.input (loose_at a.file.now j)) a.p _
-    (any_from_yields_List (λ j. marked_kept a.kept.now j && enters a.owner a.to.0 a.input (loose_at a.file.now j)) _ _ _ c.any.ensures.ran
+    any_range (λ j. marked_kept a.kept.now j && enters a.entry.owner a.entry.to.0 a.entry.input (loose_at a.file.now j)) a.p _
+    (any_from_yields_List (λ j. marked_kept a.kept.now j && enters a.entry.owner a.entry.to.0 a.entry.input (loose_at a.file.now j)) _ _ _ c.any.ensures.ran
     (YieldsList-from_range 0 a.p a.p (cc) (omega arith)) (λ x b q k. search (rules, tests)))
