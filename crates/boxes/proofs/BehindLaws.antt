@@ -3,13 +3,14 @@
 use mathlib.Core.Path.{◌≡◌, refl, sym, ap, ◌∙◌, subst}
 use Prim.Native.Nat.{ℕ, zero, suc, ◌+◌, ◌-◌, ◌<◌, ◌≤◌}
 use native.Mathlib.Omega.{arith}
-use mathlib.Core.Bool.{Bool, true, ◌||◌}
+use mathlib.Core.Bool.{true}
 use mathlib.Core.List.{List, map}
 use lib.ListN.{length}
 use lib.Dec.{eqb}
 use Rattle.std.specs.List.{range_with_len, list_any}
 use Rattle.lists.specs.Lists.{from, any}
 use Rattle.lists.proofs.MembersLaws.{length_nil}
+use Rattle.lists.proofs.RangeLaws.{any_range}
 use Rattle.component.specs.declared.Record.{Record}
 use Rattle.component.specs.Record.{record_at, record_count, inputs_of}
 use Rattle.component.specs.Drawing.{deepest}
@@ -63,12 +64,6 @@ module _ (s : List ℕ) (accepted : verdict s ≡ Ok tt) (m c i : ℕ) (depth : 
         ∙ ap (last_of z) (listed_read t goals u k listed (omega (arith, behind_room, full)) ∙ is_behind)
 
 -- Whether nothing is behind some input: all inputs are looked at.
-any_range : (f : ℕ → Bool) (q k : ℕ) → list_any f (range_with_len q k) ≡ any f (from q k)
-any_range f q zero = refl
-any_range f q (suc k) =
-    let z : q + 1 ≡ suc q = omega arith in
-    ap (λ (b : Bool). f q || b) (any_range f (q + 1) k ∙ ap (λ (j : ℕ). any f (from j k)) z)
-
 pub dangling_searched : (at : ℕ → Record) (n c k : ℕ) → k ≡ inputs_of (at c)
     → list_any (λ i. eqb (length (behind at n c i)) 0) (range_with_len 0 k) ≡ dangling at n c
 unfolding dangling

@@ -7,13 +7,11 @@ use mathlib.Core.Logic.{⊎_elim}
 use mathlib.Core.List.{List, [], ◌∷◌}
 use Prim.Native.Nat.{ℕ, zero, suc, ◌-◌, ◌/◌, ◌<◌, ◌≤◌}
 use native.Mathlib.Nat.{sub-zero}
-use native.Mathlib.Numerals.{add-one}
 use native.Mathlib.Omega.{arith}
 use borrow.Author.Tests.{eqb-false, eq-eqb, ne_eqb, le-leb, lt-leb, lt-ltb, le-ltb, leb-false, not-true, not-false}
 use lib.Dec.{eqb, leb, ltb}
 use lib.ListN.{length, get_or}
 use types.Run.{OneOf}
-use Rattle.std.specs.List.{list_any, range_with_len}
 use Rattle.lists.specs.Lists.{from, keep, any}
 use Rattle.lists.proofs.ListsLaws.{keep_nothing, keep_any, keep_most}
 use denote.Enum.Declared.{tag_of}
@@ -108,11 +106,6 @@ module _ (x y : Says) (o m : ℕ) where
         kind_rises (form_by x) (form_by y) o m
         (⊎_elim (λ z. omega (arith, ap form_by h, form_by-tag y)) (⊎_elim (λ z. omega (arith, ap form_by h, form_by-tag y))
         (λ z. omega (arith, ap form_by h, form_by-tag y))) k)
-
--- Whether one position of a range passes, in the library's words.
-pub any_range : (f : ℕ → Bool) (q n : ℕ) → list_any f (range_with_len q n) ≡ any f (from q n)
-any_range f q zero = refl
-any_range f q (suc n) = rw (add-one q) (ap (λ (b : Bool). f q || b) (any_range f (suc q) n))
 
 -- A record taken apart has a kind.
 form_by-some : (x : Says) → form_by x ≡ 0 → ⊥

@@ -7,8 +7,8 @@ use mathlib.Core.Bool.{Bool, true, false}
 use mathlib.Core.List.{List}
 use Prim.Native.Nat.{ℕ, ◌+◌, ◌-◌, ◌≤◌, ◌<◌}
 use lib.ListN.{get_or}
-use Rattle.lists.specs.Lists.{from, keep, any}
-use Rattle.lists.proofs.ListsLaws.{any_here, any_next, any_none, kth_here, kth_counts, kth_next, kth_none}
+use Rattle.lists.specs.Lists.{from, keep}
+use Rattle.lists.proofs.ListsLaws.{kth_here, kth_counts, kth_next, kth_none}
 use Rattle.component.specs.declared.Record.{Record}
 use Rattle.component.specs.Record.{record_at}
 
@@ -17,18 +17,6 @@ abbrev pub tested : List ℕ → (Record → Bool) → ℕ → Bool
 tested s T q = T (record_at s q)
 
 module _ (s : List ℕ) (T : Record → Bool) (q n : ℕ) where
-  -- whether one passes: this one; not this one; none
-  pub scan_any_here : (t x : Bool) → any (tested s T) (from q (n - q)) ≡ x → q < n
-      → t ≡ T (record_at s q) → t ≡ true → true ≡ x
-  scan_any_here t x i h d k = any_here (tested s T) q n x i h (sym d ∙ k)
-
-  pub scan_any_next : (t x : Bool) → any (tested s T) (from q (n - q)) ≡ x → q < n
-      → t ≡ T (record_at s q) → t ≡ false → any (tested s T) (from (q + 1) (n - (q + 1))) ≡ x
-  scan_any_next t x i h d k = any_next (tested s T) q n x i h (sym d ∙ k)
-
-  pub scan_any_none : (x : Bool) → any (tested s T) (from q (n - q)) ≡ x → n ≤ q → false ≡ x
-  scan_any_none x i h = any_none (tested s T) q n x i h
-
   -- the kth that passes: this one; this one counts; it does not; there is none
   pub scan_kth_here : (t : Bool) (k d x : ℕ) → get_or (keep (tested s T) (from q (n - q))) k d ≡ x → q < n
       → t ≡ T (record_at s q) → t ≡ true → k ≡ 0 → q ≡ x

@@ -1,10 +1,9 @@
 -- Laws of check 15, one for each way out of a function of src/widths.rt.
 -- Assumes nothing.
-use mathlib.Core.Path.{◌≡◌, refl, sym, ap, ◌∙◌}
-use mathlib.Core.Bool.{Bool, false, not, ◌||◌}
+use mathlib.Core.Path.{◌≡◌, sym, ap, ◌∙◌}
+use mathlib.Core.Bool.{Bool, false, not}
 use mathlib.Core.List.{List, [], ◌∷◌}
-use Prim.Native.Nat.{ℕ, zero, suc, ◌+◌, ◌/◌}
-use native.Mathlib.Numerals.{add-one}
+use Prim.Native.Nat.{ℕ, ◌/◌}
 use Rattle.std.specs.List.{list_any, range_with_len}
 use borrow.Author.Tests.{eq-eqb, ne_eqb}
 use lib.Dec.{eqb}
@@ -13,6 +12,7 @@ use types.Run.{OneOf}
 use denote.Enum.Declared.{tag_of}
 use Rattle.lists.specs.Lists.{from, any}
 use Rattle.lists.proofs.MembersLaws.{any_map}
+use Rattle.lists.proofs.RangeLaws.{any_range}
 use Rattle.kinds.specs.declared.table.Fields.{Fields}
 use Rattle.kinds.specs.Kinds.{input_width, output_width}
 use Rattle.component.specs.declared.ChildNo.{ChildNo}
@@ -33,23 +33,11 @@ use Rattle.flatten.specs.Searches.{unlike}
 use Rattle.flatten.specs.Targets.{target_in, targets_in}
 use Rattle.flatten.proofs.DescentLaws.{source_is, form_is}
 
--- What `any` finds over a range, in the words of crate lists.
-range_from : (q n : ℕ) → range_with_len q n ≡ from q n
-range_from q zero = refl
-range_from q (suc n) = ap (λ (xs : List ℕ). q ∷ xs) (range_from (q + 1) n ∙ ap (λ (p : ℕ). from p n) (add-one q))
-
-any_list : (f : ℕ → Bool) (xs : List ℕ) → list_any f xs ≡ any f xs
-any_list f [] = refl
-any_list f (x ∷ xs) = ap (λ (b : Bool). f x || b) (any_list f xs)
-
-pub any_range : (f : ℕ → Bool) (m : ℕ) (b : Bool) → b ≡ list_any f (range_with_len 0 m) → b ≡ any f (from 0 m)
-any_range f m b e = e ∙ ap (list_any f) (range_from 0 m) ∙ any_list f (from 0 m)
-
 -- The search for a target of another width.
 pub differs_any : (s t : List ℕ) (w m : ℕ) (b : Bool) → b ≡ list_any (λ k. unlike (record_at s) w (target_in t k)) (range_with_len 0 m)
     → b ≡ any (unlike (record_at s) w) (targets_in t m)
 differs_any s t w m b e =
-    any_range (λ k. unlike (record_at s) w (target_in t k)) m b e ∙ sym (any_map (unlike (record_at s) w) (target_in t) (from 0 m))
+    e ∙ any_range (λ k. unlike (record_at s) w (target_in t k)) 0 m ∙ sym (any_map (unlike (record_at s) w) (target_in t) (from 0 m))
 
 -- The ends of a wire differ in width.
 abbrev pub differing : (ℕ → Record) → Lead → Bool

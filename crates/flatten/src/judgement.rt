@@ -31,7 +31,8 @@ fn first_failing<F: Fn(usize) -> bool>(n: usize, fails: F) -> usize
 // Check k over all records, the checks before it having passed: refused at the first record, in file order, that fails it, p being that record.
 fn refused_at(file: &[u8], k: u32, p: usize) -> Result<(), Refusal>
     requires passed_before { PassedBefore (record_at file.now) (record_count file.now) k }
-    requires first { (record_count file.now ≤ 1024) × (3 ≤ k) × (k < 16) × IsFirst (fails_at (record_at file.now) (record_count file.now) k) (record_count file.now) p }
+    requires first { (record_count file.now ≤ 1024) × (3 ≤ k) × (k < 16)
+        × IsFirst (fails_at (record_at file.now) (record_count file.now) k) (record_count file.now) p }
     ensures { Judged (k + 1) (record_at file.now) (record_count file.now) result }
 {
     if p < file.len() / 24 {

@@ -11,7 +11,7 @@ use mathlib.Core.List.{List, [], ◌∷◌, ◌++◌, append-nil}
 use Prim.Native.Nat.{ℕ, ◌+◌, ◌-◌, ◌≤◌, ◌<◌}
 use native.Mathlib.Numerals.{add-one}
 use native.Mathlib.Omega.{arith}
-use lib.ListN.{length, set, replicate, length-append, length-replicate, replicate-append-replicate}
+use lib.ListN.{length, set, length-append}
 use lib.Seq.{sets, length-sets}
 use Rattle.lists.specs.Lists.{from, keep, joined, overlay}
 use Rattle.lists.proofs.MembersLaws.{from_last, from_append, from_length}
@@ -21,14 +21,6 @@ use Rattle.lists.proofs.OverlayLaws.{sets_append, sets_overlay, joined_append}
 pub sets_next : (t : List ℕ) (k : ℕ) (xs : List ℕ) (x : ℕ)
     → set (sets t k xs) (k + length xs) x ≡ sets t k (xs ++ (x ∷ []))
 sets_next t k xs x = sym (sets_append t k xs (x ∷ []))
-
--- One zero more.
-pub zeros_step : (t u : List ℕ) (k i : ℕ) → u ≡ sets t k (replicate i 0)
-    → set u (k + i) 0 ≡ sets t k (replicate (i + 1) 0)
-zeros_step t u k i e =
-    let many : k + i ≡ k + length (replicate {A = ℕ} i 0) = omega (arith, length-replicate {A = ℕ} i 0) in
-    ap (λ (l : List ℕ). set l (k + i) 0) e ∙ ap (λ (j : ℕ). set (sets t k (replicate i 0)) j 0) many
-    ∙ sets_next t k (replicate i 0) 0 ∙ ap (sets t k) (replicate-append-replicate i 1 0)
 
 -- One number more of those from 0 on.
 pub numbers_step : (t u : List ℕ) (i : ℕ) → u ≡ sets t 0 (from 0 i) → set u i i ≡ sets t 0 (from 0 (i + 1))

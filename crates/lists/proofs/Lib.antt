@@ -6,3 +6,4 @@ pub mod NamesLaws
 pub mod OverlayLaws
 pub mod KeysLaws
 pub mod LayingLaws
+pub mod RangeLaws

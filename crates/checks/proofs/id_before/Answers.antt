@@ -7,9 +7,9 @@ use borrow.Author.Tests.{tests}
 use Rattle.std.proofs.iter.Serving.{serving}
 use Rattle.std.proofs.lemmas.Iterator.{YieldsList-from_range}
 use Rattle.std.proofs.lemmas.Iterator.Search.{any_from_yields_List}
+use Rattle.lists.proofs.RangeLaws.{any_range}
 use Rattle.component.proofs.ScanLaws.{tested}
 use Rattle.component.specs.Reading.{has_id}
-use Rattle.checks.proofs.ChecksLaws.{any_range}
 use Rattle.checks.proofs.id_before.Goals as goal
 
 pub any-requires-clause-callable : goal.any-requires-clause-callable

@@ -12,7 +12,7 @@ use Rattle.lists.specs.Lists.{from}
 use Rattle.lists.proofs.MembersLaws.{any_some, from0_complete}
 use Rattle.component.specs.Record.{loose_at}
 use Rattle.component.specs.Reading.{enters}
-use Rattle.flatten.proofs.WidthsLaws.{any_range}
+use Rattle.lists.proofs.RangeLaws.{any_range}
 use Rattle.mend.specs.Sifting.{marked_kept}
 use Rattle.mend.proofs.sifting.entered_before.Goals as goal
 
@@ -25,6 +25,6 @@ returns-then-kept_enters c =
 pub returns : goal.returns
 returns c =
     let a = c.args in
-    any_range (λ j. marked_kept a.kept.now j && enters a.entry.owner a.entry.to.0 a.entry.input (loose_at a.file.now j)) a.p _
-    (any_from_yields_List (λ j. marked_kept a.kept.now j && enters a.entry.owner a.entry.to.0 a.entry.input (loose_at a.file.now j)) _ _ _ c.any.ensures.ran
-    (YieldsList-from_range 0 a.p a.p (cc) (omega arith)) (λ x b q k. search (rules, tests)))
+    let f : ℕ → Bool = λ j. marked_kept a.kept.now j && enters a.entry.owner a.entry.to.0 a.entry.input (loose_at a.file.now j) in
+    any_from_yields_List f _ _ _ c.any.ensures.ran (YieldsList-from_range 0 a.p a.p (cc) (omega arith)) (λ x b q k. search (rules, tests))
+    ∙ any_range f 0 a.p
