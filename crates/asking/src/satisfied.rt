@@ -5,7 +5,8 @@ ghost use Rattle.questions.specs.Questions.{whether_gives, AsksSatisfied};
 ghost use Rattle.words.specs.Said.{short};
 ghost use Rattle.asking.specs.Asking.{CallAsks};
 
-use words::{counts_in, lay_whether};
+use crate::answers::whether_words;
+use words::{counts_in, lay};
 
 // Whether the values are right at the components that the lists name and at the wires that leave them: a word is lent for the answer, 1 or 0.
 pub fn berxundar_satisfied(
@@ -38,5 +39,5 @@ pub fn berxundar_satisfied(
         standing,
         counts_in(counts),
     );
-    lay_whether(found, answer)
+    lay(found, answer.map(whether_words))
 }

@@ -5,8 +5,9 @@ ghost use Rattle.questions.specs.Questions.{AsksTargets};
 ghost use Rattle.words.specs.Said.{short};
 ghost use Rattle.asking.specs.Asking.{CallLists};
 
+use crate::answers::list_words;
 use tables::FlatIdx;
-use words::{counts_in, lay_listed};
+use words::{counts_in, lay};
 
 // The targets of the component at an index, into a list of 256; how many they are, into a lent word.
 pub fn berxundar_targets(
@@ -43,5 +44,5 @@ pub fn berxundar_targets(
         FlatIdx(index),
         list,
     );
-    lay_listed(found, answer)
+    lay(found, answer.map(list_words))
 }

@@ -8,7 +8,7 @@ use mathlib.Core.List.{List, [], ◌∷◌}
 use mathlib.Core.Option.{Option, none, some}
 use native.Mathlib.Omega.{arith}
 use borrow.Author.Tests.{ltb-false}
-use lib.ListN.{length, set, take, drop}
+use lib.ListN.{length, take, drop}
 use lib.Dec.{eqb, leb}
 use Rattle.lists.specs.Lists.{overlay, refusal, ◌if◌}
 use Rattle.lists.proofs.TestsLaws.{and_right_false, or_left, or_right}
@@ -27,21 +27,10 @@ use Rattle.words.specs.Said.{short}
 use Rattle.words.proofs.PlainLaws.{refusal_small}
 use Rattle.slow.specs.declared.SlowCounts.{SlowCounts}
 use Rattle.slow.specs.declared.SlowRan.{SlowRan}
-use Rattle.slow.specs.Slow.{SlowTables, slow_full, drawn, led_into, slow_right, slow_number, slow_edit_number, slow_verdict, slow_load_verdict, slow_round_verdict, slow_edit_verdict, slow_run_verdict, slow_words, slow_gives, slow_ran_gives, slow_counts_after, slow_counts_after_run, SlowRounds}
+use Rattle.slow.specs.Slow.{SlowTables, slow_full, drawn, led_into, slow_right, slow_number, slow_edit_number, slow_verdict, slow_load_verdict, slow_round_verdict, slow_edit_verdict, slow_run_verdict, slow_gives, slow_ran_gives, slow_counts_after, slow_counts_after_run, SlowRounds}
 use Rattle.slowly.specs.Slowly.{slow_counts_in, few_slow, CallSlow, few_slow_counts, slow_changed, CallSlowRounds, CallSlowRuns, few_to_run_slowly, ran_slowly}
 use Rattle.std.specs.Prelude.{Result, Ok, Err}
 use Rattle.kinds.specs.declared.answers.Refusal.{Refusal}
-
--- Five stores are the words of the counts at the front.
-pub counts_laid : (ws : List ℕ) (m : SlowCounts) → 5 ≤ length ws
-    → set (set (set (set (set ws 0 m.inputs) 1 m.outputs) 2 m.current) 3 m.following) 4 m.standing ≡ overlay (slow_words m) ws
-unfolding overlay
-counts_laid (a ∷ b ∷ c ∷ d ∷ e ∷ ws) m h = refl
-counts_laid [] m h = absurd (omega arith)
-counts_laid (a ∷ []) m h = absurd (omega arith)
-counts_laid (a ∷ b ∷ []) m h = absurd (omega arith)
-counts_laid (a ∷ b ∷ c ∷ []) m h = absurd (omega arith)
-counts_laid (a ∷ b ∷ c ∷ d ∷ []) m h = absurd (omega arith)
 
 -- The count words after a call.
 counts_after_lem : (a : Result SlowCounts Refusal) (ws : List ℕ) → slow_counts_in (overlay (values_in (slow_gives a)) ws) ≡ slow_counts_after a (slow_counts_in ws)

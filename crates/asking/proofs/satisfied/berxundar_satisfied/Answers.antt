@@ -1,43 +1,46 @@
 -- `berxundar_satisfied`: too few words, or what the engine answers.
 -- Assumes nothing.
-use mathlib.Core.Path.{◌∙◌}
+use mathlib.Core.Path.{refl, ap, ◌∙◌}
+use mathlib.Core.Bool.{Bool}
+use mathlib.Core.List.{[], ◌∷◌}
+use native.Mathlib.Omega.{arith}
+use Rattle.value.specs.Value.{level}
+use Rattle.kinds.specs.Given.{spoken}
 use Rattle.tables.specs.declared.Counts.{Counts}
 use Rattle.tables.specs.Tables.{Tables, tables_of}
 use Rattle.judging.specs.Judged.{judged_named}
 use Rattle.questions.specs.Questions.{whether_gives, AsksSatisfied}
-use Rattle.words.proofs.PlainLaws.{plain_fits, plain_spoken}
+use Rattle.words.proofs.PlainLaws.{plain_small}
 use Rattle.words.proofs.SaidLaws.{enough_found}
+use Rattle.words.proofs.LaidLaws.{same_given, laid_as}
 use Rattle.asking.proofs.AskingLaws.{whether_plain, ask_short, ask_made}
 use Rattle.asking.proofs.satisfied.berxundar_satisfied.Goals as goal
-use Rattle.asking.proofs.satisfied.berxundar_satisfied.Lts as lts
-use Rattle.asking.proofs.satisfied.berxundar_satisfied.Tie as tie
-use Rattle.asking.proofs.satisfied.berxundar_satisfied.Reads as reads
-
-abbrev Start : Type 0
-Start = lts.Start tie.the-claims reads.Pre reads.Post
-
--- The tables that came in, by their counts.
-abbrev came : Start → Counts → Tables
-came s =
-    tables_of s.args.components.now s.args.inputs.now s.args.outputs.now s.args.wires.now
-    s.args.current.now
-    s.args.following.now s.args.standing.now
 
 pub returns-then-counts-found : goal.returns-then-counts-found
 returns-then-counts-found c =
     ask_short _ _ _ _ _ _ c.if-counts-found.true
 
-pub lay_whether-requires : goal.lay_whether-requires
-lay_whether-requires c = (
-  enough_found c.args.counts.now c.args.found.now 1 c.if-counts-found.false,
-  plain_fits (whether_gives c.is_satisfied-answer.result) (whether_plain (came c.before.before.before.before.before.before.before.before.before.before.before.before.before.before c.counts_in.result) (judged_named (came c.before.before.before.before.before.before.before.before.before.before.before.before.before.before c.counts_in.result)) c.is_satisfied-answer.result c.is_satisfied-answer.ensures),
-)
+-- The words that are laid give what the answer gives.
+pub lay-requires : goal.lay-requires
+lay-requires c =
+    let a = c.args in
+    let r = c.is_satisfied-answer in
+    let lent : Counts → Tables =
+    tables_of a.components.now a.inputs.now a.outputs.now a.wires.now a.current.now a.following.now a.standing.now in
+    let e = same_given whether_gives (λ (so : Bool). level so ∷ []) (λ x. refl) (λ x. refl) r.result c.map.result c.map.ensures.cases in
+    let p = whether_plain (lent c.counts_in.result) (judged_named (lent c.counts_in.result)) r.result r.ensures in (
+      omega arith,
+      ((λ words is. enough_found a.counts.now a.found.now 1 c.if-counts-found.false), rw e (plain_small (whether_gives r.result) p)),
+    )
 
 pub returns : goal.returns
 returns c =
+    let a = c.args in
     let m = c.counts_in in
     let r = c.is_satisfied-answer in
-    let k = c.lay_whether in
-    let p = whether_plain (came c.before.before.before.before.before.before.before.before.before.before.before.before.before.before.before.before.before m.result) (judged_named (came c.before.before.before.before.before.before.before.before.before.before.before.before.before.before.before.before.before m.result)) r.result r.ensures in
-    ask_made whether_gives (AsksSatisfied) _ c.args.counts.now c.args.found.now (came c.before.before.before.before.before.before.before.before.before.before.before.before.before.before.before.before.before) r.result m.result k.new.found k.result
-    c.if-counts-found.false m.ensures r.ensures (k.ensures.0 ∙ plain_spoken (whether_gives r.result) p) k.ensures.1
+    let k = c.lay in
+    let lent : Counts → Tables =
+    tables_of a.components.now a.inputs.now a.outputs.now a.wires.now a.current.now a.following.now a.standing.now in
+    let e = same_given whether_gives (λ (so : Bool). level so ∷ []) (λ x. refl) (λ x. refl) r.result c.map.result c.map.ensures.cases in
+    ask_made whether_gives AsksSatisfied _ a.counts.now a.found.now lent r.result m.result k.new.found k.result
+    c.if-counts-found.false m.ensures r.ensures (k.ensures.said ∙ ap spoken e) (laid_as a.found.now e k.ensures.laid)
