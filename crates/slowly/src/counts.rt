@@ -1,15 +1,17 @@
 // Counts as five lent words, and answers in them.
-ghost use Rattle.std.specs.Prelude.{◌≡◌, ℕ, [], ◌∷◌, ◌<◌, ◌≤◌, length, take, drop};
+ghost use Rattle.std.specs.Prelude.{◌≡◌, ℕ, ◌<◌, ◌≤◌, length, take, drop};
 ghost use Rattle.lists.specs.Lists.{overlay};
 ghost use Rattle.kinds.specs.Given.{spoken};
 ghost use Rattle.words.specs.Words.{values_in};
+ghost use Rattle.simulator.specs.declared.Ran.{Ran};
 ghost use Rattle.slow.specs.declared.SlowCounts.{SlowCounts};
 ghost use Rattle.slow.specs.Slow.{slow_words, slow_gives, slow_ran_gives};
 ghost use Rattle.slowly.specs.Slowly.{slow_counts_in};
 
 use kinds::Refusal;
-use slow::{SlowCounts, SlowRan};
-use words::{count_at, lay};
+use simulator::Ran;
+use slow::SlowCounts;
+use words::{count_at, lay, lay_ran};
 
 // The counts that words hold.
 pub(crate) fn counts_in(words: &[u64]) -> SlowCounts
@@ -38,17 +40,10 @@ fn counts_words(counts: SlowCounts) -> [u64; 5]
 }
 
 // The words of the counts of a run.
-fn ran_counts_words(ran: SlowRan) -> [u64; 5]
+fn ran_counts_words(ran: Ran<SlowCounts>) -> [u64; 5]
     ensures { result ≡ slow_words ran.counts }
 {
     counts_words(ran.counts)
-}
-
-// The three words of a run.
-fn ran_words(ran: SlowRan) -> [u64; 3]
-    ensures { result ≡ ran.rounds ∷ ran.evaluations ∷ ran.moved ∷ [] }
-{
-    [ran.rounds as u64, ran.evaluations as u64, ran.moved as u64]
 }
 
 // Lays the counts of an answer that changed the tables, and says its number and position. Where it is done there are five words.
@@ -63,14 +58,14 @@ pub(crate) fn keep(words: &mut [u64], answer: Result<SlowCounts, Refusal>) -> u3
 pub(crate) fn keep_run(
     words: &mut [u64],
     found: &mut [u64],
-    answer: Result<SlowRan, Refusal>,
+    answer: Result<Ran<SlowCounts>, Refusal>,
 ) -> u32
-    requires { ((ran : SlowRan) → answer ≡ Ok ran → (5 ≤ length words.old) × (3 ≤ length found.old))
+    requires { ((ran : Ran SlowCounts) → answer ≡ Ok ran → (5 ≤ length words.old) × (3 ≤ length found.old))
         × (spoken (slow_ran_gives answer) < 4294967296) }
     ensures { (result ≡ spoken (slow_ran_gives answer))
         × (words.new ≡ overlay (drop 3 (values_in (slow_ran_gives answer))) words.old)
         × (found.new ≡ overlay (take 3 (values_in (slow_ran_gives answer))) found.old) }
 {
     lay(words, answer.map(ran_counts_words));
-    lay(found, answer.map(ran_words))
+    lay_ran(found, answer)
 }

@@ -3,13 +3,15 @@ ghost use Rattle.std.specs.Prelude.{◌≡◌, ℕ, ◌*◌, ◌<◌, ◌≤◌,
 ghost use Rattle.lists.specs.Lists.{overlay};
 ghost use Rattle.kinds.specs.Given.{spoken};
 ghost use Rattle.tables.specs.Tables.{count_words};
+ghost use Rattle.simulator.specs.declared.Ran.{Ran};
 ghost use Rattle.simulator.specs.Calls.{ran_gives};
-ghost use Rattle.words.specs.Words.{words_give, values_in, side_of};
+ghost use Rattle.words.specs.Words.{words_give, run_words_give, values_in, side_of};
 
 use crate::counts::counts_words;
 use kinds::Refusal;
 use questions::Side;
 use simulator::Ran;
+use tables::Counts;
 
 // A number, as a call says it. Crate asking calls it for a number of the engine's, which are below 65,536.
 pub fn speak(number: u32) -> u32
@@ -59,26 +61,36 @@ pub fn lay<const N: usize>(found: &mut [u64], answer: Result<[u64; N], Refusal>)
 }
 
 // The words of the counts of a run.
-fn ran_counts_words(ran: Ran) -> [u64; 7]
+fn ran_counts_words(ran: Ran<Counts>) -> [u64; 7]
     ensures { result ≡ count_words ran.counts }
 {
     counts_words(ran.counts)
 }
 
 // The three words of a run.
-fn ran_words(ran: Ran) -> [u64; 3]
+fn ran_words<C: Copy>(ran: Ran<C>) -> [u64; 3]
     ensures { result ≡ ran.rounds ∷ ran.evaluations ∷ ran.moved ∷ [] }
 {
     [ran.rounds as u64, ran.evaluations as u64, ran.moved as u64]
 }
 
+// Lays the three words of a run: rounds, evaluations, and how many times an output changed. Crate slowly calls it likewise.
+pub fn lay_ran<C: Copy>(found: &mut [u64], answer: Result<Ran<C>, Refusal>) -> u32
+    requires room { (ran : Ran C) → answer ≡ Ok ran → 3 ≤ length found.old }
+    requires small { spoken (run_words_give answer) < 4294967296 }
+    ensures said { result ≡ spoken (run_words_give answer) }
+    ensures laid { found.new ≡ overlay (values_in (run_words_give answer)) found.old }
+{
+    lay(found, answer.map(ran_words))
+}
+
 // The counts of a run, and its three words. Crate changing calls it likewise.
-pub fn lay_run(words: &mut [u64], found: &mut [u64], answer: Result<Ran, Refusal>) -> u32
+pub fn lay_run(words: &mut [u64], found: &mut [u64], answer: Result<Ran<Counts>, Refusal>) -> u32
     requires { (7 ≤ length words.old) × (3 ≤ length found.old) × (spoken (ran_gives answer) < 4294967296) }
     ensures { (result ≡ spoken (ran_gives answer))
         × (words.new ≡ overlay (drop 3 (values_in (ran_gives answer))) words.old)
         × (found.new ≡ overlay (take 3 (values_in (ran_gives answer))) found.old) }
 {
     lay(words, answer.map(ran_counts_words));
-    lay(found, answer.map(ran_words))
+    lay_ran(found, answer)
 }

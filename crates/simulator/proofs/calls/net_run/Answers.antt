@@ -1,7 +1,7 @@
 -- `net_run`: the rounds so far, before the run that is still to come, are the whole run; each round leaves a net.
 -- Assumes nothing.
 use mathlib.Core.Path.{◌≡◌, refl, sym, ◌∙◌, subst}
-use Prim.Native.Nat.{ℕ, ◌≤◌, ◌-◌}
+use Prim.Native.Nat.{ℕ, ◌≤◌}
 use native.Mathlib.Omega.{arith}
 use Rattle.lists.specs.Lists.{overlay}
 use Rattle.tables.specs.Tables.{Tables, tables_of, wires_in}
