@@ -5,8 +5,9 @@ ghost use Rattle.questions.specs.Questions.{whether_gives, AsksCalm};
 ghost use Rattle.words.specs.Said.{short};
 ghost use Rattle.asking.specs.Asking.{CallAsks};
 
+use crate::answers::whether_words;
 use tables::Lent;
-use words::{counts_in, lay_whether};
+use words::{counts_in, lay};
 
 // Whether all three lists name only Clocks: a word is lent for the answer, 1 or 0.
 pub fn berxundar_calm(
@@ -39,5 +40,5 @@ pub fn berxundar_calm(
         standing,
         counts_in(counts),
     );
-    lay_whether(found, questions::is_calm(&lent))
+    lay(found, questions::is_calm(&lent).map(whether_words))
 }

@@ -5,9 +5,10 @@ ghost use Rattle.questions.specs.Questions.{index_gives, AsksIndex};
 ghost use Rattle.words.specs.Said.{short};
 ghost use Rattle.asking.specs.Asking.{CallAsks};
 
+use crate::answers::index_words;
 use kinds::Id;
 use tables::Lent;
-use words::{counts_in, lay_index};
+use words::{counts_in, lay};
 
 // The index of the component with an id, into a lent word.
 pub fn berxundar_index(
@@ -41,5 +42,5 @@ pub fn berxundar_index(
         standing,
         counts_in(counts),
     );
-    lay_index(found, questions::index_of(&lent, Id(id)))
+    lay(found, questions::index_of(&lent, Id(id)).map(index_words))
 }

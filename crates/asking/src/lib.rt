@@ -3,6 +3,7 @@
 // count words make; a function of many slices stands in a module of its own.
 #![tactic(auto)]
 
+mod answers;
 mod calm;
 mod index_of;
 mod is_net;

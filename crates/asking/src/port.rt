@@ -6,8 +6,9 @@ ghost use Rattle.words.specs.Words.{side_of};
 ghost use Rattle.words.specs.Said.{short};
 ghost use Rattle.asking.specs.Asking.{CallAsks};
 
+use crate::answers::value_words;
 use tables::{FlatIdx, Lent};
-use words::{counts_in, lay_value, side_of};
+use words::{counts_in, lay, side_of};
 
 // The value of a port: its number and its width, into two lent words. Side 0 is the component's inputs, any other its outputs.
 pub fn berxundar_value(
@@ -43,5 +44,5 @@ pub fn berxundar_value(
         standing,
         counts_in(counts),
     );
-    lay_value(found, questions::value_of(&lent, side_of(side), FlatIdx(index), port))
+    lay(found, questions::value_of(&lent, side_of(side), FlatIdx(index), port).map(value_words))
 }

@@ -5,8 +5,9 @@ ghost use Rattle.questions.specs.Questions.{AsksSources};
 ghost use Rattle.words.specs.Said.{short};
 ghost use Rattle.asking.specs.Asking.{CallLists};
 
+use crate::answers::list_words;
 use tables::{FlatIdx, Lent};
-use words::{counts_in, lay_listed};
+use words::{counts_in, lay};
 
 // The sources of the component at an index, into a list of 256; how many they are, into a lent word.
 pub fn berxundar_sources(
@@ -41,5 +42,5 @@ pub fn berxundar_sources(
         standing,
         counts_in(counts),
     );
-    lay_listed(found, questions::sources_of(&lent, FlatIdx(index), list))
+    lay(found, questions::sources_of(&lent, FlatIdx(index), list).map(list_words))
 }

@@ -5,8 +5,9 @@ ghost use Rattle.questions.specs.Questions.{AsksTargets};
 ghost use Rattle.words.specs.Said.{short};
 ghost use Rattle.asking.specs.Asking.{CallLists};
 
+use crate::answers::list_words;
 use tables::{FlatIdx, Lent};
-use words::{counts_in, lay_listed};
+use words::{counts_in, lay};
 
 // The targets of the component at an index, into a list of 256; how many they are, into a lent word.
 pub fn berxundar_targets(
@@ -41,5 +42,5 @@ pub fn berxundar_targets(
         standing,
         counts_in(counts),
     );
-    lay_listed(found, questions::targets_of(&lent, FlatIdx(index), list))
+    lay(found, questions::targets_of(&lent, FlatIdx(index), list).map(list_words))
 }

@@ -30,7 +30,7 @@ use Rattle.std.specs.Prelude.{Result, Ok, Err}
 use Rattle.kinds.specs.declared.answers.Refusal.{Refusal}
 
 -- The count words after a run.
-counts_after_run_lem : (a : Result Ran Refusal) (ws : List ℕ) → counts_in (overlay (drop 3 (values_in (ran_gives a))) ws) ≡ counts_after_run a (counts_in ws)
+counts_after_run_lem : (a : Result (Ran Counts) Refusal) (ws : List ℕ) → counts_in (overlay (drop 3 (values_in (ran_gives a))) ws) ≡ counts_after_run a (counts_in ws)
 unfolding counts_in overlay
 counts_after_run_lem (Ok a) ws = refl
 counts_after_run_lem (Err x) ws = refl
@@ -47,14 +47,14 @@ module _ (P : List ℕ → Tables → Result Counts Refusal → Tables → Type 
       (change_made _ ws lent a m ws' left r h q p n w, λ e. absurd (true≢false (sym e ∙ le-ltb (length ws) 7 h)))
 
 -- Run until calm.
-module _ (P : Tables → Result Ran Refusal → Tables → Type 0) (ws fs : List ℕ) (lent : Counts → Tables) where
+module _ (P : Tables → Result (Ran Counts) Refusal → Tables → Type 0) (ws fs : List ℕ) (lent : Counts → Tables) where
   abbrev few_words : Bool
   few_words = short ws 7 || short fs 3
 
   pub run_short : few_words ≡ true → CallRuns P few_words ws ws fs fs lent lent 131072
   run_short h = few_to_run h refl refl refl refl
 
-  pub run_made : (a : Result Ran Refusal) (m : Counts) (ws' fs' : List ℕ) (left : Counts → Tables) (r : ℕ) → few_words ≡ false → m ≡ counts_in ws
+  pub run_made : (a : Result (Ran Counts) Refusal) (m : Counts) (ws' fs' : List ℕ) (left : Counts → Tables) (r : ℕ) → few_words ≡ false → m ≡ counts_in ws
       → P (lent m) a (left (counts_after_run a m)) → r ≡ spoken (ran_gives a) → ws' ≡ overlay (drop 3 (values_in (ran_gives a))) ws
       → fs' ≡ overlay (take 3 (values_in (ran_gives a))) fs
       → CallRuns P few_words ws ws' fs fs' lent left r

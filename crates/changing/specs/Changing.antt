@@ -33,8 +33,8 @@ abbrev pub CallRoundsOrdered : ℕ → List ℕ → Bool → List ℕ → List �
 CallRoundsOrdered t order few ws ws' bs bs' = CallMoves (λ T a U. RoundsOrdered t order bs T a U bs') few ws ws' bs bs'
 
 -- Run until calm: rounds, evaluations and bits set, the first three values, are laid over fs, the counts over the count words.
-pub data CallRuns (P : Tables → Result Ran Refusal → Tables → Type 0) (few : Bool) (ws ws' fs fs' : List ℕ) (lent left : Counts → Tables) (r : ℕ) : Type 0 where
+pub data CallRuns (P : Tables → Result (Ran Counts) Refusal → Tables → Type 0) (few : Bool) (ws ws' fs fs' : List ℕ) (lent left : Counts → Tables) (r : ℕ) : Type 0 where
   few_to_run : few ≡ true → r ≡ says_short → ws' ≡ ws → fs' ≡ fs → left (counts_in ws) ≡ lent (counts_in ws) → CallRuns P few ws ws' fs fs' lent left r
-  ran : (a : Result Ran Refusal) → few ≡ false → P (lent (counts_in ws)) a (left (counts_in ws')) → r ≡ spoken (ran_gives a)
+  ran : (a : Result (Ran Counts) Refusal) → few ≡ false → P (lent (counts_in ws)) a (left (counts_in ws')) → r ≡ spoken (ran_gives a)
       → ws' ≡ overlay (drop 3 (values_in (ran_gives a))) ws → fs' ≡ overlay (take 3 (values_in (ran_gives a))) fs
       → CallRuns P few ws ws' fs fs' lent left r

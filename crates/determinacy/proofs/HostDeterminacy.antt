@@ -72,7 +72,7 @@ module _ (few : Bool) (ws fs : List ℕ) (lent : Counts → Tables) where
             λ i. (left i).0,
           )
 
-  runs : (P : Tables → Result Ran Refusal → Tables → Type 0) → ((T : Tables) → Determined (P T)) → (r s : ℕ) (a b c d : List ℕ) (f g : Counts → Tables)
+  runs : (P : Tables → Result (Ran Counts) Refusal → Tables → Type 0) → ((T : Tables) → Determined (P T)) → (r s : ℕ) (a b c d : List ℕ) (f g : Counts → Tables)
       → CallRuns P few ws a fs c lent f r → CallRuns P few ws b fs d lent g s
       → (r ≡ s) × (a ≡ b) × (c ≡ d) × (f (counts_in a) ≡ g (counts_in b))
   runs P det r s a b c d f g (few_to_run e n w u l) (few_to_run e' n' w' u' l') =
@@ -81,9 +81,9 @@ module _ (few : Bool) (ws fs : List ℕ) (lent : Counts → Tables) where
   runs P det r s a b c d f g (ran x e p n w u) (few_to_run e' n' w' u' l') = neither few e' e
   runs P det r s a b c d f g (ran x e p n w u) (ran y e' p' n' w' u') =
       let q = det (lent (counts_in ws)) x y (f (counts_in a)) (g (counts_in b)) p p' in (
-        n ∙ ap (λ (z : Result Ran Refusal). spoken (ran_gives z)) q.0 ∙ sym n',
-        w ∙ ap (λ (z : Result Ran Refusal). overlay (drop 3 (values_in (ran_gives z))) ws) q.0 ∙ sym w',
-        u ∙ ap (λ (z : Result Ran Refusal). overlay (take 3 (values_in (ran_gives z))) fs) q.0 ∙ sym u',
+        n ∙ ap (λ (z : Result (Ran Counts) Refusal). spoken (ran_gives z)) q.0 ∙ sym n',
+        w ∙ ap (λ (z : Result (Ran Counts) Refusal). overlay (drop 3 (values_in (ran_gives z))) ws) q.0 ∙ sym w',
+        u ∙ ap (λ (z : Result (Ran Counts) Refusal). overlay (take 3 (values_in (ran_gives z))) fs) q.0 ∙ sym u',
         q.1,
       )
 

@@ -11,7 +11,7 @@ use Rattle.kinds.specs.Given.{spoken}
 use Rattle.flatten.specs.Verdict.{verdict_gives}
 use Rattle.words.specs.Words.{values_in}
 use Rattle.slow.specs.declared.SlowCounts.{SlowCounts}
-use Rattle.slow.specs.declared.SlowRan.{SlowRan}
+use Rattle.simulator.specs.declared.Ran.{Ran}
 use Rattle.slow.specs.Slow.{SlowTables, slow_words, slow_gives, slow_ran_gives, slow_load_verdict, slow_round_verdict, slow_edit_verdict, slow_run_verdict, slow_run, SlowRounds}
 use Rattle.slow.proofs.AnswersLaws.{slow_gives-is, slow_ran_gives-is}
 use Rattle.slowly.specs.Slowly.{slow_counts_in, few_slow, CallSlow, few_slow_counts, slow_changed, CallSlowRuns, few_to_run_slowly, ran_slowly}
@@ -79,7 +79,7 @@ module _ (few : Bool) (ws fs : List ℕ) (lent : SlowCounts → SlowTables) wher
         λ i. (left i).0,
       )
 
-  runs : (P : SlowTables → Result SlowRan Refusal → SlowTables → Type 0) → ((S : SlowTables) → Determined (P S)) → (r s : ℕ) (a b c d : List ℕ)
+  runs : (P : SlowTables → Result (Ran SlowCounts) Refusal → SlowTables → Type 0) → ((S : SlowTables) → Determined (P S)) → (r s : ℕ) (a b c d : List ℕ)
       (f g : SlowCounts → SlowTables) → CallSlowRuns P few ws a fs c lent f r → CallSlowRuns P few ws b fs d lent g s
       → (r ≡ s) × (a ≡ b) × (c ≡ d) × (f (slow_counts_in a) ≡ g (slow_counts_in b))
   runs P det r s a b c d f g (few_to_run_slowly e n w u l) (few_to_run_slowly e' n' w' u' l') =
@@ -88,9 +88,9 @@ module _ (few : Bool) (ws fs : List ℕ) (lent : SlowCounts → SlowTables) wher
   runs P det r s a b c d f g (ran_slowly x e p n w u) (few_to_run_slowly e' n' w' u' l') = neither few e' e
   runs P det r s a b c d f g (ran_slowly x e p n w u) (ran_slowly y e' p' n' w' u') =
       let q = det (lent (slow_counts_in ws)) x y (f (slow_counts_in a)) (g (slow_counts_in b)) p p' in (
-        n ∙ ap (λ (z : Result SlowRan Refusal). spoken (slow_ran_gives z)) q.0 ∙ sym n',
-        w ∙ ap (λ (z : Result SlowRan Refusal). overlay (drop 3 (values_in (slow_ran_gives z))) ws) q.0 ∙ sym w',
-        u ∙ ap (λ (z : Result SlowRan Refusal). overlay (take 3 (values_in (slow_ran_gives z))) fs) q.0 ∙ sym u',
+        n ∙ ap (λ (z : Result (Ran SlowCounts) Refusal). spoken (slow_ran_gives z)) q.0 ∙ sym n',
+        w ∙ ap (λ (z : Result (Ran SlowCounts) Refusal). overlay (drop 3 (values_in (slow_ran_gives z))) ws) q.0 ∙ sym w',
+        u ∙ ap (λ (z : Result (Ran SlowCounts) Refusal). overlay (take 3 (values_in (slow_ran_gives z))) fs) q.0 ∙ sym u',
         q.1,
       )
 

@@ -1,8 +1,16 @@
 // Evaluating one component, called from C.
+ghost use Rattle.std.specs.Prelude.{◌≡◌, [], ◌∷◌};
 ghost use Rattle.host.specs.Host.{fields_from, CallEvaluates};
 
 use kinds::Fields;
-use words::lay_evaluated;
+use words::lay;
+
+// The word of an evaluation: which outputs changed.
+fn moved_words(moved: u64) -> [u64; 1]
+    ensures { result ≡ moved ∷ [] }
+{
+    [moved]
+}
 
 // Evaluates a component of these fields: its inputs' numbers and their widths, its outputs' numbers, which are written, and their
 // widths, and the time. A word is lent for which of its outputs changed.
@@ -33,5 +41,5 @@ pub fn berxundar_evaluate(
         parameter,
     };
     let answer = primitive::evaluate(f, inputs, entering, outputs, leaving, time);
-    lay_evaluated(found, answer)
+    lay(found, answer.map(moved_words))
 }

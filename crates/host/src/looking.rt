@@ -1,32 +1,20 @@
 // A look, called from C.
-ghost use Rattle.std.specs.Prelude.{◌≡◌, ◌&&◌, ◌||◌, ◌<◌, ◌≤◌, length};
-ghost use Rattle.lists.specs.Lists.{overlay};
-ghost use Rattle.kinds.specs.Given.{spoken};
+ghost use Rattle.std.specs.Prelude.{◌≡◌, [], ◌∷◌, ◌&&◌, ◌||◌};
 ghost use Rattle.component.specs.Record.{sized};
 ghost use Rattle.tables.specs.Tables.{tables_of};
-ghost use Rattle.look.specs.Look.{look_gives, Looks};
-ghost use Rattle.words.specs.Words.{values_in};
+ghost use Rattle.look.specs.Look.{Looks};
 ghost use Rattle.words.specs.Said.{short};
 ghost use Rattle.host.specs.Host.{CallLooks};
 
-use kinds::Refusal;
 use look::Looked;
 use tables::Lent;
-use words::counts_in;
+use words::{counts_in, lay};
 
-// The words of an answer: how many inputs and how many outputs are shown. A refusal lays nothing.
-fn lay_looked(found: &mut [u64], answer: Result<Looked, Refusal>) -> u32
-    requires { (2 ≤ length found.old) × (spoken (look_gives answer) < 4294967296) }
-    ensures { (result ≡ spoken (look_gives answer)) × (found.new ≡ overlay (values_in (look_gives answer)) found.old) }
+// The words of a look: how many inputs and how many outputs are shown.
+fn looked_words(looked: Looked) -> [u64; 2]
+    ensures { result ≡ looked.inputs ∷ looked.outputs ∷ [] }
 {
-    match answer {
-        Ok(Looked { inputs, outputs }) => {
-            found[0] = inputs as u64;
-            found[1] = outputs as u64;
-            0
-        }
-        Err(refusal) => 65536 * refusal.number + refusal.position,
-    }
+    [looked.inputs as u64, looked.outputs as u64]
 }
 
 // Looks at the component that a path of ids names, from the root's children down: numbers and widths of its ports, into two lists of 256,
@@ -68,5 +56,5 @@ pub fn berxundar_look(
         standing,
         counts_in(counts),
     );
-    lay_looked(found, look::look(file, &lent, path, numbers, widths))
+    lay(found, look::look(file, &lent, path, numbers, widths).map(looked_words))
 }

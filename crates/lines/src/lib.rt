@@ -101,7 +101,7 @@ pub fn put_round(out: &mut [u8], at: usize, round: u64, current: &[u16], count: 
     let named = text::put_bytes(out, at, b"round ");
     let numbered = text::put_number(out, named, round);
     let next = text::put_bytes(out, numbered, b" next");
-    let listed = text::put_shorts(out, next, &current[..count]);
+    let listed = text::put_numbers(out, next, &current[..count]);
     text::put(out, listed, b'\n')
 }
 

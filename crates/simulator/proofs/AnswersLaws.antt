@@ -5,6 +5,7 @@ use mathlib.Core.List.{List, ◌∷◌}
 use Prim.Native.Nat.{ℕ}
 use lib.ListN.{get_or, drop}
 use Rattle.kinds.proofs.GivenLaws.{done_values, done_declined, declined_refusal}
+use Rattle.tables.specs.declared.Counts.{Counts}
 use Rattle.tables.specs.Tables.{count_words}
 use Rattle.tables.proofs.AnswerLaws.{count_words-is}
 use Rattle.simulator.specs.declared.Ran.{Ran}
@@ -16,7 +17,7 @@ use Rattle.kinds.specs.declared.answers.Refusal.{Refusal}
 same_at : (k : ℕ) (xs ys : List ℕ) → xs ≡ ys → get_or xs k 0 ≡ get_or ys k 0
 same_at k xs ys e = ap (λ (zs : List ℕ). get_or zs k 0) e
 
-pub ran_gives-is : (a b : Result Ran Refusal) → ran_gives a ≡ ran_gives b → a ≡ b
+pub ran_gives-is : (a b : Result (Ran Counts) Refusal) → ran_gives a ≡ ran_gives b → a ≡ b
 ran_gives-is (Ok a) (Ok b) e =
     let xs = a.rounds ∷ a.evaluations ∷ a.moved ∷ count_words a.counts in
     let ys = b.rounds ∷ b.evaluations ∷ b.moved ∷ count_words b.counts in

@@ -71,7 +71,7 @@ fn net_run(
     counts: Counts,
     time: u64,
     limit: u16,
-) -> Ran
+) -> Ran<Counts>
     requires { net_number (tables_of components.now inputs.old outputs.old wires.now current.old following.old standing.old counts) ≡ 0 }
     ensures { record {
       tables = tables_of components.now inputs.new outputs.new wires.now
@@ -131,7 +131,7 @@ pub fn run_until_calm(
     counts: Counts,
     time: u64,
     limit: u16,
-) -> Result<Ran, Refusal>
+) -> Result<Ran<Counts>, Refusal>
     ensures { let before = tables_of components.now inputs.old outputs.old wires.now
         current.old following.old standing.old counts in
         let after = tables_of components.now inputs.new outputs.new wires.now

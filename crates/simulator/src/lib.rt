@@ -15,12 +15,11 @@ pub use first::edit;
 pub use moved::count_moved;
 pub use ordered::round_ordered;
 pub use standing::edit_standing;
-use tables::Counts;
 
-// What a run comes to: the new counts, the rounds run, the evaluations made and how many times an output changed.
+// What a run comes to: the new counts, of the tables or of the slow engine's, the rounds run, the evaluations made and how many times an output changed.
 #[derive(Clone, Copy)]
-pub struct Ran {
-    pub counts: Counts,
+pub struct Ran<C> {
+    pub counts: C,
     pub rounds: u16,
     pub evaluations: u32,
     pub moved: u32,

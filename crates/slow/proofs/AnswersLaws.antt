@@ -6,7 +6,7 @@ use Prim.Native.Nat.{ℕ}
 use lib.ListN.{get_or, drop}
 use Rattle.kinds.proofs.GivenLaws.{done_values, done_declined, declined_refusal}
 use Rattle.slow.specs.declared.SlowCounts.{SlowCounts}
-use Rattle.slow.specs.declared.SlowRan.{SlowRan}
+use Rattle.simulator.specs.declared.Ran.{Ran}
 use Rattle.slow.specs.Slow.{slow_words, slow_gives, slow_ran_gives}
 use Rattle.std.specs.Prelude.{Result, Ok, Err}
 use Rattle.kinds.specs.declared.answers.Refusal.{Refusal}
@@ -29,7 +29,7 @@ slow_gives-is (Err r) (Err s) e = ap Err (declined_refusal r s e)
 same_at : (k : ℕ) (xs ys : List ℕ) → xs ≡ ys → get_or xs k 0 ≡ get_or ys k 0
 same_at k xs ys e = ap (λ (zs : List ℕ). get_or zs k 0) e
 
-pub slow_ran_gives-is : (a b : Result SlowRan Refusal) → slow_ran_gives a ≡ slow_ran_gives b → a ≡ b
+pub slow_ran_gives-is : (a b : Result (Ran SlowCounts) Refusal) → slow_ran_gives a ≡ slow_ran_gives b → a ≡ b
 slow_ran_gives-is (Ok a) (Ok b) e =
     let xs = a.rounds ∷ a.evaluations ∷ a.moved ∷ slow_words a.counts in
     let ys = b.rounds ∷ b.evaluations ∷ b.moved ∷ slow_words b.counts in

@@ -24,7 +24,7 @@ use Rattle.rounds.specs.Round.{state_of, leave, moved_by, round}
 use Rattle.simulator.specs.Edit.{Way, edited_state}
 use Rattle.simulator.specs.Calls.{edit_checks, Run, run_by}
 use Rattle.slow.specs.declared.SlowCounts.{SlowCounts}
-use Rattle.slow.specs.declared.SlowRan.{SlowRan}
+use Rattle.simulator.specs.declared.Ran.{Ran}
 use Rattle.std.specs.Prelude.{Result, Ok, Err}
 use Rattle.kinds.specs.declared.answers.Refusal.{Refusal}
 
@@ -173,7 +173,7 @@ abbrev pub slow_gives : Result SlowCounts Refusal → Given
 slow_gives (Ok m) = done (slow_words m)
 slow_gives (Err r) = declined r
 
-abbrev pub slow_ran_gives : Result SlowRan Refusal → Given
+abbrev pub slow_ran_gives : Result (Ran SlowCounts) Refusal → Given
 slow_ran_gives (Ok a) = done (a.rounds ∷ a.evaluations ∷ a.moved ∷ slow_words a.counts)
 slow_ran_gives (Err r) = declined r
 
@@ -182,7 +182,7 @@ abbrev pub slow_counts_after : Result SlowCounts Refusal → SlowCounts → Slow
 slow_counts_after (Ok m) old = m
 slow_counts_after (Err r) old = old
 
-abbrev pub slow_counts_after_run : Result SlowRan Refusal → SlowCounts → SlowCounts
+abbrev pub slow_counts_after_run : Result (Ran SlowCounts) Refusal → SlowCounts → SlowCounts
 slow_counts_after_run (Ok a) old = a.counts
 slow_counts_after_run (Err r) old = old
 
@@ -200,7 +200,7 @@ abbrev pub SlowEdits : List ℕ → Way → ℕ → ℕ → SlowTables → Resul
 SlowEdits file way i v before r left =
     (slow_gives r ≡ verdict_gives (slow_edit_verdict file before i v) (slow_words left.counts)) × (left ≡ slow_edit_tables file before way i v)
 
-abbrev pub SlowRuns : List ℕ → ℕ → ℕ → SlowTables → Result SlowRan Refusal → SlowTables → Type 0
+abbrev pub SlowRuns : List ℕ → ℕ → ℕ → SlowTables → Result (Ran SlowCounts) Refusal → SlowTables → Type 0
 SlowRuns file t limit before r left =
     let made = slow_run file before t limit in
     (slow_ran_gives r

@@ -23,12 +23,3 @@ pub struct SlowCounts {
     pub following: usize,
     pub standing: usize,
 }
-
-// What a run comes to: the new counts, the rounds run, the evaluations made and how many times an output changed.
-#[derive(Clone, Copy)]
-pub struct SlowRan {
-    pub counts: SlowCounts,
-    pub rounds: u16,
-    pub evaluations: u32,
-    pub moved: u32,
-}

@@ -6,9 +6,9 @@ ghost use Rattle.simulator.specs.Calls.{run_by};
 ghost use Rattle.slow.specs.Slow.{slow_tables_of, slow_round_of, slow_bits, slow_counts_after, slow_counts_after_run, SlowRounds, SlowRuns, slow_counts_of};
 ghost use Rattle.slow.specs.Sending.{IsPrepared};
 
+use crate::SlowCounts;
 use crate::preparing::{are_full, counts_for, prepare};
 use crate::visiting::drawn_round;
-use crate::{SlowCounts, SlowRan};
 use kinds::Refusal;
 use rounds::net_calm;
 use simulator::{Ran, count_moved};
@@ -96,7 +96,7 @@ fn drawn_run(
     counts: Counts,
     time: u64,
     limit: u16,
-) -> Ran
+) -> Ran<Counts>
     requires { IsPrepared file.now index.now indexes.now components.now counts.components (slow_tables_of inputs.old outputs.old
         current.old following.old standing.old (slow_counts_of counts)) × (counts.wires ≡ 0) }
     ensures { record {
@@ -147,7 +147,7 @@ pub fn run_until_calm(
     counts: SlowCounts,
     time: u64,
     limit: u16,
-) -> Result<SlowRan, Refusal>
+) -> Result<Ran<SlowCounts>, Refusal>
     ensures { let before = slow_tables_of inputs.old outputs.old current.old following.old
         standing.old counts in
         let after = slow_tables_of inputs.new outputs.new current.new following.new
@@ -185,7 +185,7 @@ pub fn run_until_calm(
         time,
         limit,
     );
-    Ok(SlowRan {
+    Ok(Ran {
         counts: slow_counts(made.counts),
         rounds: made.rounds,
         evaluations: made.evaluations,

@@ -8,7 +8,7 @@ use mathlib.Core.List.{List, [], ◌∷◌}
 use mathlib.Core.Option.{Option, none, some}
 use native.Mathlib.Omega.{arith}
 use borrow.Author.Tests.{ltb-false}
-use lib.ListN.{length, set, take, drop}
+use lib.ListN.{length, take, drop}
 use lib.Dec.{eqb, leb}
 use Rattle.lists.specs.Lists.{overlay, refusal, ◌if◌}
 use Rattle.lists.proofs.TestsLaws.{and_right_false, or_left, or_right}
@@ -26,22 +26,11 @@ use Rattle.words.specs.Words.{values_in}
 use Rattle.words.specs.Said.{short}
 use Rattle.words.proofs.PlainLaws.{refusal_small}
 use Rattle.slow.specs.declared.SlowCounts.{SlowCounts}
-use Rattle.slow.specs.declared.SlowRan.{SlowRan}
-use Rattle.slow.specs.Slow.{SlowTables, slow_full, drawn, led_into, slow_right, slow_number, slow_edit_number, slow_verdict, slow_load_verdict, slow_round_verdict, slow_edit_verdict, slow_run_verdict, slow_words, slow_gives, slow_ran_gives, slow_counts_after, slow_counts_after_run, SlowRounds}
+use Rattle.simulator.specs.declared.Ran.{Ran}
+use Rattle.slow.specs.Slow.{SlowTables, slow_full, drawn, led_into, slow_right, slow_number, slow_edit_number, slow_verdict, slow_load_verdict, slow_round_verdict, slow_edit_verdict, slow_run_verdict, slow_gives, slow_ran_gives, slow_counts_after, slow_counts_after_run, SlowRounds}
 use Rattle.slowly.specs.Slowly.{slow_counts_in, few_slow, CallSlow, few_slow_counts, slow_changed, CallSlowRounds, CallSlowRuns, few_to_run_slowly, ran_slowly}
 use Rattle.std.specs.Prelude.{Result, Ok, Err}
 use Rattle.kinds.specs.declared.answers.Refusal.{Refusal}
-
--- Five stores are the words of the counts at the front.
-pub counts_laid : (ws : List ℕ) (m : SlowCounts) → 5 ≤ length ws
-    → set (set (set (set (set ws 0 m.inputs) 1 m.outputs) 2 m.current) 3 m.following) 4 m.standing ≡ overlay (slow_words m) ws
-unfolding overlay
-counts_laid (a ∷ b ∷ c ∷ d ∷ e ∷ ws) m h = refl
-counts_laid [] m h = absurd (omega arith)
-counts_laid (a ∷ []) m h = absurd (omega arith)
-counts_laid (a ∷ b ∷ []) m h = absurd (omega arith)
-counts_laid (a ∷ b ∷ c ∷ []) m h = absurd (omega arith)
-counts_laid (a ∷ b ∷ c ∷ d ∷ []) m h = absurd (omega arith)
 
 -- The count words after a call.
 counts_after_lem : (a : Result SlowCounts Refusal) (ws : List ℕ) → slow_counts_in (overlay (values_in (slow_gives a)) ws) ≡ slow_counts_after a (slow_counts_in ws)
@@ -49,7 +38,7 @@ unfolding slow_counts_in overlay
 counts_after_lem (Ok m) ws = refl
 counts_after_lem (Err x) ws = refl
 
-counts_after_run_lem : (a : Result SlowRan Refusal) (ws : List ℕ) → slow_counts_in (overlay (drop 3 (values_in (slow_ran_gives a))) ws) ≡ slow_counts_after_run a (slow_counts_in ws)
+counts_after_run_lem : (a : Result (Ran SlowCounts) Refusal) (ws : List ℕ) → slow_counts_in (overlay (drop 3 (values_in (slow_ran_gives a))) ws) ≡ slow_counts_after_run a (slow_counts_in ws)
 unfolding slow_counts_in overlay
 counts_after_run_lem (Ok a) ws = refl
 counts_after_run_lem (Err x) ws = refl
@@ -79,11 +68,11 @@ module _ (file : List ℕ) (t : ℕ) (ws bs : List ℕ) (lent : SlowCounts → S
       (call_made _ (few_slow file ws) ws lent a m ws' left r h q p n w, λ e. absurd (true≢false (sym e ∙ h)))
 
 -- Run until calm.
-module _ (P : SlowTables → Result SlowRan Refusal → SlowTables → Type 0) (few : Bool) (ws fs : List ℕ) (lent : SlowCounts → SlowTables) where
+module _ (P : SlowTables → Result (Ran SlowCounts) Refusal → SlowTables → Type 0) (few : Bool) (ws fs : List ℕ) (lent : SlowCounts → SlowTables) where
   pub run_short : few ≡ true → CallSlowRuns P few ws ws fs fs lent lent 131072
   run_short h = few_to_run_slowly h refl refl refl refl
 
-  pub run_made : (a : Result SlowRan Refusal) (m : SlowCounts) (ws' fs' : List ℕ) (left : SlowCounts → SlowTables) (r : ℕ) → few ≡ false → m ≡ slow_counts_in ws
+  pub run_made : (a : Result (Ran SlowCounts) Refusal) (m : SlowCounts) (ws' fs' : List ℕ) (left : SlowCounts → SlowTables) (r : ℕ) → few ≡ false → m ≡ slow_counts_in ws
       → P (lent m) a (left (slow_counts_after_run a m)) → r ≡ spoken (slow_ran_gives a) → ws' ≡ overlay (drop 3 (values_in (slow_ran_gives a))) ws
       → fs' ≡ overlay (take 3 (values_in (slow_ran_gives a))) fs → CallSlowRuns P few ws ws' fs fs' lent left r
   run_made a m ws' fs' left r h q p n w f =

@@ -13,7 +13,7 @@ use Rattle.component.specs.Record.{sized}
 use Rattle.words.specs.Words.{values_in}
 use Rattle.words.specs.Said.{short, says_short}
 use Rattle.slow.specs.declared.SlowCounts.{SlowCounts}
-use Rattle.slow.specs.declared.SlowRan.{SlowRan}
+use Rattle.simulator.specs.declared.Ran.{Ran}
 use Rattle.slow.specs.Slow.{SlowTables, slow_gives, slow_ran_gives, SlowRounds}
 use Rattle.std.specs.Prelude.{Result}
 use Rattle.kinds.specs.declared.answers.Refusal.{Refusal}
@@ -40,10 +40,10 @@ CallSlowRounds file t ws ws' bs bs' lent left r =
     CallSlow (λ S a U. SlowRounds file t bs S a U bs') (few_slow file ws) ws ws' lent left r × (few_slow file ws ≡ true → bs' ≡ bs)
 
 -- Run until calm: rounds, evaluations and bits set, the first three values, are laid over fs, the counts over the count words.
-pub data CallSlowRuns (P : SlowTables → Result SlowRan Refusal → SlowTables → Type 0) (few : Bool) (ws ws' fs fs' : List ℕ) (lent left : SlowCounts → SlowTables) (r : ℕ) :
+pub data CallSlowRuns (P : SlowTables → Result (Ran SlowCounts) Refusal → SlowTables → Type 0) (few : Bool) (ws ws' fs fs' : List ℕ) (lent left : SlowCounts → SlowTables) (r : ℕ) :
     Type 0 where
   few_to_run_slowly : few ≡ true → r ≡ says_short → ws' ≡ ws → fs' ≡ fs → left (slow_counts_in ws) ≡ lent (slow_counts_in ws)
       → CallSlowRuns P few ws ws' fs fs' lent left r
-  ran_slowly : (a : Result SlowRan Refusal) → few ≡ false → P (lent (slow_counts_in ws)) a (left (slow_counts_in ws')) → r ≡ spoken (slow_ran_gives a)
+  ran_slowly : (a : Result (Ran SlowCounts) Refusal) → few ≡ false → P (lent (slow_counts_in ws)) a (left (slow_counts_in ws')) → r ≡ spoken (slow_ran_gives a)
       → ws' ≡ overlay (drop 3 (values_in (slow_ran_gives a))) ws → fs' ≡ overlay (take 3 (values_in (slow_ran_gives a))) fs
       → CallSlowRuns P few ws ws' fs fs' lent left r

@@ -5,9 +5,10 @@ use mathlib.Core.List.{List, [], ◌∷◌, ◌++◌}
 use Prim.Native.Nat.{ℕ, suc, ◌+◌, ◌≤◌, ◌<◌, min}
 use native.Mathlib.Decide.{dec_lt}
 use native.Mathlib.Omega.{arith}
-use lib.ListN.{length, get_or, set, drop, length-append}
-use lib.Seq.{length-sets, set_out, drop-cons, drop-length}
-use Rattle.text.specs.Text.{written, place_after, numeral, spaced, Puts}
+use lib.ListN.{length, get_or, set, take, drop, length-append}
+use lib.Seq.{length-sets, set_out, drop-cons, drop-length, take-suc}
+use Rattle.std.proofs.lemmas.List.{append-nil, append_assoc}
+use Rattle.text.specs.Text.{written, place_after, numeral, spaced, Converted, Puts}
 
 -- A place at or past the end: the next place is the end, and a byte there is left out.
 pub min_past : (a k : ℕ) → k ≤ a → k ≡ min (a + 1) k
@@ -98,22 +99,46 @@ byte_first bs i h =
 pub none_left : (bs : List ℕ) (i : ℕ) → i ≤ length bs → length bs ≤ i → drop i bs ≡ []
 none_left bs i a b = let e : i ≡ length bs = omega arith in ap (λ (k : ℕ). drop k bs) e ∙ drop-length bs
 
--- The loops over numbers, of any width: a blank and a numeral are put, and at the end there is no number left.
-pub put_next : (t out new ns : List ℕ) (at i n next after : ℕ) → i < length ns → n ≡ get_or ns i 0
-    → ToCome t at (spaced ns) out next (spaced (drop i ns))
-    → after ≡ place_after out next (length (32 ∷ numeral n)) → new ≡ written out next (32 ∷ numeral n)
-    → ToCome t at (spaced ns) new after (spaced (drop (i + 1) ns))
-put_next t out new ns at i n next after h e so_far place buffer =
-    let first : spaced (drop i ns) ≡ (32 ∷ numeral n) ++ spaced (drop (i + 1) ns) =
-    ap spaced (byte_first ns i h) ∙ ap (λ (m : ℕ). (32 ∷ numeral m) ++ spaced (drop (i + 1) ns)) (sym e) in
-    put_piece t (spaced ns) out new (32 ∷ numeral n) (spaced (drop (i + 1) ns)) at next after
-    (subst (ToCome t at (spaced ns) out next) first so_far) place buffer
+-- The loop over values that go into numbers: one number more is put, and it is the next value's.
+spaced_more : (ns : List ℕ) (n : ℕ) → spaced (ns ++ (n ∷ [])) ≡ spaced ns ++ (32 ∷ numeral n)
+spaced_more [] n = ap (λ (bs : List ℕ). 32 ∷ bs) (append-nil (numeral n))
+spaced_more (m ∷ ns) n =
+    ap (λ (bs : List ℕ). 32 ∷ (numeral m ++ bs)) (spaced_more ns n)
+    ∙ ap (λ (bs : List ℕ). 32 ∷ bs) (sym (append_assoc (numeral m) (spaced ns) (32 ∷ numeral n)))
 
-pub ended_spaced : (t out ns : List ℕ) (at i next : ℕ) → i ≤ length ns → length ns ≤ i
-    → ToCome t at (spaced ns) out next (spaced (drop i ns))
-    → (next ≡ place_after t at (length (spaced ns))) × (out ≡ written t at (spaced ns))
-ended_spaced t out ns at i next a b h =
-    ended t (spaced ns) out (spaced (drop i ns)) at next h (ap spaced (none_left ns i a b))
+module _ {T : Type 0} (gives : T → ℕ → Type 0) where
+  converted_more : (xs : List T) (ns : List ℕ) (x : T) (n : ℕ) → Converted gives xs ns → gives x n
+      → Converted gives (xs ++ (x ∷ [])) (ns ++ (n ∷ []))
+  converted_more [] [] x n h e = (e, tt)
+  converted_more (y ∷ xs) (m ∷ ns) x n h e = (h.0, converted_more xs ns x n h.1 e)
+  converted_more [] (m ∷ ns) x n h e = absurd h
+  converted_more (y ∷ xs) [] x n h e = absurd h
+
+  pub put_one_more : (t out new : List ℕ) (xs : List T) (at i : ℕ) (x : T) (n next after : ℕ) → i < length xs → x ≡ get_or xs i x → gives x n
+      → ((ns : List ℕ) × Converted gives (take i xs) ns × Puts t at (spaced ns) out next)
+      → after ≡ place_after out next (length (32 ∷ numeral n)) → new ≡ written out next (32 ∷ numeral n)
+      → (ns : List ℕ) × Converted gives (take (i + 1) xs) ns × Puts t at (spaced ns) new after
+  put_one_more t out new xs at i x n next after h e turns so_far place buffer =
+      let ns = so_far.0 in
+      let turn : suc i ≡ i + 1 = omega arith in
+      let more : take i xs ++ (x ∷ []) ≡ take (i + 1) xs =
+      ap (λ (y : T). take i xs ++ (y ∷ [])) e ∙ sym (take-suc xs i x h) ∙ ap (λ (k : ℕ). take k xs) turn in
+      let both = put_both t out new (spaced ns) (32 ∷ numeral n) at next after so_far.2.place so_far.2.buffer place buffer in (
+        ns ++ (n ∷ []),
+        subst (λ (ys : List T). Converted gives ys (ns ++ (n ∷ []))) more (converted_more (take i xs) ns x n so_far.1 turns),
+        subst (λ (bs : List ℕ). Puts t at bs new after) (sym (spaced_more ns n)) (record { place = both.0; buffer = both.1 }),
+      )
+
+-- Where each value gives itself, as numbers of 64 and of 16 bits do, what is put is the numbers themselves.
+pub put_themselves : {t u : List ℕ} {at m : ℕ} (xs : List ℕ)
+    → ((ns : List ℕ) × Converted (λ (x n : ℕ). n ≡ x) xs ns × Puts t at (spaced ns) u m) → Puts t at (spaced xs) u m
+put_themselves {t} {u} {at} {m} xs h = subst (λ (ns : List ℕ). Puts t at (spaced ns) u m) (themselves xs h.0 h.1) h.2
+  where
+    themselves : (xs ns : List ℕ) → Converted (λ (x n : ℕ). n ≡ x) xs ns → ns ≡ xs
+    themselves [] [] h = refl
+    themselves (x ∷ xs) (n ∷ ns) h = ap (λ (k : ℕ). k ∷ ns) h.0 ∙ ap (λ (ks : List ℕ). x ∷ ks) (themselves xs ns h.1)
+    themselves [] (n ∷ ns) h = absurd h
+    themselves (x ∷ xs) [] h = absurd h
 
 -- What a function of this crate leaves, as the promise of a part.
 pub put : (bs : List ℕ) {t u : List ℕ} {at m : ℕ} → (m ≡ place_after t at (length bs)) × (u ≡ written t at bs) → Puts t at bs u m

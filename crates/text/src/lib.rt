@@ -1,8 +1,8 @@
 // Lines of text in a lent buffer, for the programs. A line that has no room is cut; each program lends room for its longest line.
 #![tactic(auto)]
 
-ghost use Rattle.std.specs.Prelude.{◌≡◌, [], ◌∷◌, min, length};
-ghost use Rattle.text.specs.Text.{written, place_after, numeral, spaced};
+ghost use Rattle.std.specs.Prelude.{◌≡◌, ℕ, List, [], ◌∷◌, min, length};
+ghost use Rattle.text.specs.Text.{written, place_after, numeral, spaced, Puts, Converted};
 
 // The descriptor of standard output.
 const STDOUT: i32 = 1;
@@ -57,33 +57,13 @@ fn put_spaced(out: &mut [u8], at: usize, number: u64) -> usize
     put_number(out, next, number)
 }
 
-// Puts numbers, each after a blank.
-pub fn put_numbers(out: &mut [u8], at: usize, numbers: &[u64]) -> usize
-    ensures value { result ≡ place_after out.old at (length (spaced numbers.now)) }
-    ensures out_after { out.new ≡ written out.old at (spaced numbers.now) }
+// Puts numbers, of any type whose values go into 64 bits, each after a blank.
+pub fn put_numbers<T: Copy + Into<u64>>(out: &mut [u8], at: usize, numbers: &[T]) -> usize
+    ensures { (ns : List ℕ) × Converted T.converts numbers.now ns × Puts out.old at (spaced ns) out.new result }
 {
     let mut next = within(out, at);
     for number in numbers {
-        next = put_spaced(out, next, *number);
-    }
-    next
-}
-
-// A number of 16 bits, as one of 64.
-fn wide(short: u16) -> u64
-    ensures { result ≡ short }
-{
-    short as u64
-}
-
-// The same of numbers of 16 bits.
-pub fn put_shorts(out: &mut [u8], at: usize, numbers: &[u16]) -> usize
-    ensures value { result ≡ place_after out.old at (length (spaced numbers.now)) }
-    ensures out_after { out.new ≡ written out.old at (spaced numbers.now) }
-{
-    let mut next = within(out, at);
-    for number in numbers {
-        next = put_spaced(out, next, wide(*number));
+        next = put_spaced(out, next, (*number).into());
     }
     next
 }

@@ -1,3 +1,4 @@
 pub mod WordsLaws
 pub mod PlainLaws
 pub mod SaidLaws
+pub mod LaidLaws

@@ -1,18 +1,17 @@
 // Answers in lent words.
-ghost use Rattle.std.specs.Prelude.{◌≡◌, ◌*◌, ◌<◌, ◌≤◌, length, take, drop};
+ghost use Rattle.std.specs.Prelude.{◌≡◌, ℕ, ◌*◌, ◌<◌, ◌≤◌, List, [], ◌∷◌, length, take, drop};
 ghost use Rattle.lists.specs.Lists.{overlay};
-ghost use Rattle.value.specs.Value.{level};
-ghost use Rattle.primitive.specs.Evaluate.{evaluated_gives};
+ghost use Rattle.kinds.specs.Given.{spoken};
+ghost use Rattle.tables.specs.Tables.{count_words};
+ghost use Rattle.simulator.specs.declared.Ran.{Ran};
 ghost use Rattle.simulator.specs.Calls.{ran_gives};
-ghost use Rattle.questions.specs.Questions.{whether_gives, index_gives, value_gives, list_gives};
-ghost use Rattle.words.specs.Words.{values_in, side_of};
+ghost use Rattle.words.specs.Words.{words_give, run_words_give, values_in, side_of};
 
-use crate::counts::lay;
+use crate::counts::counts_words;
 use kinds::Refusal;
 use questions::Side;
 use simulator::Ran;
-use tables::FlatIdx;
-use value::Value;
+use tables::Counts;
 
 // A number, as a call says it. Crate asking calls it for a number of the engine's, which are below 65,536.
 pub fn speak(number: u32) -> u32
@@ -33,100 +32,65 @@ pub fn side_of(number: u32) -> Side
     }
 }
 
-// 1 or 0.
-fn level_of(high: bool) -> u64
-    ensures { result ≡ level high }
+// Lays words at the front of lent ones, which keep what they held past them. One by one: the library's `copy_from_slice` calls `memmove`, and the
+// archive may take only `memcpy` and `memset` from outside.
+fn lay_words<const N: usize>(lent: &mut [u64], words: [u64; N])
+    requires { N ≤ length lent.old }
+    ensures { lent.new ≡ overlay words.entry lent.old }
 {
-    if high { 1 } else { 0 }
-}
-
-// The word of an answer whether something is so: 1 or 0. A refusal lays nothing. Crate asking calls it where the lent words have room, as it
-// does the functions of the other questions.
-pub fn lay_whether(found: &mut [u64], answer: Result<bool, Refusal>) -> u32
-    requires { (1 ≤ length found.old) × ((whether_gives answer).number < 65536) }
-    ensures { (result ≡ 65536 * (whether_gives answer).number) × (found.new ≡ overlay (values_in (whether_gives answer)) found.old) }
-{
-    match answer {
-        Ok(so) => {
-            found[0] = level_of(so);
-            0
-        }
-        Err(refusal) => 65536 * refusal.number,
+    for (at, word) in words.iter().enumerate() {
+        lent[at] = *word;
     }
 }
 
-// The word of an index. Crate asking calls it likewise.
-pub fn lay_index(found: &mut [u64], answer: Result<FlatIdx, Refusal>) -> u32
-    requires { (1 ≤ length found.old) × ((index_gives answer).number < 65536) }
-    ensures { (result ≡ 65536 * (index_gives answer).number) × (found.new ≡ overlay (values_in (index_gives answer)) found.old) }
+// Lays the words of an answer at the front of lent ones, and says its number and position. A refusal lays nothing. Crates asking, changing,
+// host and slowly call it with the words of their answers, where what is done has room.
+pub fn lay<const N: usize>(found: &mut [u64], answer: Result<[u64; N], Refusal>) -> u32
+    requires room { (words : List ℕ) → answer ≡ Ok words → N ≤ length found.old }
+    requires small { spoken (words_give answer) < 4294967296 }
+    ensures said { result ≡ spoken (words_give answer.entry) }
+    ensures laid { found.new ≡ overlay (values_in (words_give answer.entry)) found.old }
 {
     match answer {
-        Ok(index) => {
-            found[0] = index.0 as u64;
+        Ok(words) => {
+            lay_words(found, words);
             0
         }
-        Err(refusal) => 65536 * refusal.number,
+        Err(refusal) => 65536 * refusal.number + refusal.position,
     }
 }
 
-// The words of a value: its number and its width. Crate asking calls it likewise.
-pub fn lay_value(found: &mut [u64], answer: Result<Value, Refusal>) -> u32
-    requires { (2 ≤ length found.old) × ((value_gives answer).number < 65536) }
-    ensures { (result ≡ 65536 * (value_gives answer).number) × (found.new ≡ overlay (values_in (value_gives answer)) found.old) }
+// The words of the counts of a run.
+fn ran_counts_words(ran: Ran<Counts>) -> [u64; 7]
+    ensures { result ≡ count_words ran.counts }
 {
-    match answer {
-        Ok(value) => {
-            found[0] = value.number;
-            found[1] = value.width;
-            0
-        }
-        Err(refusal) => 65536 * refusal.number,
-    }
+    counts_words(ran.counts)
 }
 
-// The word of a list: how many it names. Crate asking calls it likewise.
-pub fn lay_listed(found: &mut [u64], answer: Result<usize, Refusal>) -> u32
-    requires { (1 ≤ length found.old) × ((list_gives answer).number < 65536) }
-    ensures { (result ≡ 65536 * (list_gives answer).number) × (found.new ≡ overlay (values_in (list_gives answer)) found.old) }
+// The three words of a run.
+fn ran_words<C: Copy>(ran: Ran<C>) -> [u64; 3]
+    ensures { result ≡ ran.rounds ∷ ran.evaluations ∷ ran.moved ∷ [] }
 {
-    match answer {
-        Ok(count) => {
-            found[0] = count as u64;
-            0
-        }
-        Err(refusal) => 65536 * refusal.number,
-    }
+    [ran.rounds as u64, ran.evaluations as u64, ran.moved as u64]
+}
+
+// Lays the three words of a run: rounds, evaluations, and how many times an output changed. Crate slowly calls it likewise.
+pub fn lay_ran<C: Copy>(found: &mut [u64], answer: Result<Ran<C>, Refusal>) -> u32
+    requires room { (ran : Ran C) → answer ≡ Ok ran → 3 ≤ length found.old }
+    requires small { spoken (run_words_give answer) < 4294967296 }
+    ensures said { result ≡ spoken (run_words_give answer) }
+    ensures laid { found.new ≡ overlay (values_in (run_words_give answer)) found.old }
+{
+    lay(found, answer.map(ran_words))
 }
 
 // The counts of a run, and its three words. Crate changing calls it likewise.
-pub fn lay_run(words: &mut [u64], found: &mut [u64], answer: Result<Ran, Refusal>) -> u32
-    requires { (7 ≤ length words.old) × (3 ≤ length found.old) × ((ran_gives answer).number < 65536) }
-    ensures { (result ≡ 65536 * (ran_gives answer).number)
+pub fn lay_run(words: &mut [u64], found: &mut [u64], answer: Result<Ran<Counts>, Refusal>) -> u32
+    requires { (7 ≤ length words.old) × (3 ≤ length found.old) × (spoken (ran_gives answer) < 4294967296) }
+    ensures { (result ≡ spoken (ran_gives answer))
         × (words.new ≡ overlay (drop 3 (values_in (ran_gives answer))) words.old)
         × (found.new ≡ overlay (take 3 (values_in (ran_gives answer))) found.old) }
 {
-    match answer {
-        Ok(ran) => {
-            lay(words, ran.counts);
-            found[0] = ran.rounds as u64;
-            found[1] = ran.evaluations as u64;
-            found[2] = ran.moved as u64;
-            0
-        }
-        Err(refusal) => 65536 * refusal.number,
-    }
-}
-
-// The word of an evaluation: which outputs changed. Crate host calls it likewise.
-pub fn lay_evaluated(found: &mut [u64], answer: Result<u64, Refusal>) -> u32
-    requires { (1 ≤ length found.old) × ((evaluated_gives answer).number < 65536) }
-    ensures { (result ≡ 65536 * (evaluated_gives answer).number) × (found.new ≡ overlay (values_in (evaluated_gives answer)) found.old) }
-{
-    match answer {
-        Ok(moved) => {
-            found[0] = moved;
-            0
-        }
-        Err(refusal) => 65536 * refusal.number,
-    }
+    lay(words, answer.map(ran_counts_words));
+    lay_ran(found, answer)
 }

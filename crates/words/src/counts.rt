@@ -1,10 +1,11 @@
 // Counts as seven lent words.
-ghost use Rattle.std.specs.Prelude.{◌≡◌, ◌*◌, ◌<◌, ◌≤◌, length, get_or};
+ghost use Rattle.std.specs.Prelude.{◌≡◌, ◌<◌, ◌≤◌, length, get_or};
 ghost use Rattle.lists.specs.Lists.{overlay};
 ghost use Rattle.kinds.specs.Given.{spoken};
 ghost use Rattle.tables.specs.Tables.{count_words, answer_gives};
 ghost use Rattle.words.specs.Words.{counts_in, values_in};
 
+use crate::answers::lay;
 use kinds::Refusal;
 use tables::Counts;
 
@@ -34,44 +35,26 @@ pub fn counts_in(words: &[u64]) -> Counts
     }
 }
 
-// Lays counts into the first seven words.
-pub(crate) fn lay(words: &mut [u64], counts: Counts)
-    requires { 7 ≤ length words.old }
-    ensures { words.new ≡ overlay (count_words counts) words.old }
+// The words of counts.
+pub(crate) fn counts_words(counts: Counts) -> [u64; 7]
+    ensures { result ≡ count_words counts }
 {
-    words[0] = counts.components as u64;
-    words[1] = counts.inputs as u64;
-    words[2] = counts.outputs as u64;
-    words[3] = counts.wires as u64;
-    words[4] = counts.current as u64;
-    words[5] = counts.following as u64;
-    words[6] = counts.standing as u64;
+    [
+        counts.components as u64,
+        counts.inputs as u64,
+        counts.outputs as u64,
+        counts.wires as u64,
+        counts.current as u64,
+        counts.following as u64,
+        counts.standing as u64,
+    ]
 }
 
-// Lays the counts of an answer that changed the tables, and says its number. Crate changing calls it where seven count words are lent.
+// Lays the counts of an answer that changed the tables, and says its number and position. Crates changing and host call it where seven count
+// words are lent.
 pub fn keep(words: &mut [u64], answer: Result<Counts, Refusal>) -> u32
-    requires { (7 ≤ length words.old) × ((answer_gives answer).number < 65536) }
-    ensures { (result ≡ 65536 * (answer_gives answer).number) × (words.new ≡ overlay (values_in (answer_gives answer)) words.old) }
-{
-    match answer {
-        Ok(counts) => {
-            lay(words, counts);
-            0
-        }
-        Err(refusal) => 65536 * refusal.number,
-    }
-}
-
-// The same of a load, whose refusals have a position. Crate host calls it likewise.
-pub fn keep_loaded(words: &mut [u64], answer: Result<Counts, Refusal>) -> u32
     requires { (7 ≤ length words.old) × (spoken (answer_gives answer) < 4294967296) }
     ensures { (result ≡ spoken (answer_gives answer)) × (words.new ≡ overlay (values_in (answer_gives answer)) words.old) }
 {
-    match answer {
-        Ok(counts) => {
-            lay(words, counts);
-            0
-        }
-        Err(refusal) => 65536 * refusal.number + refusal.position,
-    }
+    lay(words, answer.map(counts_words))
 }

@@ -5,7 +5,5 @@
 mod answers;
 mod counts;
 
-pub use answers::{
-    lay_evaluated, lay_index, lay_listed, lay_run, lay_value, lay_whether, side_of, speak,
-};
-pub use counts::{count_at, counts_in, keep, keep_loaded};
+pub use answers::{lay, lay_ran, lay_run, side_of, speak};
+pub use counts::{count_at, counts_in, keep};

@@ -1,29 +1,42 @@
 -- `berxundar_satisfied`: too few words, or what the engine answers.
 -- Assumes nothing.
-use mathlib.Core.Path.{◌∙◌}
+use mathlib.Core.Path.{refl, ap, ◌∙◌}
+use mathlib.Core.Bool.{Bool}
+use mathlib.Core.List.{[], ◌∷◌}
+use native.Mathlib.Omega.{arith}
+use Rattle.value.specs.Value.{level}
+use Rattle.kinds.specs.Given.{spoken}
 use Rattle.tables.specs.Tables.{tables_of}
 use Rattle.judging.specs.Judged.{judged_named}
 use Rattle.questions.specs.Questions.{whether_gives, AsksSatisfied}
-use Rattle.asking.proofs.AskingLaws.{whether_plain, ask_short, ask_made}
-use Rattle.words.proofs.PlainLaws.{plain_fits, plain_spoken}
+use Rattle.words.proofs.PlainLaws.{plain_small}
 use Rattle.words.proofs.SaidLaws.{enough_found}
+use Rattle.words.proofs.LaidLaws.{same_given, laid_as}
+use Rattle.asking.proofs.AskingLaws.{whether_plain, ask_short, ask_made}
 use Rattle.asking.proofs.satisfied.berxundar_satisfied.Goals as goal
 
 pub returns-then-counts-found : goal.returns-then-counts-found
-returns-then-counts-found c = ask_short _ _ _ _ _ _ c.if-counts-found.true
+returns-then-counts-found c =
+    ask_short _ _ _ _ _ _ c.if-counts-found.true
 
-pub lay_whether-requires : goal.lay_whether-requires
-lay_whether-requires c =
+-- The words that are laid give what the answer gives.
+pub lay-requires : goal.lay-requires
+lay-requires c =
     let a = c.args in
     let r = c.is_satisfied in
-    (enough_found a.counts.now a.found.now 1 c.if-counts-found.false, plain_fits _ (whether_plain c.new-lent.result (judged_named c.new-lent.result) r.result r.ensures))
+    let e = same_given whether_gives (λ (so : Bool). level so ∷ []) (λ x. refl) (λ x. refl) r.result c.map.result c.map.ensures.cases in
+    let p = whether_plain c.new-lent.result (judged_named c.new-lent.result) r.result r.ensures in (
+      omega arith,
+      ((λ words is. enough_found a.counts.now a.found.now 1 c.if-counts-found.false), rw e (plain_small (whether_gives r.result) p)),
+    )
 
 pub returns : goal.returns
 returns c =
     let a = c.args in
-    let came = tables_of a.components.now a.inputs.now a.outputs.now a.wires.now a.current.now a.following.now a.standing.now in
+    let m = c.counts_in in
     let r = c.is_satisfied in
-    let k = c.lay_whether in
-    let p = whether_plain c.new-lent.result (judged_named c.new-lent.result) r.result r.ensures in
-    ask_made whether_gives AsksSatisfied _ a.counts.now a.found.now came r.result c.counts_in.result k.new.found k.result
-    c.if-counts-found.false c.counts_in.ensures (rw c.new-lent.ensures at r.ensures) (k.ensures.0 ∙ plain_spoken _ p) k.ensures.1
+    let k = c.lay in
+    let came = tables_of a.components.now a.inputs.now a.outputs.now a.wires.now a.current.now a.following.now a.standing.now in
+    let e = same_given whether_gives (λ (so : Bool). level so ∷ []) (λ x. refl) (λ x. refl) r.result c.map.result c.map.ensures.cases in
+    ask_made whether_gives AsksSatisfied _ a.counts.now a.found.now came r.result m.result k.new.found k.result
+    c.if-counts-found.false m.ensures (rw c.new-lent.ensures at r.ensures) (k.ensures.said ∙ ap spoken e) (laid_as a.found.now e k.ensures.laid)
