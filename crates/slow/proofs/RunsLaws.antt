@@ -2,11 +2,11 @@
 --   InRun file ix fs T     T are the tables of the drawing, which 20 does not refuse
 -- Assumes nothing.
 use mathlib.Core.Path.{◌≡◌, refl, sym, ap, ◌∙◌}
-use Prim.Native.Nat.{ℕ, ◌*◌, ◌≤◌}
+use Prim.Native.Nat.{ℕ, ◌*◌, ◌≤◌, ◌<◌}
 use mathlib.Core.Bool.{true}
 use mathlib.Core.List.{List, []}
 use native.Mathlib.Omega.{arith}
-use lib.ListN.{length, take}
+use lib.ListN.{length, get_or, take}
 use lib.Seq.{length-take-le}
 use Rattle.lists.specs.Lists.{overlay, total}
 use Rattle.component.specs.Record.{IsBytes, record_at, record_count}
@@ -15,17 +15,17 @@ use Rattle.flatten.proofs.Accepted.{accepted_passed}
 use Rattle.tables.specs.declared.Counts.{Counts}
 use Rattle.tables.specs.declared.Wire.{Wire}
 use Rattle.tables.specs.Tables.{Tables, tables_of, current_list}
-use Rattle.laying.specs.Laid.{primitives}
+use Rattle.tables.specs.Words.{uncounted}
 use Rattle.laying.specs.Laying.{Ready}
 use Rattle.rounds.specs.Round.{state_of, leave, moved_by, round}
-use Rattle.rounds.specs.Steps.{wiring, ListFits, ListInside}
+use Rattle.rounds.specs.Steps.{bare, CanEvaluate, ListFits, ListInside}
+use Rattle.rounds.proofs.StepsLaws.{fits_small, fits_few}
 use Rattle.simulator.specs.Calls.{bits_set}
 use Rattle.simulator.proofs.RunLaws.{bits_front}
 use Rattle.slow.specs.Slow.{SlowTables, slow_full, slow_of, drawn, leaving, slow_round_of, slow_bits, slow_right, counts_for}
 use Rattle.slow.specs.Sending.{Drawing, IsPrepared}
 use Rattle.slow.proofs.DrawingLaws.{words_long}
-use Rattle.slow.proofs.RoundsLaws.{fits_few, fits_entry}
-use Rattle.slow.proofs.CallsLaws.{prepared_drawing, prepared_current, prepared_following, prepared_standing, round_drawn}
+use Rattle.slow.proofs.CallsLaws.{prepared_lists, prepared_visited, round_drawn}
 use Rattle.slow.proofs.WiredLaws.{still_full, still_right}
 
 pub record InRun (file ix fs : List ℕ) (T : Tables) : Type 0 where
@@ -84,28 +84,18 @@ module _ (file ix fs : List ℕ) (T : Tables) (g : InRun file ix fs T) where
       }
 
   -- What a round needs.
-  pub run_drawing : Drawing file ix fs T.components T.inputs T.outputs
-  run_drawing = prepared_drawing file ix fs T.components T.counts.components T.inputs T.outputs T.current T.following T.standing _ prepared
+  pub run_lists : ListFits (bare T.components) T.counts.current T.current × ListFits (bare T.components) T.counts.following T.following
+      × ListFits (bare T.components) T.counts.standing T.standing
+  run_lists =
+      prepared_lists file ix fs T.components T.counts.components T.inputs T.outputs T.current T.following T.standing _ prepared T.counts flat_is
 
-  pub run_count : T.counts.components ≡ length (primitives (record_at file) (record_count file))
-  run_count = prepared.count
-
-  abbrev W : Tables
-  W = wiring T.components [] T.counts
-
-  pub run_lists : ListFits W T.counts.current T.current × ListFits W T.counts.following T.following
-      × ListFits W T.counts.standing T.standing
-  run_lists = (
-    prepared_current file ix fs T.components T.counts.components T.inputs T.outputs T.current T.following T.standing _ prepared T.counts flat_is,
-    prepared_following file ix fs T.components T.counts.components T.inputs T.outputs T.current T.following T.standing _ prepared T.counts flat_is,
-    prepared_standing file ix fs T.components T.counts.components T.inputs T.outputs T.current T.following T.standing _ prepared T.counts flat_is,
-  )
-
-  few : T.counts.components ≤ 256
-  few = omega (arith, run_count, accepted_primitives_bound file g.ready.accepted)
+  pub run_visited : (j : ℕ) → j < T.counts.current
+      → CanEvaluate (uncounted T.components []) T.inputs T.outputs (get_or T.current j 0) × Drawing file ix fs T.components T.inputs T.outputs
+  run_visited =
+      prepared_visited file ix fs T.components T.counts.components T.inputs T.outputs T.current T.following T.standing _ prepared T.counts flat_is
 
   pub run_few : T.counts.current ≤ 256
-  run_few = fits_few T.components T.counts T.counts.current T.current run_lists.0 few
+  run_few = fits_few T.components T.counts.current T.current run_lists.0
 
   -- The words of what the lists name stand in the table.
   rows : 8 * 256 ≤ length T.components
@@ -120,8 +110,8 @@ module _ (file ix fs : List ℕ) (T : Tables) (g : InRun file ix fs T) where
       × ListInside T.components T.counts.standing T.standing
   run_inside = (inside _ _ run_lists.0, inside _ _ run_lists.1, inside _ _ run_lists.2)
     where
-      inside : (n : ℕ) (t : List ℕ) → ListFits W n t → ListInside T.components n t
-      inside n t l = (l.count, λ j h. omega (arith, rows, few, fits_entry T.components T.counts n t l few j h))
+      inside : (n : ℕ) (t : List ℕ) → ListFits (bare T.components) n t → ListInside T.components n t
+      inside n t l = (l.count, λ j h. omega (arith, rows, fits_small T.components n t l j h))
 
   listed : length (current_list T) ≡ T.counts.current
   listed = length-take-le T.counts.current T.current run_lists.0.count

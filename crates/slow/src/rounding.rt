@@ -6,11 +6,11 @@ ghost use Rattle.simulator.specs.Calls.{run_by};
 ghost use Rattle.slow.specs.Slow.{slow_tables_of, slow_round_of, slow_bits, slow_counts_after, slow_counts_after_run, SlowRounds, SlowRuns, slow_counts_of};
 ghost use Rattle.slow.specs.Sending.{IsPrepared};
 
+use crate::leading::Drawn;
 use crate::preparing::{are_full, counts_for, prepare};
-use crate::visiting::drawn_round;
 use crate::{SlowCounts, SlowRan};
 use kinds::Refusal;
-use rounds::net_calm;
+use rounds::{net_calm, round_over};
 use simulator::{Ran, count_moved};
 use tables::Counts;
 
@@ -66,10 +66,13 @@ pub fn round(
         &mut indexes,
         &mut components,
     )?;
-    Ok(slow_counts(drawn_round(
+    let drawn = Drawn {
         file,
-        &index,
-        &indexes,
+        index: &index,
+        indexes: &indexes,
+    };
+    Ok(slow_counts(round_over(
+        &drawn,
         &components,
         inputs,
         outputs,
@@ -111,6 +114,11 @@ fn drawn_run(
         (tables_of components.now inputs.old outputs.old [] current.old
         following.old standing.old counts) }
 {
+    let drawn = Drawn {
+        file,
+        index,
+        indexes,
+    };
     let mut reached = counts;
     let mut rounds: u16 = 0;
     let mut evaluations: u32 = 0;
@@ -120,9 +128,9 @@ fn drawn_run(
     while !calm & (rounds < limit) {
         let evaluated = reached.current;
         evaluations += evaluated as u32;
-        reached = drawn_round(
-            file, index, indexes, components, inputs, outputs, current, following, standing,
-            &mut bits, reached, time,
+        reached = round_over(
+            &drawn, components, inputs, outputs, current, following, standing, &mut bits, reached,
+            time,
         );
         moved += count_moved(&bits, evaluated);
         rounds += 1;

@@ -9,7 +9,7 @@ use Rattle.rounds.proofs.RoundLaws.{calm_lists}
 use Rattle.simulator.proofs.MovedLaws.{counted_few}
 use Rattle.simulator.proofs.RunLaws.{run_by-start, run_by-turn, run_by-end, test_going, test_below}
 use Rattle.slow.specs.Slow.{slow_round_of, slow_bits}
-use Rattle.slow.proofs.RunsLaws.{run_starts, run_drawing, run_count, run_lists, run_few, run_inside, run_made, run_listed, run_bits, run_on}
+use Rattle.slow.proofs.RunsLaws.{run_starts, run_lists, run_visited, run_few, run_inside, run_made, run_listed, run_bits, run_on}
 use Rattle.slow.proofs.rounding.drawn_run.Goals as goal
 
 pub loop-calm-init : goal.loop-calm-init
@@ -52,14 +52,15 @@ overflow_add-evaluations c =
       l.invariant.1,
     )
 
-pub drawn_round-reached-requires : goal.drawn_round-reached-requires
-drawn_round-reached-requires c =
+pub round_over-reached-requires : goal.round_over-reached-requires
+round_over-reached-requires c =
     let here = tables_of c.args.components.now c.loop-calm.inputs c.loop-calm.outputs [] c.loop-calm.current c.loop-calm.following
     c.loop-calm.standing c.loop-calm.reached in
     let a = c.args in
     let l = c.loop-calm in
     let g = l.invariant.9 in
-    let lists = run_lists a.file.now _ _ here g in record { drawing = (run_drawing a.file.now _ _ here g, run_count a.file.now _ _ here g); list_fits = (lists.0, lists.1, lists.2, omega (arith, l.invariant.3)) }
+    let lists = run_lists a.file.now _ _ here g in
+    (lists.0, lists.1, lists.2, omega (arith, l.invariant.3), run_visited a.file.now _ _ here g)
 
 pub count_moved-moved-requires : goal.count_moved-moved-requires
 count_moved-moved-requires c =
@@ -68,14 +69,14 @@ count_moved-moved-requires c =
     let a = c.args in
     let l = c.loop-calm in
     let w = run_few a.file.now _ _ here l.invariant.9 in
-    (omega (arith, w, c.drawn_round-reached.auto.moved, l.invariant.3), w)
+    (omega (arith, w, c.round_over-reached.auto.moved, l.invariant.3), w)
 
 pub overflow_add-moved : goal.overflow_add-moved
 overflow_add-moved c =
     let here = tables_of c.args.components.now c.loop-calm.inputs c.loop-calm.outputs [] c.loop-calm.current c.loop-calm.following
     c.loop-calm.standing c.loop-calm.reached in
     let few = run_few c.args.file.now _ _ here c.loop-calm.invariant.9 in
-    let moved-few = counted_few _ _ _ (omega (arith, few, c.drawn_round-reached.auto.moved, c.loop-calm.invariant.3)) few
+    let moved-few = counted_few _ _ _ (omega (arith, few, c.round_over-reached.auto.moved, c.loop-calm.invariant.3)) few
     c.count_moved-moved.ensures in
     let l = c.loop-calm in
     omega (
@@ -95,10 +96,10 @@ pub net_calm-calm-requires : goal.net_calm-calm-requires
 net_calm-calm-requires c =
     let here = tables_of c.args.components.now c.loop-calm.inputs c.loop-calm.outputs [] c.loop-calm.current c.loop-calm.following
     c.loop-calm.standing c.loop-calm.reached in
-    let then = tables_of c.args.components.now c.drawn_round-reached.new.inputs c.drawn_round-reached.new.outputs []
-    c.drawn_round-reached.new.current c.drawn_round-reached.new.following c.drawn_round-reached.new.standing c.drawn_round-reached.result in
+    let then = tables_of c.args.components.now c.round_over-reached.new.inputs c.round_over-reached.new.outputs []
+    c.round_over-reached.new.current c.round_over-reached.new.following c.round_over-reached.new.standing c.round_over-reached.result in
     let on = run_on c.args.file.now c.args.index.now c.args.indexes.now here c.loop-calm.invariant.9 c.args.time then
-    c.drawn_round-reached.ensures.0 in
+    (c.round_over-reached.ensures []).0 in
     let a = c.args in
     run_inside a.file.now a.index.now a.indexes.now then on
 
@@ -111,18 +112,18 @@ pub loop-calm-preserved : goal.loop-calm-preserved
 loop-calm-preserved c =
     let here = tables_of c.args.components.now c.loop-calm.inputs c.loop-calm.outputs [] c.loop-calm.current c.loop-calm.following
     c.loop-calm.standing c.loop-calm.reached in
-    let then = tables_of c.args.components.now c.drawn_round-reached.new.inputs c.drawn_round-reached.new.outputs []
-    c.drawn_round-reached.new.current c.drawn_round-reached.new.following c.drawn_round-reached.new.standing c.drawn_round-reached.result in
+    let then = tables_of c.args.components.now c.round_over-reached.new.inputs c.round_over-reached.new.outputs []
+    c.round_over-reached.new.current c.round_over-reached.new.following c.round_over-reached.new.standing c.round_over-reached.result in
     let on = run_on c.args.file.now c.args.index.now c.args.indexes.now here c.loop-calm.invariant.9 c.args.time then
-    c.drawn_round-reached.ensures.0 in
+    (c.round_over-reached.ensures []).0 in
     let few = run_few c.args.file.now _ _ here c.loop-calm.invariant.9 in
-    let moved-few = counted_few _ _ _ (omega (arith, few, c.drawn_round-reached.auto.moved, c.loop-calm.invariant.3)) few
+    let moved-few = counted_few _ _ _ (omega (arith, few, c.round_over-reached.auto.moved, c.loop-calm.invariant.3)) few
     c.count_moved-moved.ensures in
     let a = c.args in
     let at = record_at a.file.now in
     let n = record_count a.file.now in
     let l = c.loop-calm in
-    let r = c.drawn_round-reached in
+    let r = c.round_over-reached in
     let T = here in
     let U = then in
     let g = l.invariant.9 in
@@ -137,9 +138,9 @@ loop-calm-preserved c =
       r.auto.following ∙ l.invariant.7,
       r.auto.standing ∙ l.invariant.8,
       on,
-      run_by-turn (slow_round_of at n a.time) (slow_bits at n a.time) T U (run_made a.file.now _ _ T g a.time U r.ensures.0)
+      run_by-turn (slow_round_of at n a.time) (slow_bits at n a.time) T U (run_made a.file.now _ _ T g a.time U (r.ensures []).0)
           (run_listed a.file.now _ _ T g a.time) a.limit l.rounds l.evaluations l.moved _ _ _ b (c.net_calm-calm.ensures ∙ calm_lists U)
-          (run_bits a.file.now _ _ T g a.time l.bits _ _ r.ensures.1 c.count_moved-moved.ensures)
+          (run_bits a.file.now _ _ T g a.time l.bits _ _ (r.ensures []).1 c.count_moved-moved.ensures)
           (rw (test_going l.calm l.rounds a.limit c.loop-calm-test.true) at l.invariant.10),
     )
 
