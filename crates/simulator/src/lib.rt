@@ -7,13 +7,14 @@ mod edits;
 mod first;
 mod moved;
 mod ordered;
+mod runs;
 mod standing;
 
 pub use calls::{round, run_until_calm};
 pub use edits::{edit_number, set_port};
 pub use first::edit;
-pub use moved::count_moved;
 pub use ordered::round_ordered;
+pub use runs::{Engine, run_over};
 pub use standing::edit_standing;
 use tables::Counts;
 

@@ -4,7 +4,7 @@ ghost use Rattle.std.specs.Prelude.{◌≡◌};
 ghost use Rattle.tables.specs.Tables.{tables_of, counts_after};
 ghost use Rattle.simulator.specs.Ordered.{ordered_number, RoundsOrdered};
 
-use crate::calls::WORDS;
+use crate::runs::WORDS;
 use kinds::{Refusal, refused_by};
 use rounds::{NO_WIRE, is_order, link_by, net_round};
 use tables::Counts;
