@@ -15,7 +15,7 @@ use Rattle.component.specs.declared.Record.{Record}
 use Rattle.component.specs.Record.{record_at, record_count}
 use Rattle.flatten.specs.Verdict.{verdict, verdict_gives, list_by}
 use Rattle.tables.specs.declared.Counts.{Counts}
-use Rattle.tables.specs.Tables.{Tables, tables_of, current_list}
+use Rattle.tables.specs.Tables.{Tables, tables_of}
 use Rattle.tables.specs.Words.{uncounted}
 use Rattle.flatten.proofs.WireTheorems.{accepted_primitives_bound}
 use Rattle.laying.specs.declared.rows.Before.{Before}
@@ -25,7 +25,7 @@ use Rattle.load.specs.Load.{drawing_tables}
 use Rattle.load.proofs.LoadLaws.{filled}
 use Rattle.net.specs.Net.{names}
 use Rattle.net.proofs.NetLaws.{names_entry}
-use Rattle.rounds.specs.Round.{state_of, leave, moved_by, round}
+use Rattle.rounds.specs.Round.{state_of, leave, round}
 use Rattle.rounds.specs.Steps.{bare, CanEvaluate, ListFits}
 use Rattle.rounds.proofs.StepsLaws.{names_wider}
 use Rattle.simulator.specs.Calls.{Run}
@@ -192,8 +192,3 @@ module _ (file : List ℕ) (T : Tables) (S : SlowTables) (e : T ≡ drawn (recor
       → U ≡ slow_round_of (record_at file) (record_count file) t (drawn (record_at file) (record_count file) S)
   unfolding slow_round_of
   round_drawn U u = u ∙ ap (slow_round_of (record_at file) (record_count file) t) e
-
-  pub bits_drawn : (ms ns : List ℕ) → ns ≡ overlay (moved_by T (leaving (record_at file) (record_count file)) t (state_of T) (current_list T)) ms
-      → ns ≡ overlay (slow_bits (record_at file) (record_count file) t (drawn (record_at file) (record_count file) S)) ms
-  unfolding slow_bits
-  bits_drawn ms ns u = u ∙ ap (λ (D : Tables). overlay (slow_bits (record_at file) (record_count file) t D) ms) e

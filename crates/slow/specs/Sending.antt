@@ -6,18 +6,20 @@
 --   set_by, drawn_inputs, drawn_outputs   the ports after an edit
 --   prepared_verdict r   the verdict that a preparation comes to
 --   IsPrepared          the same with tables that 20 does not refuse
+--   InRun file ix fs T   T are the tables of the drawing, which 20 does not refuse
 -- Assumes nothing.
 use Rattle.std.specs.Prelude.{◌≡◌, ℕ, ◌≤◌, true, List, length}
 use mathlib.Core.Path.{sym, subst}
 use Rattle.component.specs.declared.Record.{Record}
-use Rattle.component.specs.Record.{record_at, record_count}
+use Rattle.component.specs.Record.{IsBytes, record_at, record_count}
 use Rattle.flatten.specs.declared.Pin.{Pin}
 use Rattle.tables.specs.declared.End.{End}
 use Rattle.tables.specs.declared.Wire.{Wire}
+use Rattle.tables.specs.Tables.{Tables}
 use Rattle.laying.specs.Laid.{primitives}
 use Rattle.laying.specs.Laying.{end_by, Ready as IsReady}
 use Rattle.simulator.specs.Asked.{inputs_set, outputs_set}
-use Rattle.slow.specs.Slow.{SlowTables, slow_full, drawn_words, slow_right}
+use Rattle.slow.specs.Slow.{SlowTables, slow_full, slow_of, drawn, drawn_words, slow_right}
 use Rattle.kinds.specs.Given.{Verdict}
 use Rattle.std.specs.Prelude.{Result, Ok, Err}
 use Rattle.kinds.specs.declared.answers.Refusal.{Refusal}
@@ -52,6 +54,14 @@ pub record IsPrepared (file index fs cs : List ℕ) (k : ℕ) (S : SlowTables) :
   pub count : k ≡ length (primitives (record_at file) (record_count file))
   pub full : slow_full S ≡ true
   pub right : slow_right (record_at file) (record_count file) S ≡ true
+
+-- The same between the rounds of a run.
+pub record InRun (file ix fs : List ℕ) (T : Tables) : Type 0 where
+  pub bytes : IsBytes file
+  pub ready : IsReady file ix fs
+  pub is_drawn : T ≡ drawn (record_at file) (record_count file) (slow_of T)
+  pub full : slow_full (slow_of T) ≡ true
+  pub right : slow_right (record_at file) (record_count file) (slow_of T) ≡ true
 
 -- A table of ports after an edit of that verdict.
 abbrev pub set_by : Verdict → List ℕ → List ℕ → List ℕ
