@@ -4,8 +4,9 @@ ghost use Rattle.tables.specs.Tables.{tables_of, counts_after};
 ghost use Rattle.simulator.specs.Calls.{Rounds, counts_after_run, Runs};
 
 use crate::Ran;
-use crate::runs::{Engine, Stored, WORDS, run_over, unlinked};
+use crate::runs::{Engine, Links, Stored, WORDS, run_over};
 use kinds::{Refusal, refused_by};
+use rounds::NO_WIRE;
 use tables::Counts;
 
 // A round at a time, on any tables and counts: 2, 16. Which outputs changed of component k of the current list is written to entry k of
@@ -38,7 +39,11 @@ pub fn round(
         return Err(refused_by(number));
     }
     let engine = Stored { wires };
-    let mut links = unlinked();
+    let mut links = Links {
+        head: [NO_WIRE; 256],
+        after: [0; 1024],
+        linked: false,
+    };
     Ok(engine.round(
         &mut links, components, inputs, outputs, current, following, standing, moved, counts, time,
     ))
@@ -70,7 +75,11 @@ pub fn run_until_calm(
         return Err(refused_by(number));
     }
     let engine = Stored { wires };
-    let mut links = unlinked();
+    let mut links = Links {
+        head: [NO_WIRE; 256],
+        after: [0; 1024],
+        linked: false,
+    };
     Ok(run_over(
         &engine, &mut links, components, inputs, outputs, current, following, standing, counts,
         time, limit,

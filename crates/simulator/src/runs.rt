@@ -11,7 +11,7 @@ ghost use Rattle.simulator.specs.Calls.{round_tables, run_by};
 
 use crate::Ran;
 use crate::moved::count_moved;
-use rounds::{NO_WIRE, link_once, net_calm, net_round};
+use rounds::{link_once, net_calm, net_round};
 use tables::Counts;
 
 // Full size of a table of bits: a word for each component that a round can evaluate.
@@ -123,20 +123,9 @@ pub(crate) struct Stored<'a> {
 // Links from each component to its wires, once they are made.
 #[derive(Clone, Copy)]
 pub(crate) struct Links {
-    head: [u16; 256],
-    after: [u16; 1024],
-    linked: bool,
-}
-
-// No wire is linked yet.
-pub(crate) fn unlinked() -> Links
-    ensures { (wires : List ℕ) (n : ℕ) → n ≤ 1024 → Ready result.linked wires n result.head result.after }
-{
-    Links {
-        head: [NO_WIRE; 256],
-        after: [0; 1024],
-        linked: false,
-    }
+    pub(crate) head: [u16; 256],
+    pub(crate) after: [u16; 1024],
+    pub(crate) linked: bool,
 }
 
 impl<'a> Engine for Stored<'a> {

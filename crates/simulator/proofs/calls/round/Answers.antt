@@ -4,6 +4,7 @@ use native.Mathlib.Omega.{arith}
 use mathlib.Core.Path.{sym, ◌∙◌}
 use Rattle.tables.specs.Tables.{tables_of}
 use Rattle.rounds.proofs.Sound.{net_within}
+use Rattle.rounds.proofs.LinksLaws.{linked_none}
 use Rattle.simulator.proofs.Kept.{round_tables-done}
 use Rattle.simulator.proofs.CallsLaws.{round_short, round_refused, round_made}
 use Rattle.simulator.proofs.calls.round.Goals as goal
@@ -27,7 +28,7 @@ round-requires c =
     let a = c.args in
     let T = tables_of a.components.now a.inputs.now a.outputs.now a.wires.now a.current.now a.following.now a.standing.now a.counts in
     let z = sym c.net_number-number.ensures ∙ c.if-number-ne0.false in
-    ((z, c.unlinked-links.ensures a.wires.now a.counts.wires (net_within T z).wires), omega arith)
+    ((z, linked_none a.wires.now a.counts.wires (net_within T z).wires), omega arith)
 
 pub returns : goal.returns
 returns c =

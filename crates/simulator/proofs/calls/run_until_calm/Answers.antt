@@ -3,6 +3,7 @@
 use mathlib.Core.Path.{sym, ◌∙◌}
 use Rattle.tables.specs.Tables.{tables_of}
 use Rattle.rounds.proofs.Sound.{net_within}
+use Rattle.rounds.proofs.LinksLaws.{linked_none}
 use Rattle.simulator.proofs.RunLaws.{run_refused, run_made}
 use Rattle.simulator.proofs.calls.run_until_calm.Goals as goal
 
@@ -17,7 +18,7 @@ run_over-requires c =
     let a = c.args in
     let T = tables_of a.components.now a.inputs.now a.outputs.now a.wires.now a.current.now a.following.now a.standing.now a.counts in
     let z = sym c.net_number-number.ensures ∙ c.if-number-ne0.false in
-    (z, c.unlinked-links.ensures a.wires.now a.counts.wires (net_within T z).wires)
+    (z, linked_none a.wires.now a.counts.wires (net_within T z).wires)
 
 pub returns : goal.returns
 returns c =
