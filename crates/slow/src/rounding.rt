@@ -108,8 +108,9 @@ impl<'a> Engine for Drawn<'a> {
         counts: Counts,
         time: u64,
     ) -> Counts {
+        let drawn = *self;
         round_over(
-            self, components, inputs, outputs, current, following, standing, moved, counts, time,
+            &drawn, components, inputs, outputs, current, following, standing, moved, counts, time,
         )
     }
 }
