@@ -1,6 +1,5 @@
 -- Laws of links: what following `after` meets is one list, without repeats; one wire put before those of its source; a loop that sends
 -- along what it meets.
---   met n after f k           how many wires are met from wire k on, of at most f
 --   Sending T ws after n h s k u   what is still met from wire k on makes of the state u what all that is met from h on makes of s
 -- Assumes nothing.
 use mathlib.Core.Path.{◌≡◌, refl, sym, ap, ◌∙◌, subst}
@@ -13,7 +12,7 @@ use native.Mathlib.Omega.{arith}
 use borrow.Author.Tests.{eqb-true, eqb-false, lt-ltb, le-ltb}
 use lib.ListN.{length, get_or, set, take, replicate, length-set, length-append, length-replicate, get_or-replicate}
 use lib.Seq.{slice, slice-cons, get_or-set_same, get_or-set_other, get_or-take, get_or_at, take-append_seam, take-take, length-take-le}
-use lib.Dec.{eqb, ltb}
+use lib.Dec.{eqb}
 use Rattle.lists.specs.Lists.{from, keep, has}
 use Rattle.lists.proofs.ListsLaws.{from_step, from_end}
 use Rattle.lists.proofs.MembersLaws.{In, Distinct, in-get_or, keep_sound, has_complete, has_none, from_sound}
@@ -22,7 +21,7 @@ use Rattle.tables.specs.declared.Wire.{Wire}
 use Rattle.tables.specs.Tables.{Tables}
 use Rattle.tables.specs.Words.{wire_in}
 use Rattle.rounds.specs.Round.{State, wires_from, order_list, is_order, send}
-use Rattle.rounds.specs.Links.{source_in, Along, numbers_from, IsLinked, Follows, Ready}
+use Rattle.rounds.specs.Links.{source_in, Along, met_from, linked_wires, numbers_from, IsLinked, Follows, Ready}
 
 -- What is met from a wire on.
 module _ (n : ℕ) (after : List ℕ) where
@@ -64,22 +63,28 @@ module _ (n : ℕ) (after : List ℕ) where
   pub along_length : (k : ℕ) (ks : List ℕ) → Along n after k ks → length ks ≤ n
   along_length k ks p = names_length n ks (record { exist = λ x m. along_below x k ks p m; once = along_distinct k ks p })
 
-  -- How many are met.
-  abbrev pub met : ℕ → ℕ → ℕ
-  met zero k = 0
-  met (suc f) k = cond (ltb k n) (suc (met f (get_or after k 0))) 0
-
-  met_is : (f k : ℕ) (ks : List ℕ) → Along n after k ks → length ks ≤ f → met f k ≡ length ks
+  -- They are the list of what is met,
+  met_is : (f k : ℕ) (ks : List ℕ) → Along n after k ks → length ks ≤ f → met_from n after f k ≡ ks
   met_is zero k [] p h = refl
   met_is zero k (x ∷ xs) p h = absurd (omega arith)
   met_is (suc f) k [] p h = rw (le-ltb k n p)
-  met_is (suc f) k (x ∷ xs) p h = rw (lt-ltb k n p.1) (ap suc (met_is f (get_or after k 0) xs p.2 (omega arith)))
+  met_is (suc f) k (x ∷ xs) p h =
+      let e : met_from n after f (get_or after k 0) ≡ xs = met_is f (get_or after k 0) xs p.2 (omega arith) in
+      rw (lt-ltb k n p.1, e, p.0)
 
-  met_falls : (k : ℕ) (ks : List ℕ) → k < n → Along n after k ks → met n (get_or after k 0) < met n k
+  pub met_all : (k : ℕ) (ks : List ℕ) → Along n after k ks → met_from n after n k ≡ ks
+  met_all k ks p = met_is n k ks p (along_length k ks p)
+
+  -- which grows shorter as it is followed.
+  met_falls : (k : ℕ) (ks : List ℕ) → k < n → Along n after k ks
+      → length (met_from n after n (get_or after k 0)) < length (met_from n after n k)
   met_falls k [] h p = absurd (omega (arith, p))
   met_falls k (x ∷ xs) h p =
-      let l = along_length k (x ∷ xs) p in
-      omega (arith, met_is n k (x ∷ xs) p l, met_is n (get_or after k 0) xs p.2 (omega (arith, l)))
+      omega (
+        arith,
+        ap (λ (l : List ℕ). length l) (met_all k (x ∷ xs) p),
+        ap (λ (l : List ℕ). length l) (met_all (get_or after k 0) xs p.2),
+      )
 
   -- A change at a wire that is not met.
   along_kept : (x v k : ℕ) (ks : List ℕ) → (In x ks → ⊥) → Along n after k ks → Along n (set after x v) k ks
@@ -229,10 +234,17 @@ keep_map f g (x ∷ xs) = by_test (f (g x)) (keep_map f g xs)
     by_test true e = ap (λ (l : List Wire). g x ∷ l) e
     by_test false e = e
 
-pub follows_from : (ws : List ℕ) (n : ℕ) (head after : List ℕ) (vs : List Wire) (f : Follows ws n head after vs) (i : ℕ)
+follows_from : (ws : List ℕ) (n : ℕ) (head after : List ℕ) (vs : List Wire) (f : Follows ws n head after vs) (i : ℕ)
     → wires_from vs i ≡ map (wire_in ws) (numbers_from ws i f.order)
 follows_from ws n head after vs f i =
     ap (λ (us : List Wire). wires_from us i) f.these ∙ keep_map (λ (w : Wire). eqb w.src.comp.0 i) (wire_in ws) f.order
+
+-- The wires that are met from component i's head are those of the order.
+pub linked_follows : (ws : List ℕ) (n : ℕ) (head after : List ℕ) (vs : List Wire) → Follows ws n head after vs → (i : ℕ) → i < 256
+    → linked_wires ws n head after i ≡ wires_from vs i
+linked_follows ws n head after vs f i h =
+    ap (map (wire_in ws)) (met_all n after (get_or head i 0) (numbers_from ws i f.order) (f.links.linked i h))
+    ∙ sym (follows_from ws n head after vs f i)
 
 -- A loop that sends along what it meets, from the wire h on.
 module _ (T : Tables) (ws after : List ℕ) (n h : ℕ) (s : State) where
@@ -263,7 +275,8 @@ module _ (T : Tables) (ws after : List ℕ) (n h : ℕ) (s : State) where
             ∙ so_far js q,
       )
 
-  pub sending_falls : (k k' : ℕ) (u : State) → k < n → k' ≡ get_or after k 0 → Sending k u → met n after n k' < met n after n k
+  pub sending_falls : (k k' : ℕ) (u : State) → k < n → k' ≡ get_or after k 0 → Sending k u
+      → length (met_from n after n k') < length (met_from n after n k)
   sending_falls k k' u l d r = rw d (met_falls n after k r.0 l r.1)
 
   pub sending_end : (k : ℕ) (u : State) → n ≤ k → Sending k u → (js : List ℕ) → Along n after h js

@@ -3,11 +3,13 @@
 use mathlib.Core.Path.{◌≡◌, refl, sym, ap, ◌∙◌}
 use mathlib.Core.Bool.{true}
 use mathlib.Core.List.{List, [], foldl}
-use Prim.Native.Nat.{ℕ, ◌≤◌, ◌<◌}
+use Prim.Native.Nat.{ℕ, zero, suc, ◌≤◌, ◌<◌}
 use native.Mathlib.Omega.{arith}
 use lib.ListN.{length, get_or, take}
 use lib.Seq.{length-take-le}
 use Rattle.lists.specs.Lists.{overlay}
+use Rattle.lists.proofs.MembersLaws.{In}
+use Rattle.lists.proofs.NamesLaws.{names_sound}
 use Rattle.tables.specs.declared.Wire.{Wire}
 use Rattle.tables.specs.declared.Counts.{Counts}
 use Rattle.tables.specs.Tables.{Tables, tables_of, wire_at, wires_in, current_list, following_list, standing_list}
@@ -17,10 +19,12 @@ use Rattle.net.specs.Net.{names, net_number}
 use Rattle.net.proofs.NetLaws.{names_entry, net_number-net, net_number-sizes}
 use Rattle.rounds.specs.declared.Sizes.{Sizes}
 use Rattle.rounds.specs.Round.{State, state_of, leave, wires_from, turn, evaluated, send, visit, moved_by, round, calm, round_bits, round_of}
-use Rattle.rounds.specs.Links.{SourcesFew}
-use Rattle.rounds.specs.Steps.{wiring, state_at, CanRun, ListFits, ListInside}
+use Rattle.rounds.specs.Links.{linked_wires, Follows, SourcesFew}
+use Rattle.rounds.specs.Steps.{wiring, bare, state_at, CanRun, ListFits, ListInside}
 use Rattle.rounds.proofs.Sound.{net_sound, net_within, current_in, following_in, standing_in, wire_in_lem, output_room, input_room}
-use Rattle.rounds.proofs.StepsLaws.{visits_current}
+use Rattle.rounds.proofs.StepsLaws.{names_wider, visits_current, visits_alike}
+use Rattle.rounds.proofs.MovedLaws.{moved_alike}
+use Rattle.rounds.proofs.LinksLaws.{linked_follows}
 
 -- A list copied to another table.
 pub copy_list : (n : ℕ) (l t t' : List ℕ) → n ≤ length l → t' ≡ overlay (take n l) t → take n t' ≡ take n l
@@ -56,14 +60,23 @@ module _ (T : Tables) (z : net_number T ≡ 0) where
   pub net_sources : SourcesFew T.wires T.counts.wires
   net_sources k h = let g = net_sound T z in omega (arith, g.source (wire_at T k) (wire_in_lem T k h), g.few)
 
-  pub net_current : ListFits (wiring T.components T.wires T.counts) T.counts.current T.current
-  unfolding names
-  net_current =
-      record {
-        whole = (net_number-sizes T z).current;
-        count = current_in T z;
-        named = (net_number-net T z).current;
-      }
+  -- Its three lists name components.
+  pub net_fits : ListFits (bare T.components) T.counts.current T.current
+      × ListFits (bare T.components) T.counts.following T.following
+      × ListFits (bare T.components) T.counts.standing T.standing
+  net_fits = (
+    fits T.counts.current T.current (net_number-sizes T z).current (current_in T z) (net_number-net T z).current,
+    fits T.counts.following T.following (net_number-sizes T z).following (following_in T z) (net_number-net T z).following,
+    fits T.counts.standing T.standing (net_number-sizes T z).standing (standing_in T z) (net_number-net T z).standing,
+  )
+    where
+      fits : (n : ℕ) (t : List ℕ) → 256 ≤ length t → n ≤ length t → names T (take n t) ≡ true → ListFits (bare T.components) n t
+      fits n t w l e =
+          record { whole = w; count = l; named = names_wider T (bare T.components) (take n t) (net_within T z).components e }
+
+  -- Its current list's entries are components of it.
+  pub net_visited : (j : ℕ) → j < T.counts.current → get_or T.current j 0 < T.counts.components
+  net_visited = names_entry T T.counts.current T.current (current_in T z) (net_number-net T z).current
 
   -- The words of the components that the three lists name stand in the table.
   pub net_listed : ListInside T.components T.counts.current T.current
@@ -77,31 +90,6 @@ module _ (T : Tables) (z : net_number T ≡ 0) where
     where
       inside : (n : ℕ) (t : List ℕ) → n ≤ length t → names T (take n t) ≡ true → ListInside T.components n t
       inside n t l e = (l, λ j h. omega (arith, net_rows, names_entry T n t l e j h))
-
-  -- The entries of the following and of the standing list are components of full size.
-  pub net_named : ((j : ℕ) → j < T.counts.following → get_or T.following j 0 < 256)
-      × ((j : ℕ) → j < T.counts.standing → get_or T.standing j 0 < 256)
-  net_named = (
-    few T.counts.following T.following (following_in T z) (net_number-net T z).following,
-    few T.counts.standing T.standing (standing_in T z) (net_number-net T z).standing,
-  )
-    where
-      few : (n : ℕ) (t : List ℕ) → n ≤ length t → names T (take n t) ≡ true → (j : ℕ) → j < n → get_or t j 0 < 256
-      few n t l e j h = omega (arith, names_entry T n t l e j h, (net_within T z).components)
-
-  -- The following list, copied to a table of full size.
-  pub net_copied : (t t' : List ℕ) → 256 ≤ length t' → t' ≡ overlay (following_list T) t
-      → ListFits (wiring T.components T.wires T.counts) T.counts.following t'
-  unfolding names
-  net_copied t t' h e =
-      let k : take T.counts.following t' ≡ following_list T = copy_list T.counts.following T.following t t'
-      (following_in T z) e in
-      record {
-        whole = h;
-        count = omega (arith, (net_within T z).following);
-        named = rw k
-            (net_number-net T z).following;
-      }
 
 -- The three copies at the end.
 pub round_ended : (cur fol std next left cur' fol' std' : List ℕ) (m : Counts) (n : Sizes) → n.following ≤ length next
@@ -127,7 +115,7 @@ round_ended cur fol std next left cur' fol' std' m n h k ec ef es =
 -- The whole round: both lists copied out, every component of the current list visited, and the three copies at the end.
 module _ (T : Tables) (t : ℕ) (leaving : ℕ → List Wire) where
   abbrev W : Tables
-  W = wiring T.components T.wires T.counts
+  W = bare T.components
 
   round_visits : (s : State)
       → s ≡ foldl (visit W leaving t) (state_at T.inputs T.outputs (following_list T) (standing_list T))
@@ -159,6 +147,30 @@ module _ (T : Tables) (t : ℕ) (leaving : ℕ → List Wire) where
       let s = state_at ins outs (take n.following nx') (take n.standing lf') in
       let l : tables_of T.components ins outs T.wires cur fol std r ≡ leave T (turn s) = rw (c, f, d, m) in
       l ∙ sym (round_visits s (v ∙ rw (ef, es)))
+
+-- A round, and its bits, are as the wires of the components that are visited.
+module _ (T : Tables) (ws vs : ℕ → List Wire) (t : ℕ) (h : (x : ℕ) → In x (current_list T) → ws x ≡ vs x) where
+  pub round_alike : (U : Tables) → U ≡ leave T (round T ws t (state_of T)) → U ≡ leave T (round T vs t (state_of T))
+  unfolding round
+  round_alike U e = e ∙ ap (λ (u : State). leave T (turn u)) (visits_alike T ws vs t (state_of T) (current_list T) h)
+
+  pub bits_alike : (ms ns : List ℕ) → ns ≡ overlay (moved_by T ws t (state_of T) (current_list T)) ms
+      → ns ≡ overlay (moved_by T vs t (state_of T) (current_list T)) ms
+  bits_alike ms ns e = e ∙ ap (λ (l : List ℕ). overlay l ms) (moved_alike T ws vs t (state_of T) (current_list T) h)
+
+-- A net's wires, as they are linked, are those of the order for each component that its current list names.
+pub net_leaving : (T : Tables) (head after : List ℕ) (vs : List Wire) → net_number T ≡ 0
+    → (0 < T.counts.current → Follows T.wires T.counts.wires head after vs)
+    → (x : ℕ) → In x (current_list T) → linked_wires T.wires T.counts.wires head after x ≡ wires_from vs x
+unfolding names
+net_leaving T head after vs z f x b =
+    let few = (net_within T z).components in
+    linked_follows T.wires T.counts.wires head after vs (f (in_some T.counts.current T.current b)) x
+    (omega (arith, few, (names_sound T.counts.components (current_list T) (net_number-net T z).current).exist x b))
+  where
+    in_some : (n : ℕ) (l : List ℕ) → In x (take n l) → 0 < n
+    in_some zero l m = absurd m
+    in_some (suc n) l m = omega arith
 
 -- In stored order, which leaves the count of wires.
 pub round_bits_lem : (T : Tables) (t : ℕ) (ms ms' : List ℕ) → ms' ≡ overlay (moved_by T (wires_from (wires_in T)) t (state_of T) (current_list T)) ms

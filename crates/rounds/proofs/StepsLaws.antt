@@ -2,6 +2,7 @@
 -- the list.
 -- Assumes nothing.
 use mathlib.Core.Path.{◌≡◌, refl, sym, ap, ◌∙◌}
+use mathlib.Core.Logic.{inl, inr}
 use mathlib.Core.Bool.{Bool, true, false, cond}
 use mathlib.Core.List.{List, [], ◌∷◌, ◌++◌, foldl, append_assoc}
 use Prim.Native.Nat.{ℕ, zero, suc, ◌+◌, ◌-◌, ◌≤◌, ◌<◌}
@@ -14,6 +15,7 @@ use lib.ListN.{length, get_or, take, drop, set, length-take}
 use lib.Seq.{sets, sets-eq, take-nil, length-take-le, slice, slice-cons, slice_empty}
 use lib.Dec.{eqb}
 use Rattle.lists.specs.Lists.{has, append_new, strike, overlay}
+use Rattle.lists.proofs.MembersLaws.{In}
 use Rattle.lists.proofs.NamesLaws.{names_sound, names_complete, names_append, names_length}
 use Rattle.kinds.specs.declared.Kind.TheVariants.{Clock}
 use Rattle.kinds.specs.declared.table.Fields.{Fields}
@@ -29,7 +31,7 @@ use Rattle.tables.specs.Words.{uncounted, wire_in}
 use Rattle.net.specs.Net.{names}
 use Rattle.net.proofs.NetLaws.{names_entry}
 use Rattle.rounds.specs.Round.{State, with_current, with_standing, evaluated, send, visit, moved_at}
-use Rattle.rounds.specs.Steps.{wiring, state_at, CanEvaluate, CanSend, CanReach, CanRun, ListFits, Step}
+use Rattle.rounds.specs.Steps.{wiring, bare, state_at, CanEvaluate, CanSend, CanReach, CanRun, ListFits, Step}
 use Rattle.rounds.proofs.Ports.{numbers_length}
 use Rattle.rounds.proofs.ListedLaws.{strike_none}
 use Rattle.rounds.proofs.Held.{carried, received, written, SendCase, agrees, writes, send_case}
@@ -190,12 +192,38 @@ module _ (T : Tables) where
       by_case (agrees p q) = rw q e
       by_case (writes p q) = rw q (append_names w.dst.comp.0 s.following e h)
 
--- A step of the bare components and wires is one of those with their counts.
-module _ (cs ws : List ℕ) (m : Counts) where
-  pub send_bare : (s : State) (w : Wire) → send (uncounted cs []) s w ≡ send (wiring cs ws m) s w
+-- A list that names components of few names components of many.
+pub names_wider : (T U : Tables) (xs : List ℕ) → T.counts.components ≤ U.counts.components → names T xs ≡ true → names U xs ≡ true
+unfolding names
+names_wider T U xs h e =
+    let n = names_sound T.counts.components xs e in
+    names_complete U.counts.components xs (record { exist = λ x m. omega (arith, h, n.exist x m); once = n.once })
+
+-- A list of n entries in the table t.
+module _ (cs : List ℕ) (n : ℕ) (t : List ℕ) (l : ListFits (bare cs) n t) where
+  pub fits_small : (j : ℕ) → j < n → get_or t j 0 < 256
+  fits_small = names_entry (bare cs) n t l.count l.named
+
+  -- It names no more components than there are.
+  pub fits_few : n ≤ 256
+  unfolding names
+  fits_few = omega (arith, names_length 256 (take n t) (names_sound 256 (take n t) l.named), length-take-le n t l.count)
+
+  -- Copied to another table of full size.
+  pub fits_copied : (u : List ℕ) → 256 ≤ length u → take n u ≡ take n t → ListFits (bare cs) n u
+  fits_copied u h e = record { whole = h; count = omega (arith, fits_few); named = ap (names (bare cs)) e ∙ l.named }
+
+-- A step reads no counts.
+module _ (cs : List ℕ) where
+  pub send_bare : (s : State) (w : Wire) → send (uncounted cs []) s w ≡ send (bare cs) s w
   unfolding send
   send_bare s w = refl
 
+  pub evaluated_bare : (t i : ℕ) (s : State) → evaluated (uncounted cs []) t i s ≡ evaluated (bare cs) t i s
+  unfolding evaluated
+  evaluated_bare t i s = refl
+
+module _ (cs ws : List ℕ) (m : Counts) where
   -- Wire k of a net can be sent along.
   pub runs_reach : (ins outs : List ℕ) (k : ℕ) → CanRun (wiring cs ws m) ins outs → k < m.wires
       → CanReach (wiring cs ws m) ins outs (wire_in ws k)
@@ -210,7 +238,7 @@ module _ (cs ws : List ℕ) (m : Counts) where
       }
 
   -- The list has room for what a wire enters, and stays one of names.
-  module _ (ins outs : List ℕ) (w : Wire) (g : CanReach (wiring cs ws m) ins outs w) (n : ℕ) (fol : List ℕ) (l : ListFits (wiring cs ws m) n fol) where
+  module _ (ins outs : List ℕ) (w : Wire) (g : CanReach (wiring cs ws m) ins outs w) (n : ℕ) (fol : List ℕ) (l : ListFits (bare cs) n fol) where
     pub reach_sends : CanSend (uncounted cs []) ins outs n fol w
     reach_sends =
         record {
@@ -220,40 +248,33 @@ module _ (cs ws : List ℕ) (m : Counts) where
           target = g.target;
           few = omega (arith, g.named, g.few);
           count = l.count;
-          room = append_room (wiring cs ws m) w.dst.comp.0 (take n fol) fol l.named g.named g.few l.whole;
+          room = append_room (bare cs) w.dst.comp.0 (take n fol) fol l.named (omega (arith, g.named, g.few)) (omega arith) l.whole;
         }
 
     pub sent_listed : (ins' fol' : List ℕ) (r : ℕ)
         → Step r fol' (state_at ins' outs (take r fol') []) (send (uncounted cs []) (state_at ins outs (take n fol) []) w)
-        → length fol' ≡ length fol → ListFits (wiring cs ws m) r fol'
+        → length fol' ≡ length fol → ListFits (bare cs) r fol'
     unfolding send
     sent_listed ins' fol' r d e =
         record {
           whole = omega (arith, l.whole);
           count = d.count;
           named =
-              ap (λ (u : State). names (wiring cs ws m) u.following) d.state
-              ∙ send_names (wiring cs ws m) (state_at ins outs (take n fol) []) w g.named l.named;
+              ap (λ (u : State). names (bare cs) u.following) d.state
+              ∙ send_names (bare cs) (state_at ins outs (take n fol) []) w (omega (arith, g.named, g.few)) l.named;
         }
 
-  -- What a net gives depends on the port tables by their lengths only.
-  pub runs_kept : (ins outs ins' outs' : List ℕ) → CanRun (wiring cs ws m) ins outs → length ins' ≡ length ins
-      → length outs' ≡ length outs
-      → CanRun (wiring cs ws m) ins' outs'
-  runs_kept ins outs ins' outs' g p q =
-      record {
-        few = g.few;
-        few_wires = g.few_wires;
-        rows = g.rows;
-        wires_in_lem = g.wires_in_lem;
-        obeyed = g.obeyed;
-        inputs_in = λ i h. omega (arith, g.inputs_in i h);
-        outputs_in = λ i h. omega (arith, g.outputs_in i h);
-        source = λ k h. omega (arith, g.source k h);
-        target = λ k h. omega (arith, g.target k h);
-        leaves = g.leaves;
-        named = g.named;
-      }
+-- An evaluation depends on the tables of ports by their lengths only.
+pub evaluates_kept : (T : Tables) (is os ms ns : List ℕ) (i : ℕ) → CanEvaluate T is os i → length ms ≡ length is → length ns ≡ length os
+    → CanEvaluate T ms ns i
+evaluates_kept T is os ms ns i g e f =
+    record {
+      few = g.few;
+      row = g.row;
+      obeyed = g.obeyed;
+      inputs_in = omega (arith, g.inputs_in);
+      outputs_in = omega (arith, g.outputs_in);
+    }
 
 -- What a step leaves beside: sends leave the standing list, and no step reads or writes the current one.
 abbrev beside : (List ℕ → List ℕ) → (List ℕ → List ℕ) → State → State
@@ -298,6 +319,10 @@ module _ (T : Tables) where
       (leaving i))
       ∙ ap (λ (u : State). foldl (send T) u (leaving i)) v
 
+pub visit_alike : (T : Tables) (ws vs : ℕ → List Wire) (t : ℕ) (s : State) (i : ℕ) → ws i ≡ vs i → visit T ws t s i ≡ visit T vs t s i
+unfolding visit
+visit_alike T ws vs t s i e = ap (foldl (send T) (evaluated T t i s)) e
+
 -- What visits need at a turn.
 module _ (cs ws : List ℕ) (m : Counts) where
   pub runs_evaluates : (ins outs : List ℕ) (i : ℕ) → CanRun (wiring cs ws m) ins outs → i < m.components
@@ -311,19 +336,13 @@ module _ (cs ws : List ℕ) (m : Counts) where
         outputs_in = g.outputs_in i h;
       }
 
-  pub evaluated_bare : (t i : ℕ) (s : State) → evaluated (uncounted cs []) t i s ≡ evaluated (wiring cs ws m) t i s
-  unfolding evaluated
-  evaluated_bare t i s = refl
-
-  pub listed_at : (n : ℕ) (t : List ℕ) (k i : ℕ) → ListFits (wiring cs ws m) n t → k < n → i ≡ get_or t k 0
-      → i < m.components
-  listed_at n t k i l h e = rw e (names_entry (wiring cs ws m) n t l.count l.named k h)
-
-  -- A list names no more components than there are.
-  pub listed_few : (n : ℕ) (t : List ℕ) → ListFits (wiring cs ws m) n t → m.components ≤ 256 → n ≤ 256
-  unfolding names
-  listed_few n t l h =
-      omega (arith, names_length m.components (take n t) (names_sound m.components (take n t) l.named), length-take-le n t l.count)
+-- Visits read of the wires no more than those of the components that they visit.
+pub visits_alike : (T : Tables) (ws vs : ℕ → List Wire) (t : ℕ) (s : State) (xs : List ℕ) → ((x : ℕ) → In x xs → ws x ≡ vs x)
+    → foldl (visit T ws t) s xs ≡ foldl (visit T vs t) s xs
+visits_alike T ws vs t s [] h = refl
+visits_alike T ws vs t s (x ∷ xs) h =
+    ap (λ (u : State). foldl (visit T ws t) u xs) (visit_alike T ws vs t s x (h x (inl refl)))
+    ∙ visits_alike T ws vs t (visit T vs t s x) xs (λ y m. h y (inr m))
 
 -- A loop over a list of components: what is still to come.
 module _ (T : Tables) (leaving : ℕ → List Wire) (t : ℕ) (list : List ℕ) (q n : ℕ) (s x : State) where

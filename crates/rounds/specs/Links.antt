@@ -2,13 +2,15 @@
 -- contracts of functions inside our crates cite it.
 --   source_in ws k                  the component that wire k leaves
 --   Along n after k ks             following `after` from wire k meets exactly the wires ks, and then a number not below n
+--   met_from n after f k           what following `after` from wire k meets, at most f wires
+--   linked_wires ws n head after i   the wires of component i, as they are linked
 --   IsLinked ws n head after ks    from its head, each component's wires are met, in the order ks of wires by their numbers
 --   Follows ws n head after vs     vs are the wires of such an order; HasLinks: there is one
 --   Ready b ws n head after        b says whether the n wires are linked, in stored order; if not, none is
 --   IsListed marks xs              exactly the components that xs names are marked
 --   ListMarked, ListCovered        a list in a table: exactly what it names is marked; all that it names is
 -- Assumes nothing.
-use Rattle.std.specs.Prelude.{ℕ, ◌≤◌, ◌<◌, ◌≡◌, Bool, true, false, not, List, [], ◌∷◌, map, length, get_or, take, eqb}
+use Rattle.std.specs.Prelude.{ℕ, zero, suc, ◌≤◌, ◌<◌, ◌≡◌, Bool, true, false, cond, not, List, [], ◌∷◌, map, length, get_or, take, eqb, ltb}
 use Rattle.lists.specs.Lists.{from, keep, has}
 use Rattle.tables.specs.declared.Wire.{Wire}
 use Rattle.tables.specs.Tables.{Tables}
@@ -23,6 +25,15 @@ source_in ws k = (wire_in ws k).src.comp.0
 abbrev pub Along : ℕ → List ℕ → ℕ → List ℕ → Type 0
 Along n after k [] = n ≤ k
 Along n after k (x ∷ xs) = (k ≡ x) × (k < n) × Along n after (get_or after k 0) xs
+
+-- The same as a list, of at most f wires.
+abbrev pub met_from : ℕ → List ℕ → ℕ → ℕ → List ℕ
+met_from n after zero k = []
+met_from n after (suc f) k = cond (ltb k n) (k ∷ met_from n after f (get_or after k 0)) []
+
+-- The wires that are met from component i's head.
+abbrev pub linked_wires : List ℕ → ℕ → List ℕ → List ℕ → ℕ → List Wire
+linked_wires ws n head after i = map (wire_in ws) (met_from n after n (get_or head i 0))
 
 -- Component i's wires, by their numbers, in an order of all wires.
 abbrev pub numbers_from : List ℕ → ℕ → List ℕ → List ℕ

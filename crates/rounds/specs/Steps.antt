@@ -1,18 +1,20 @@
 -- What the steps of a round are handed, and what a net gives them. Only contracts of functions inside our crates cite it.
 --   wiring             the components and the wires, which no round writes
+--   bare cs            the components cs alone, as many as a table of full size has words of: what a step of a round looks at
 --   state_at            the ports and the two lists that a round changes as it goes; no step reads the current list
 --   CanEvaluate, CanSend   component i can be evaluated; wire w can be sent along, and its target appended
 --   CanReach             the wire w can be sent along, whatever is listed
---   CanRun               all components and all wires can
+--   CanRun               all components and all wires can; runs_kept: it depends on the ports by their number
 --   ListFits T n t       the first n entries of the table t name components of T, none twice
 --   ListInside cs n t    the words of the components that the first n entries of the table t name stand in the table cs
 -- Assumes nothing.
 use Rattle.std.specs.Prelude.{ℕ, ◌+◌, ◌≤◌, ◌<◌, ◌≡◌, true, ◌&&◌, List, [], length, get_or, take}
+use mathlib.Core.Path.{sym, subst}
 use Rattle.lists.specs.Lists.{append_new}
 use Rattle.kinds.specs.Kinds.{primitive, obeys}
 use Rattle.tables.specs.declared.Wire.{Wire}
 use Rattle.tables.specs.declared.Counts.{Counts}
-use Rattle.tables.specs.Tables.{Tables, tables_of, fields_at, first_input, first_output, input_place, output_place, wire_at}
+use Rattle.tables.specs.Tables.{Tables, tables_of, counts_of, fields_at, first_input, first_output, input_place, output_place, wire_at}
 use Rattle.tables.specs.Words.{RowInside, RowsInside, WiresInside}
 use Rattle.net.specs.Net.{names}
 use Rattle.rounds.specs.Round.{State}
@@ -20,6 +22,10 @@ use Rattle.rounds.specs.Round.{State}
 -- The components and the wires, and how many there are.
 abbrev pub wiring : List ℕ → List ℕ → Counts → Tables
 wiring cs ws m = tables_of cs [] [] ws [] [] [] m
+
+-- Components, as many as a table has words of, and no wire.
+abbrev pub bare : List ℕ → Tables
+bare cs = wiring cs [] (counts_of 256 1024 1024 0 256 256 256)
 
 -- The ports, the following list and the standing list.
 abbrev pub state_at : List ℕ → List ℕ → List ℕ → List ℕ → State
@@ -65,6 +71,23 @@ pub record CanRun (T : Tables) (is os : List ℕ) : Type 0 where
   pub target : (k : ℕ) → k < T.counts.wires → input_place T (wire_at T k).dst < length is
   pub leaves : (k : ℕ) → k < T.counts.wires → (wire_at T k).src.comp.0 < T.counts.components
   pub named : (k : ℕ) → k < T.counts.wires → (wire_at T k).dst.comp.0 < T.counts.components
+
+-- It depends on the tables of ports by their lengths only.
+pub runs_kept : (T : Tables) (is os ms ns : List ℕ) → CanRun T is os → length ms ≡ length is → length ns ≡ length os → CanRun T ms ns
+runs_kept T is os ms ns g e f =
+    record {
+      few = g.few;
+      few_wires = g.few_wires;
+      rows = g.rows;
+      wires_in_lem = g.wires_in_lem;
+      obeyed = g.obeyed;
+      inputs_in = λ i h. subst (λ (n : ℕ). first_input T i + (fields_at T i).inputs ≤ n) (sym e) (g.inputs_in i h);
+      outputs_in = λ i h. subst (λ (n : ℕ). first_output T i + (fields_at T i).outputs ≤ n) (sym f) (g.outputs_in i h);
+      source = λ k h. subst (λ (n : ℕ). output_place T (wire_at T k).src < n) (sym f) (g.source k h);
+      target = λ k h. subst (λ (n : ℕ). input_place T (wire_at T k).dst < n) (sym e) (g.target k h);
+      leaves = g.leaves;
+      named = g.named;
+    }
 
 -- A list in a table of full size.
 pub record ListFits (T : Tables) (n : ℕ) (t : List ℕ) : Type 0 where

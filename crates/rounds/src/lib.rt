@@ -4,10 +4,11 @@
 #![tactic(auto)]
 
 mod calm;
+mod leaving;
 mod links;
 mod marks;
 
-ghost use Rattle.std.specs.Prelude.{◌≡◌, ℕ, ◌≤◌, ◌<◌, length, take};
+ghost use Rattle.std.specs.Prelude.{◌≡◌, ℕ, ◌≤◌, ◌<◌, length, get_or, take};
 ghost use mathlib.Core.List.{List, [], foldl};
 ghost use Rattle.lists.specs.Lists.{overlay};
 ghost use Rattle.tables.specs.declared.Wire.{Wire};
@@ -15,35 +16,35 @@ ghost use Rattle.tables.specs.Tables.{tables_of, current_list};
 ghost use Rattle.tables.specs.Words.{uncounted};
 ghost use Rattle.net.specs.Net.{net_number};
 ghost use Rattle.rounds.specs.Round.{state_of, wires_from, turn, leave, send, evaluated, visit, moved_at, moved_by, round};
-ghost use Rattle.rounds.specs.Steps.{wiring, state_at, CanEvaluate, CanSend, CanRun, ListFits, Step};
+ghost use Rattle.rounds.specs.Steps.{bare, state_at, CanEvaluate, CanSend, ListFits, Step};
 ghost use Rattle.rounds.specs.Links.{Follows, HasLinks, IsListed, ListMarked, ListCovered};
 
-use crate::marks::append_marked;
+use crate::marks::{append_marked, mark};
 pub use calm::net_calm;
 use kinds::Kind;
+pub use leaving::{Linked, Wiring};
 pub use links::{NO_WIRE, is_order, link_by, link_once};
-pub use marks::mark;
 use tables::{Counts, Wire};
 
 // How many entries of the following and the standing list are in use.
 #[derive(Clone, Copy)]
-pub struct Sizes {
-    pub following: usize,
-    pub standing: usize,
+struct Sizes {
+    following: usize,
+    standing: usize,
 }
 
 // What an evaluation comes to: the standing list's new count, and which outputs changed, bit i for output i.
 #[derive(Clone, Copy)]
-pub struct Outcome {
-    pub standing: usize,
-    pub moved: u64,
+struct Outcome {
+    standing: usize,
+    moved: u64,
 }
 
 // What a visit comes to: the new counts of the two lists, and which outputs changed.
 #[derive(Clone, Copy)]
-pub struct Visited {
-    pub sizes: Sizes,
-    pub moved: u64,
+struct Visited {
+    sizes: Sizes,
+    moved: u64,
 }
 
 // One wire: if output and input differ, writes the input and appends the target to the following list unless there. The answer is
@@ -75,50 +76,9 @@ pub fn send_along(
     append_marked(following, listed, count, to)
 }
 
-// A wire's number in the links, as an index.
-fn wide(k: u16) -> usize
-    ensures { result ≡ k }
-{
-    k as usize
-}
-
-// All wires of component i, in the order in which they are linked. The answer is the following list's new count.
-fn send_wires(
-    components: &[u64],
-    wires: &[u16],
-    head: &[u16; 256],
-    after: &[u16; 1024],
-    inputs: &mut [u64],
-    outputs: &[u64],
-    following: &mut [u16],
-    listed: &mut [u8; 256],
-    count: usize,
-    counts: Counts,
-    i: usize,
-) -> usize
-    requires { CanRun (wiring components.now wires.now counts) inputs.old outputs.now
-        × ListMarked (wiring components.now wires.now counts) count following.old listed.old
-        × HasLinks wires.now counts.wires head.now after.now × (i < 256) }
-    ensures { ((vs : List Wire) → Follows wires.now counts.wires head.now after.now vs
-        → state_at inputs.new outputs.now (take result following.new) []
-        ≡ foldl (send (wiring components.now wires.now counts))
-        (state_at inputs.old outputs.now (take count following.old) []) (wires_from vs i))
-        × ListMarked (wiring components.now wires.now counts) result following.new listed.new }
-{
-    let mut filled = count;
-    let mut k = wide(head[i]);
-    while k < counts.wires {
-        let wire = tables::wire_at(wires, k);
-        filled = send_along(components, inputs, outputs, following, listed, filled, wire);
-        k = wide(after[k]);
-    }
-    filled
-}
-
 // Evaluates component i in the tables of ports and, unless it is a Clock, strikes it from the standing list. What the list named at
-// the round's start is marked in `stood`: any other component is not there to be struck. Crates rounds and slow call it for a component of
-// a net.
-pub fn evaluate_at(
+// the round's start is marked in `stood`: any other component is not there to be struck.
+fn evaluate_at(
     components: &[u64],
     inputs: &[u64],
     outputs: &mut [u64],
@@ -165,35 +125,31 @@ pub fn evaluate_at(
 }
 
 // One component of the current list: evaluated, then each of its wires.
-fn visit(
+fn visit<W: Wiring>(
+    wiring: &W,
     components: &[u64],
-    wires: &[u16],
-    head: &[u16; 256],
-    after: &[u16; 1024],
     inputs: &mut [u64],
     outputs: &mut [u64],
     following: &mut [u16],
     listed: &mut [u8; 256],
     standing: &mut [u16],
     stood: &[u8; 256],
-    counts: Counts,
     sizes: Sizes,
     i: usize,
     time: u64,
 ) -> Visited
-    requires { CanRun (wiring components.now wires.now counts) inputs.old outputs.old
-        × ListMarked (wiring components.now wires.now counts) sizes.following following.old listed.old
-        × ListCovered sizes.standing standing.old stood.now
-        × HasLinks wires.now counts.wires head.now after.now × (i < counts.components) }
+    requires { CanEvaluate (uncounted components.now []) inputs.old outputs.old i
+        × W.CanLeave wiring.now components.now inputs.old outputs.old i
+        × ListMarked (bare components.now) sizes.following following.old listed.old
+        × ListCovered sizes.standing standing.old stood.now }
     ensures { let before = state_at inputs.old outputs.old (take sizes.following following.old)
         (take sizes.standing standing.old) in
-        ((vs : List Wire) → Follows wires.now counts.wires head.now after.now vs
-        → state_at inputs.new outputs.new (take result.sizes.following following.new)
+        (state_at inputs.new outputs.new (take result.sizes.following following.new)
         (take result.sizes.standing standing.new)
-        ≡ visit (wiring components.now wires.now counts) (wires_from vs) time before i)
-        × ListMarked (wiring components.now wires.now counts) result.sizes.following following.new listed.new
+        ≡ visit (bare components.now) (W.leaving wiring.now) time before i)
+        × ListMarked (bare components.now) result.sizes.following following.new listed.new
         × ListCovered result.sizes.standing standing.new stood.now
-        × (result.moved ≡ moved_at (wiring components.now wires.now counts) time before i) }
+        × (result.moved ≡ moved_at (bare components.now) time before i) }
 {
     let evaluation = evaluate_at(
         components,
@@ -205,17 +161,13 @@ fn visit(
         i,
         time,
     );
-    let filled = send_wires(
+    let filled = wiring.send_leaving(
         components,
-        wires,
-        head,
-        after,
         inputs,
         outputs,
         following,
         listed,
         sizes.following,
-        counts,
         i,
     );
     Visited {
@@ -229,11 +181,9 @@ fn visit(
 
 // Every component of a list of `count` entries, in its order. Entry k of `moved` is written with which outputs of component k of the list
 // changed; entries past the list are kept.
-fn visit_all(
+fn visit_all<W: Wiring>(
+    wiring: &W,
     components: &[u64],
-    wires: &[u16],
-    head: &[u16; 256],
-    after: &[u16; 1024],
     list: &[u16],
     count: usize,
     inputs: &mut [u64],
@@ -243,31 +193,28 @@ fn visit_all(
     standing: &mut [u16],
     stood: &[u8; 256],
     moved: &mut [u64],
-    counts: Counts,
     sizes: Sizes,
     time: u64,
 ) -> Sizes
-    requires { CanRun (wiring components.now wires.now counts) inputs.old outputs.old
-        × ListFits (wiring components.now wires.now counts) count list.now
-        × ListMarked (wiring components.now wires.now counts) sizes.following following.old listed.old
-        × ListCovered sizes.standing standing.old stood.now × (256 ≤ length moved.old)
-        × (0 < count → HasLinks wires.now counts.wires head.now after.now) }
+    requires { ListFits (bare components.now) count list.now
+        × ((j : ℕ) → j < count → CanEvaluate (uncounted components.now []) inputs.old outputs.old (get_or list.now j 0)
+        × W.CanLeave wiring.now components.now inputs.old outputs.old (get_or list.now j 0))
+        × ListMarked (bare components.now) sizes.following following.old listed.old
+        × ListCovered sizes.standing standing.old stood.now × (256 ≤ length moved.old) }
     ensures { let before = state_at inputs.old outputs.old (take sizes.following following.old)
         (take sizes.standing standing.old) in
-        ((vs : List Wire) → (0 < count → Follows wires.now counts.wires head.now after.now vs)
-        → (state_at inputs.new outputs.new (take result.following following.new) (take result.standing standing.new)
-        ≡ foldl (visit (wiring components.now wires.now counts) (wires_from vs) time) before (take count list.now))
+        (state_at inputs.new outputs.new (take result.following following.new) (take result.standing standing.new)
+        ≡ foldl (visit (bare components.now) (W.leaving wiring.now) time) before (take count list.now))
         × (moved.new
-        ≡ overlay (moved_by (wiring components.now wires.now counts) (wires_from vs) time before (take count list.now))
-        moved.old))
+        ≡ overlay (moved_by (bare components.now) (W.leaving wiring.now) time before (take count list.now)) moved.old)
         × (result.following ≤ length following.new) × (result.standing ≤ length standing.new) }
 {
     let mut reached = sizes;
     for (k, entry) in list[..count].iter().enumerate() {
         let i = *entry as usize;
         let visited = visit(
-            components, wires, head, after, inputs, outputs, following, listed, standing, stood,
-            counts, reached, i, time,
+            wiring, components, inputs, outputs, following, listed, standing, stood, reached, i,
+            time,
         );
         reached = visited.sizes;
         moved[k] = visited.moved;
@@ -276,9 +223,8 @@ fn visit_all(
 }
 
 // The end of a round: current becomes following, and following becomes a copy of standing. `next` and `left` are the following and
-// the standing list that the round has made; entries past their counts stay what they were in the lent tables. Crates rounds and slow
-// call it where all tables have room.
-pub fn end_round(
+// the standing list that the round has made; entries past their counts stay what they were in the lent tables.
+fn end_round(
     next: &[u16],
     left: &[u16],
     current: &mut [u16],
@@ -307,6 +253,62 @@ pub fn end_round(
     }
 }
 
+// A round: both lists that it makes are copied out, every component of the current list is visited, and the lists turn. The answer is the new
+// counts; which outputs changed of component k of the current list is written to entry k of `moved`. How the wires are found is handed in. Crates
+// rounds and slow call it where every component that is listed can be evaluated and its wires sent along.
+pub fn round_over<W: Wiring>(
+    wiring: &W,
+    components: &[u64],
+    inputs: &mut [u64],
+    outputs: &mut [u64],
+    current: &mut [u16],
+    following: &mut [u16],
+    standing: &mut [u16],
+    moved: &mut [u64],
+    counts: Counts,
+    time: u64,
+) -> Counts
+    requires { ListFits (bare components.now) counts.current current.old
+        × ListFits (bare components.now) counts.following following.old
+        × ListFits (bare components.now) counts.standing standing.old × (256 ≤ length moved.old)
+        × ((j : ℕ) → j < counts.current → CanEvaluate (uncounted components.now []) inputs.old outputs.old (get_or current.old j 0)
+        × W.CanLeave wiring.now components.now inputs.old outputs.old (get_or current.old j 0)) }
+    ensures { (wires : List ℕ) → let before = tables_of components.now inputs.old outputs.old wires current.old
+        following.old standing.old counts in
+        (tables_of components.now inputs.new outputs.new wires current.new following.new standing.new result
+        ≡ leave before (round before (W.leaving wiring.now) time (state_of before)))
+        × (moved.new ≡ overlay (moved_by before (W.leaving wiring.now) time (state_of before) (current_list before)) moved.old) }
+{
+    let mut next = [0u16; 256];
+    let mut left = [0u16; 256];
+    tables::copy(following, counts.following, &mut next);
+    tables::copy(standing, counts.standing, &mut left);
+    let mut listed = [0u8; 256];
+    let mut stood = [0u8; 256];
+    mark(following, counts.following, &mut listed);
+    mark(standing, counts.standing, &mut stood);
+    let sizes = Sizes {
+        following: counts.following,
+        standing: counts.standing,
+    };
+    let reached = visit_all(
+        wiring,
+        components,
+        current,
+        counts.current,
+        inputs,
+        outputs,
+        &mut next,
+        &mut listed,
+        &mut left,
+        &stood,
+        moved,
+        sizes,
+        time,
+    );
+    end_round(&next, &left, current, following, standing, counts, reached)
+}
+
 // A round of a net, which takes the wires in the order in which they are linked. The answer is the new counts; which outputs changed of
 // component k of the current list is written to entry k of `moved`. Crate simulator calls it where no check refuses the tables; where the
 // current list is empty no link is looked at.
@@ -333,35 +335,13 @@ pub fn net_round(
         following.new standing.new result ≡ leave before (round before (wires_from vs) time (state_of before)))
         × (moved.new ≡ overlay (moved_by before (wires_from vs) time (state_of before) (current_list before)) moved.old)) }
 {
-    let mut next = [0u16; 256];
-    let mut left = [0u16; 256];
-    tables::copy(following, counts.following, &mut next);
-    tables::copy(standing, counts.standing, &mut left);
-    let mut listed = [0u8; 256];
-    let mut stood = [0u8; 256];
-    mark(following, counts.following, &mut listed);
-    mark(standing, counts.standing, &mut stood);
-    let sizes = Sizes {
-        following: counts.following,
-        standing: counts.standing,
-    };
-    let reached = visit_all(
-        components,
+    let wiring = Linked {
         wires,
         head,
         after,
-        current,
-        counts.current,
-        inputs,
-        outputs,
-        &mut next,
-        &mut listed,
-        &mut left,
-        &stood,
-        moved,
         counts,
-        sizes,
-        time,
-    );
-    end_round(&next, &left, current, following, standing, counts, reached)
+    };
+    round_over(
+        &wiring, components, inputs, outputs, current, following, standing, moved, counts, time,
+    )
 }

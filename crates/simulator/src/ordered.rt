@@ -5,7 +5,7 @@ ghost use Rattle.kinds.specs.Given.{refusing};
 ghost use Rattle.tables.specs.Tables.{tables_of, counts_after};
 ghost use Rattle.simulator.specs.Ordered.{ordered_number, RoundsOrdered};
 
-use crate::calls::WORDS;
+use crate::runs::WORDS;
 use kinds::{Refusal, refused_by};
 use net::check_net;
 use rounds::{NO_WIRE, is_order, link_by, net_round};

@@ -1,11 +1,11 @@
 -- The calls: the answer and the tables of a refused call and of one that is made.
 -- Assumes nothing.
 use mathlib.Core.Path.{◌≡◌, refl, sym, ap, ◌∙◌, subst}
-use Prim.Native.Nat.{ℕ, ◌≤◌}
+use Prim.Native.Nat.{ℕ, ◌≤◌, ◌<◌}
 use mathlib.Core.Bool.{true, ◌&&◌}
 use mathlib.Core.List.{List, [], ◌∷◌}
 use native.Mathlib.Omega.{arith}
-use lib.ListN.{length, take, replicate}
+use lib.ListN.{length, get_or, take, replicate}
 use lib.Seq.{sets}
 use lib.Dec.{leb}
 use Rattle.lists.specs.Lists.{from, joined, overlay}
@@ -15,21 +15,26 @@ use Rattle.component.specs.declared.Record.{Record}
 use Rattle.component.specs.Record.{record_at, record_count}
 use Rattle.flatten.specs.Verdict.{verdict, verdict_gives, list_by}
 use Rattle.tables.specs.declared.Counts.{Counts}
-use Rattle.tables.specs.Tables.{Tables, tables_of, current_list}
+use Rattle.tables.specs.Tables.{Tables, tables_of}
+use Rattle.tables.specs.Words.{uncounted}
+use Rattle.flatten.proofs.WireTheorems.{accepted_primitives_bound}
 use Rattle.laying.specs.declared.rows.Before.{Before}
 use Rattle.laying.specs.Laid.{primitives, standing_at_load}
 use Rattle.laying.specs.Laying.{before_at, starting_of}
 use Rattle.load.specs.Load.{drawing_tables}
 use Rattle.load.proofs.LoadLaws.{filled}
 use Rattle.net.specs.Net.{names}
-use Rattle.rounds.specs.Round.{state_of, leave, moved_by, round}
-use Rattle.rounds.specs.Steps.{wiring, ListFits}
+use Rattle.net.proofs.NetLaws.{names_entry}
+use Rattle.rounds.specs.Round.{state_of, leave, round}
+use Rattle.rounds.specs.Steps.{bare, CanEvaluate, ListFits}
+use Rattle.rounds.proofs.StepsLaws.{names_wider}
 use Rattle.simulator.specs.Calls.{Run}
 use Rattle.slow.specs.declared.SlowCounts.{SlowCounts}
 use Rattle.slow.specs.Slow.{SlowTables, slow_tables_of, slow_full, slow_of, drawn, leaving, slow_round_of, slow_bits, slow_number, slow_verdict, slow_by}
 use Rattle.slow.specs.Slow.{slow_load_verdict, slow_load_tables, slow_round_verdict, slow_round_tables, slow_moved, slow_run_verdict, slow_run}
 use Rattle.slow.specs.Slow.{slow_run_tables, slow_words, SlowLoads, SlowRounds, SlowRuns, counts_for, slow_counts_of}
 use Rattle.slow.specs.Sending.{Drawing, IsPrepared}
+use Rattle.slow.proofs.DrawingLaws.{drawing_evaluates}
 use Rattle.slow.proofs.PreparingLaws.{SlowSizes, slow_full-sound}
 use Rattle.slow.proofs.WiredLaws.{SlowParts, right_sound}
 use Rattle.kinds.specs.Given.{Verdict}
@@ -138,15 +143,23 @@ module _ (file ix fs cs : List ℕ) (k : ℕ) (is os cur fol std : List ℕ) (m 
   pub prepared_drawing : Drawing file ix fs cs is os
   prepared_drawing = record { ready = p.ready; words = p.words; inputs = sizes.inputs; outputs = sizes.outputs }
 
+  listed : (n : ℕ) (t : List ℕ) → 256 ≤ length t → n ≤ 256 → names (drawn (record_at file) (record_count file) S) (take n t) ≡ true
+      → ListFits (bare cs) n t
+  listed n t w l e =
+      record {
+        whole = w;
+        count = omega (arith, w, l);
+        named =
+            names_wider (drawn (record_at file) (record_count file) S) (bare cs) (take n t)
+            (accepted_primitives_bound file p.ready.accepted) e;
+      }
+
   module _ (flat : Counts) (ef : flat ≡ counts_for m k) where
     pub prepared_is : tables_of cs is os [] cur fol std flat ≡ drawn (record_at file) (record_count file) S
     prepared_is =
         let words = p.words in
         let counts = ef ∙ ap (counts_for m) p.count in
         λ j. tables_of (words j) is os [] cur fol std (counts j)
-
-    pub prepared_count : flat.components ≡ length (primitives (record_at file) (record_count file))
-    prepared_count = ap (λ (x : Counts). x.components) ef ∙ p.count
 
     -- The same with the other engine's counts.
     pub prepared_for : IsPrepared file ix fs cs flat.components (slow_tables_of is os cur fol std (slow_counts_of flat)) × (flat.wires ≡ 0)
@@ -155,36 +168,23 @@ module _ (file ix fs cs : List ℕ) (k : ℕ) (is os cur fol std : List ℕ) (m 
       ap (λ (x : Counts). x.wires) ef,
     )
 
-    named : (xs : List ℕ) → names (drawn (record_at file) (record_count file) S) xs ≡ true → names (wiring cs [] flat) xs ≡ true
-    unfolding names
-    named xs e = rw prepared_count e
+    -- Its lists name components, and those of the current list can be evaluated and their wires sent along.
+    pub prepared_lists : ListFits (bare cs) flat.current cur × ListFits (bare cs) flat.following fol × ListFits (bare cs) flat.standing std
+    prepared_lists =
+        subst (λ (x : Counts). ListFits (bare cs) x.current cur × ListFits (bare cs) x.following fol × ListFits (bare cs) x.standing std) (sym ef) (
+          listed m.current cur sizes.current parts.current parts.names_current,
+          listed m.following fol sizes.following parts.following parts.names_following,
+          listed m.standing std sizes.standing parts.standing parts.names_standing,
+        )
 
-    pub prepared_current : ListFits (wiring cs [] flat) flat.current cur
-    prepared_current =
-        subst (λ (x : Counts). ListFits (wiring cs [] flat) x.current cur) (sym ef)
-        (record {
-          whole = sizes.current;
-          count = omega (arith, parts.current, sizes.current);
-          named = named (take m.current cur) parts.names_current;
-        })
-
-    pub prepared_following : ListFits (wiring cs [] flat) flat.following fol
-    prepared_following =
-        subst (λ (x : Counts). ListFits (wiring cs [] flat) x.following fol) (sym ef)
-        (record {
-          whole = sizes.following;
-          count = omega (arith, parts.following, sizes.following);
-          named = named (take m.following fol) parts.names_following;
-        })
-
-    pub prepared_standing : ListFits (wiring cs [] flat) flat.standing std
-    prepared_standing =
-        subst (λ (x : Counts). ListFits (wiring cs [] flat) x.standing std) (sym ef)
-        (record {
-          whole = sizes.standing;
-          count = omega (arith, parts.standing, sizes.standing);
-          named = named (take m.standing std) parts.names_standing;
-        })
+    pub prepared_visited : (j : ℕ) → j < flat.current → CanEvaluate (uncounted cs []) is os (get_or cur j 0) × Drawing file ix fs cs is os
+    prepared_visited j h =
+        let l : j < m.current = omega (arith, h, ap (λ (x : Counts). x.current) ef) in (
+          drawing_evaluates file ix fs cs is os prepared_drawing (get_or cur j 0)
+              (names_entry (drawn (record_at file) (record_count file) S) m.current cur (omega (arith, parts.current, sizes.current))
+              parts.names_current j l),
+          prepared_drawing,
+        )
 
 -- A round of tables that are those of the drawing.
 module _ (file : List ℕ) (T : Tables) (S : SlowTables) (e : T ≡ drawn (record_at file) (record_count file) S) (t : ℕ) where
@@ -192,8 +192,3 @@ module _ (file : List ℕ) (T : Tables) (S : SlowTables) (e : T ≡ drawn (recor
       → U ≡ slow_round_of (record_at file) (record_count file) t (drawn (record_at file) (record_count file) S)
   unfolding slow_round_of
   round_drawn U u = u ∙ ap (slow_round_of (record_at file) (record_count file) t) e
-
-  pub bits_drawn : (ms ns : List ℕ) → ns ≡ overlay (moved_by T (leaving (record_at file) (record_count file)) t (state_of T) (current_list T)) ms
-      → ns ≡ overlay (slow_bits (record_at file) (record_count file) t (drawn (record_at file) (record_count file) S)) ms
-  unfolding slow_bits
-  bits_drawn ms ns u = u ∙ ap (λ (D : Tables). overlay (slow_bits (record_at file) (record_count file) t D) ms) e

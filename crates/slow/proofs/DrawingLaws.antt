@@ -26,9 +26,9 @@ use Rattle.loaded.proofs.DrawnNet.{drawn-kinds_obeyed, drawn-ports_follow, drawn
 use Rattle.net.specs.Net.{kinds_obeyed, ports_follow, wires_fit}
 use Rattle.net.proofs.ClausesLaws.{kinds_obeyed-at, ports_follow-inputs, ports_follow-outputs}
 use Rattle.net.proofs.NetLaws.{is_output-comp, is_output-port, is_input-comp, is_input-port, wires_fit-source, wires_fit-target}
-use Rattle.rounds.specs.Steps.{CanEvaluate, CanReach}
+use Rattle.rounds.specs.Steps.{bare, CanEvaluate, CanReach}
 use Rattle.slow.specs.Slow.{leaving, drawn_words}
-use Rattle.slow.specs.Sending.{bare, Drawing}
+use Rattle.slow.specs.Sending.{Drawing}
 use Rattle.slow.proofs.Handed.{leaving_stored}
 use Rattle.std.specs.Prelude.{Ok}
 
@@ -148,9 +148,3 @@ module _ (file index fs cs is os : List ℕ) (d : Drawing file index fs cs is os
 
   pub leaving_reach : (i : ℕ) (w : Wire) → In w (leaving (record_at file) (record_count file) i) → CanReach (bare cs) is os w
   leaving_reach = leaving_wires file cs is os d.ready.accepted d.words d.inputs d.outputs
-
--- It depends on the tables of ports by their lengths only.
-pub drawing_kept : (file index fs cs is os is' os' : List ℕ) → Drawing file index fs cs is os → length is' ≡ length is → length os' ≡ length os
-    → Drawing file index fs cs is' os'
-drawing_kept file index fs cs is os is' os' d e f =
-    record { ready = d.ready; words = d.words; inputs = omega (arith, d.inputs); outputs = omega (arith, d.outputs) }

@@ -1,7 +1,6 @@
 pub mod Handed
 pub mod DrawingLaws
 pub mod LeadingLaws
-pub mod RoundsLaws
 pub mod PreparingLaws
 pub mod WiredLaws
 pub mod CallsLaws

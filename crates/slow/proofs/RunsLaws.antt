@@ -1,39 +1,28 @@
 -- Run until calm: what holds of the tables at each turn, and what a turn does.
---   InRun file ix fs T     T are the tables of the drawing, which 20 does not refuse
 -- Assumes nothing.
 use mathlib.Core.Path.{◌≡◌, refl, sym, ap, ◌∙◌}
-use Prim.Native.Nat.{ℕ, ◌*◌, ◌≤◌}
-use mathlib.Core.Bool.{true}
+use Prim.Native.Nat.{ℕ, ◌*◌, ◌≤◌, ◌<◌}
 use mathlib.Core.List.{List, []}
 use native.Mathlib.Omega.{arith}
-use lib.ListN.{length, take}
+use lib.ListN.{length, get_or}
 use lib.Seq.{length-take-le}
-use Rattle.lists.specs.Lists.{overlay, total}
+use Rattle.lists.specs.Lists.{overlay}
 use Rattle.component.specs.Record.{IsBytes, record_at, record_count}
 use Rattle.flatten.proofs.WireTheorems.{accepted_primitives_bound}
 use Rattle.flatten.proofs.Accepted.{accepted_passed}
 use Rattle.tables.specs.declared.Counts.{Counts}
 use Rattle.tables.specs.declared.Wire.{Wire}
 use Rattle.tables.specs.Tables.{Tables, tables_of, current_list}
-use Rattle.laying.specs.Laid.{primitives}
-use Rattle.laying.specs.Laying.{Ready}
+use Rattle.tables.specs.Words.{uncounted}
 use Rattle.rounds.specs.Round.{state_of, leave, moved_by, round}
-use Rattle.rounds.specs.Steps.{wiring, ListFits, ListInside}
-use Rattle.simulator.specs.Calls.{bits_set}
-use Rattle.simulator.proofs.RunLaws.{bits_front}
+use Rattle.rounds.specs.Steps.{bare, CanEvaluate, ListFits, ListInside}
+use Rattle.rounds.proofs.StepsLaws.{fits_small, fits_few}
+use Rattle.rounds.proofs.MovedLaws.{moved_by-length}
 use Rattle.slow.specs.Slow.{SlowTables, slow_full, slow_of, drawn, leaving, slow_round_of, slow_bits, slow_right, counts_for}
-use Rattle.slow.specs.Sending.{Drawing, IsPrepared}
+use Rattle.slow.specs.Sending.{Drawing, IsPrepared, InRun}
 use Rattle.slow.proofs.DrawingLaws.{words_long}
-use Rattle.slow.proofs.RoundsLaws.{fits_few, fits_entry}
-use Rattle.slow.proofs.CallsLaws.{prepared_drawing, prepared_current, prepared_following, prepared_standing, round_drawn}
+use Rattle.slow.proofs.CallsLaws.{prepared_lists, prepared_visited, round_drawn}
 use Rattle.slow.proofs.WiredLaws.{still_full, still_right}
-
-pub record InRun (file ix fs : List ℕ) (T : Tables) : Type 0 where
-  pub bytes : IsBytes file
-  pub ready : Ready file ix fs
-  pub is_drawn : T ≡ drawn (record_at file) (record_count file) (slow_of T)
-  pub full : slow_full (slow_of T) ≡ true
-  pub right : slow_right (record_at file) (record_count file) (slow_of T) ≡ true
 
 -- What is handed past the checks is such.
 pub run_starts : (file ix fs cs : List ℕ) (is os cur fol std : List ℕ) (m : Counts) → IsBytes file
@@ -84,28 +73,18 @@ module _ (file ix fs : List ℕ) (T : Tables) (g : InRun file ix fs T) where
       }
 
   -- What a round needs.
-  pub run_drawing : Drawing file ix fs T.components T.inputs T.outputs
-  run_drawing = prepared_drawing file ix fs T.components T.counts.components T.inputs T.outputs T.current T.following T.standing _ prepared
+  pub run_lists : ListFits (bare T.components) T.counts.current T.current × ListFits (bare T.components) T.counts.following T.following
+      × ListFits (bare T.components) T.counts.standing T.standing
+  run_lists =
+      prepared_lists file ix fs T.components T.counts.components T.inputs T.outputs T.current T.following T.standing _ prepared T.counts flat_is
 
-  pub run_count : T.counts.components ≡ length (primitives (record_at file) (record_count file))
-  run_count = prepared.count
-
-  abbrev W : Tables
-  W = wiring T.components [] T.counts
-
-  pub run_lists : ListFits W T.counts.current T.current × ListFits W T.counts.following T.following
-      × ListFits W T.counts.standing T.standing
-  run_lists = (
-    prepared_current file ix fs T.components T.counts.components T.inputs T.outputs T.current T.following T.standing _ prepared T.counts flat_is,
-    prepared_following file ix fs T.components T.counts.components T.inputs T.outputs T.current T.following T.standing _ prepared T.counts flat_is,
-    prepared_standing file ix fs T.components T.counts.components T.inputs T.outputs T.current T.following T.standing _ prepared T.counts flat_is,
-  )
-
-  few : T.counts.components ≤ 256
-  few = omega (arith, run_count, accepted_primitives_bound file g.ready.accepted)
+  pub run_visited : (j : ℕ) → j < T.counts.current
+      → CanEvaluate (uncounted T.components []) T.inputs T.outputs (get_or T.current j 0) × Drawing file ix fs T.components T.inputs T.outputs
+  run_visited =
+      prepared_visited file ix fs T.components T.counts.components T.inputs T.outputs T.current T.following T.standing _ prepared T.counts flat_is
 
   pub run_few : T.counts.current ≤ 256
-  run_few = fits_few T.components T.counts T.counts.current T.current run_lists.0 few
+  run_few = fits_few T.components T.counts.current T.current run_lists.0
 
   -- The words of what the lists name stand in the table.
   rows : 8 * 256 ≤ length T.components
@@ -120,28 +99,29 @@ module _ (file ix fs : List ℕ) (T : Tables) (g : InRun file ix fs T) where
       × ListInside T.components T.counts.standing T.standing
   run_inside = (inside _ _ run_lists.0, inside _ _ run_lists.1, inside _ _ run_lists.2)
     where
-      inside : (n : ℕ) (t : List ℕ) → ListFits W n t → ListInside T.components n t
-      inside n t l = (l.count, λ j h. omega (arith, rows, few, fits_entry T.components T.counts n t l few j h))
+      inside : (n : ℕ) (t : List ℕ) → ListFits (bare T.components) n t → ListInside T.components n t
+      inside n t l = (l.count, λ j h. omega (arith, rows, fits_small T.components n t l j h))
 
-  listed : length (current_list T) ≡ T.counts.current
-  listed = length-take-le T.counts.current T.current run_lists.0.count
+  pub run_listed : length (current_list T) ≡ T.counts.current
+  run_listed = length-take-le T.counts.current T.current run_lists.0.count
 
   module _ (t : ℕ) where
     abbrev ws : ℕ → List Wire
     ws = leaving (record_at file) (record_count file)
 
     -- The round, and its bits.
-    pub run_made : (U : Tables) → U ≡ leave T (round T ws t (state_of T)) → slow_round_of (record_at file) (record_count file) t T ≡ U
+    pub run_made : (U : Tables) → U ≡ leave T (round T ws t (state_of T)) → U ≡ slow_round_of (record_at file) (record_count file) t T
     unfolding slow_round_of
-    run_made U e = sym e
+    run_made U e = e
 
-    pub run_listed : length (current_list T) ≡ T.counts.current
-    run_listed = listed
-
-    pub run_bits : (ms ns : List ℕ) (k : ℕ) → ns ≡ overlay (moved_by T ws t (state_of T) (current_list T)) ms
-        → k ≡ total bits_set (take T.counts.current ns) → k ≡ total bits_set (slow_bits (record_at file) (record_count file) t T)
+    pub run_bits : (ms ns : List ℕ) → ns ≡ overlay (moved_by T ws t (state_of T) (current_list T)) ms
+        → ns ≡ overlay (slow_bits (record_at file) (record_count file) t T) ms
     unfolding slow_bits
-    run_bits ms ns k e ek = ek ∙ ap (total bits_set) (bits_front T ws t ms ns listed e)
+    run_bits ms ns e = e
+
+    pub run_bits-length : length (slow_bits (record_at file) (record_count file) t T) ≡ T.counts.current
+    unfolding slow_bits
+    run_bits-length = moved_by-length T ws t (state_of T) (current_list T) ∙ run_listed
 
     -- It leaves such tables.
     pub run_on : (U : Tables) → U ≡ leave T (round T ws t (state_of T)) → InRun file ix fs U

@@ -5,16 +5,16 @@ ghost use mathlib.Core.List.{[], map, foldl};
 ghost use Rattle.component.specs.Record.{record_at, record_count};
 ghost use Rattle.flatten.specs.Targets.{target_place, target_in, targets_in};
 ghost use Rattle.rounds.specs.Round.{send};
-ghost use Rattle.rounds.specs.Steps.{state_at, CanReach};
+ghost use Rattle.rounds.specs.Steps.{bare, state_at, CanReach};
 ghost use Rattle.rounds.specs.Links.{ListMarked};
 ghost use Rattle.slow.specs.Slow.{leaving_by, leaving};
-ghost use Rattle.slow.specs.Sending.{lead_to, bare, Drawing};
+ghost use Rattle.slow.specs.Sending.{lead_to, Drawing, drawing_kept};
 
 use component::{Reading, Says, known_at};
 use flatten::{source_from, target_at, targets_from};
 use index::child_of;
 use laying::flat_pin;
-use rounds::send_along;
+use rounds::{Wiring, send_along};
 use tables::{End, Wire};
 
 // Sends from an output along the wires to the first `count` targets of a table, in their order. The answer is the following list's new count.
@@ -103,44 +103,50 @@ fn send_connection(
     )
 }
 
-// Sends along all wires that leave component i, in order of their connections. The answer is the following list's new count.
-pub(crate) fn send_leaving(
-    file: &[u8],
-    index: &[u16],
-    indexes: &[u16],
-    components: &[u64],
-    inputs: &mut [u64],
-    outputs: &[u64],
-    following: &mut [u16],
-    listed: &mut [u8; 256],
-    filled: usize,
-    i: usize,
-) -> usize
-    requires drawing { Drawing file.now index.now indexes.now components.now inputs.old outputs.now }
-    requires list_marked { ListMarked (bare components.now) filled following.old listed.old }
-    ensures { (state_at inputs.new outputs.now (take result following.new) []
-        ≡ foldl (send (bare components.now))
-        (state_at inputs.old outputs.now (take filled following.old) [])
-        (leaving (record_at file.now) (record_count file.now) i))
-        × ListMarked (bare components.now) result following.new listed.new }
-{
-    let mut targets = [0u16; 2048];
-    let mut reached = filled;
-    for p in 0..file.len() / 24 {
-        reached = send_connection(
-            file,
-            index,
-            indexes,
-            &mut targets,
-            components,
-            inputs,
-            outputs,
-            following,
-            listed,
-            reached,
-            i,
-            p,
-        );
+// The wires of an accepted drawing, with its index and its flat indexes.
+#[derive(Clone, Copy)]
+pub(crate) struct Drawn<'a> {
+    pub(crate) file: &'a [u8],
+    pub(crate) index: &'a [u16],
+    pub(crate) indexes: &'a [u16],
+}
+
+impl<'a> Wiring for Drawn<'a> {
+    ghost leaving = { λ d i. leaving (record_at d.file.now) (record_count d.file.now) i };
+
+    ghost CanLeave = { λ d cs is os i. Drawing d.file.now d.index.now d.indexes.now cs is os };
+
+    ghost kept = { λ d cs is os ms ns i v e f. drawing_kept d.file.now d.index.now d.indexes.now cs is os ms ns v e f };
+
+    // The wires are taken in order of their connections.
+    fn send_leaving(
+        &self,
+        components: &[u64],
+        inputs: &mut [u64],
+        outputs: &[u64],
+        following: &mut [u16],
+        listed: &mut [u8; 256],
+        count: usize,
+        i: usize,
+    ) -> usize {
+        let mut targets = [0u16; 2048];
+        let mut reached = count;
+        for p in 0..self.file.len() / 24 {
+            reached = send_connection(
+                self.file,
+                self.index,
+                self.indexes,
+                &mut targets,
+                components,
+                inputs,
+                outputs,
+                following,
+                listed,
+                reached,
+                i,
+                p,
+            );
+        }
+        reached
     }
-    reached
 }

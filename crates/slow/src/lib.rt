@@ -8,7 +8,6 @@ mod leading;
 mod loading;
 mod preparing;
 mod rounding;
-mod visiting;
 
 pub use editing::{edit, edit_standing};
 pub use loading::load;

@@ -1,17 +1,15 @@
 // Rounds and run until calm as calls of the slow engine, on any file, tables and counts. Rule: docs/SPECIFICATION.md, "The slow engine".
 ghost use Rattle.std.specs.Prelude.{◌≡◌, []};
 ghost use Rattle.component.specs.Record.{record_at, record_count};
-ghost use Rattle.tables.specs.Tables.{tables_of};
-ghost use Rattle.simulator.specs.Calls.{run_by};
 ghost use Rattle.slow.specs.Slow.{slow_tables_of, slow_round_of, slow_bits, slow_counts_after, slow_counts_after_run, SlowRounds, SlowRuns, slow_counts_of};
-ghost use Rattle.slow.specs.Sending.{IsPrepared};
+ghost use Rattle.slow.specs.Sending.{InRun};
 
-use crate::SlowCounts;
+use crate::leading::Drawn;
 use crate::preparing::{are_full, counts_for, prepare};
-use crate::visiting::drawn_round;
+use crate::SlowCounts;
 use kinds::Refusal;
-use rounds::net_calm;
-use simulator::{Ran, count_moved};
+use rounds::round_over;
+use simulator::{Engine, Ran, run_over};
 use tables::Counts;
 
 // Full size of a table of bits: a word for each component that a round can evaluate.
@@ -66,10 +64,13 @@ pub fn round(
         &mut indexes,
         &mut components,
     )?;
-    Ok(slow_counts(drawn_round(
+    let drawn = Drawn {
         file,
-        &index,
-        &indexes,
+        index: &index,
+        indexes: &indexes,
+    };
+    Ok(slow_counts(drawn.round(
+        &mut (),
         &components,
         inputs,
         outputs,
@@ -82,57 +83,35 @@ pub fn round(
     )))
 }
 
-// Rounds, one after the other, at most `limit` of them, until the first that leaves calm.
-fn drawn_run(
-    file: &[u8],
-    index: &[u16],
-    indexes: &[u16],
-    components: &[u64],
-    inputs: &mut [u64],
-    outputs: &mut [u64],
-    current: &mut [u16],
-    following: &mut [u16],
-    standing: &mut [u16],
-    counts: Counts,
-    time: u64,
-    limit: u16,
-) -> Ran<Counts>
-    requires { IsPrepared file.now index.now indexes.now components.now counts.components (slow_tables_of inputs.old outputs.old
-        current.old following.old standing.old (slow_counts_of counts)) × (counts.wires ≡ 0) }
-    ensures { record {
-      tables = tables_of components.now inputs.new outputs.new []
-          current.new following.new standing.new result.counts;
-      rounds = result.rounds;
-      evaluations = result.evaluations;
-      moved = result.moved;
-    }
-        ≡ run_by (slow_round_of (record_at file.now) (record_count file.now) time)
-        (slow_bits (record_at file.now) (record_count file.now) time) limit
-        (tables_of components.now inputs.old outputs.old [] current.old
-        following.old standing.old counts) }
-{
-    let mut reached = counts;
-    let mut rounds: u16 = 0;
-    let mut evaluations: u32 = 0;
-    let mut moved: u32 = 0;
-    let mut bits = [0u64; WORDS];
-    let mut calm = false;
-    while !calm & (rounds < limit) {
-        let evaluated = reached.current;
-        evaluations += evaluated as u32;
-        reached = drawn_round(
-            file, index, indexes, components, inputs, outputs, current, following, standing,
-            &mut bits, reached, time,
-        );
-        moved += count_moved(&bits, evaluated);
-        rounds += 1;
-        calm = net_calm(components, current, following, standing, reached);
-    }
-    Ran {
-        counts: reached,
-        rounds,
-        evaluations,
-        moved,
+// No wire is kept.
+impl<'a> Engine for Drawn<'a> {
+    type Kept = ();
+
+    ghost wires = { λ d. [] };
+
+    ghost CanRound = { λ d k T. InRun d.file.now d.index.now d.indexes.now T };
+
+    ghost round_at = { λ d t T. slow_round_of (record_at d.file.now) (record_count d.file.now) t T };
+
+    ghost bits_at = { λ d t T. slow_bits (record_at d.file.now) (record_count d.file.now) t T };
+
+    fn round(
+        &self,
+        _kept: &mut (),
+        components: &[u64],
+        inputs: &mut [u64],
+        outputs: &mut [u64],
+        current: &mut [u16],
+        following: &mut [u16],
+        standing: &mut [u16],
+        moved: &mut [u64],
+        counts: Counts,
+        time: u64,
+    ) -> Counts {
+        let drawn = *self;
+        round_over(
+            &drawn, components, inputs, outputs, current, following, standing, moved, counts, time,
+        )
     }
 }
 
@@ -171,10 +150,14 @@ pub fn run_until_calm(
         &mut indexes,
         &mut components,
     )?;
-    let made = drawn_run(
+    let drawn = Drawn {
         file,
-        &index,
-        &indexes,
+        index: &index,
+        indexes: &indexes,
+    };
+    let made = run_over(
+        &drawn,
+        &mut (),
         &components,
         inputs,
         outputs,

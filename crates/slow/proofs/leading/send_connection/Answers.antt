@@ -12,8 +12,7 @@ use Rattle.flatten.proofs.TargetsLaws.{listed_length}
 use Rattle.flatten.proofs.ConnectionLaws.{connection_room, connection_within}
 use Rattle.laying.proofs.WiresLaws.{source_number, targets_small}
 use Rattle.rounds.specs.Round.{send}
-use Rattle.rounds.specs.Steps.{state_at}
-use Rattle.slow.specs.Sending.{bare}
+use Rattle.rounds.specs.Steps.{bare, state_at}
 use Rattle.slow.proofs.DrawingLaws.{leaving_reach}
 use Rattle.component.proofs.RecordLaws.{but_connection}
 use Rattle.slow.proofs.LeadingLaws.{leaves_refused, leaves_other, leaves_elsewhere, leaves_here, here_member}

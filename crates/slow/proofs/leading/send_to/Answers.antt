@@ -6,9 +6,9 @@ use native.Mathlib.Omega.{arith}
 use lib.ListN.{take}
 use Rattle.flatten.specs.Targets.{target_in}
 use Rattle.tables.specs.Tables.{counts_of}
-use Rattle.rounds.specs.Steps.{state_at, CanReach}
+use Rattle.rounds.specs.Steps.{bare, state_at, CanReach}
 use Rattle.rounds.proofs.StepsLaws.{send_bare, reach_sends, sent_listed}
-use Rattle.slow.specs.Sending.{lead_to, bare}
+use Rattle.slow.specs.Sending.{lead_to}
 use Rattle.slow.proofs.LeadingLaws.{sends_start, sends_next, sends_end, reach_kept}
 use Rattle.slow.proofs.leading.send_to.Goals as goal
 
@@ -55,7 +55,7 @@ loop-k-preserved c =
       },
       sends_next (bare c.args.components.now) l.k c.args.count (state_at l.inputs c.args.outputs.now (take l.reached l.following) []) _
           (λ j. lead_to c.args.indexes.now c.args.from (target_in c.args.targets.now j)) _ (omega arith)
-          (r.ensures.0.state ∙ send_bare c.args.components.now [] (counts_of 256 1024 1024 0 256 256 256) _ _
+          (r.ensures.0.state ∙ send_bare c.args.components.now _ _
           ∙ rw (c.flat_pin-to.ensures.0, c.target_at.ensures) refl)
           l.invariant.3,
     )

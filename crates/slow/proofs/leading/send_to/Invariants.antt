@@ -7,9 +7,9 @@ use lib.ListN.{length, take}
 use Rattle.lists.specs.Lists.{from}
 use Rattle.flatten.specs.Targets.{target_in, targets_in}
 use Rattle.rounds.specs.Round.{send}
-use Rattle.rounds.specs.Steps.{state_at}
+use Rattle.rounds.specs.Steps.{bare, state_at}
 use Rattle.rounds.specs.Links.{ListMarked}
-use Rattle.slow.specs.Sending.{lead_to, bare}
+use Rattle.slow.specs.Sending.{lead_to}
 use Rattle.slow.proofs.leading.send_to.Given as goal
 
 abbrev pub invariant-loop-k : goal.invariant-loop-k

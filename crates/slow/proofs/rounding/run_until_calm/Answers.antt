@@ -3,22 +3,26 @@
 use mathlib.Core.Path.{refl, sym, ap, ◌∙◌}
 use mathlib.Core.Bool.{Bool}
 use mathlib.Core.List.{[]}
+use native.Mathlib.Omega.{arith}
 use Rattle.kinds.proofs.GivenLaws.{handed_on}
-use Rattle.component.specs.Record.{record_at, record_count}
+use Rattle.component.specs.Record.{IsBytes, record_at, record_count}
 use Rattle.tables.specs.Tables.{Tables, tables_of}
 use Rattle.simulator.specs.Calls.{run_by}
 use Rattle.slow.specs.Slow.{slow_tables_of, slow_number, slow_verdict, slow_round_of, slow_bits}
 use Rattle.slow.specs.Sending.{prepared_verdict}
 use Rattle.slow.proofs.CallsLaws.{run_refused, run_done, prepared_is, prepared_for}
+use Rattle.slow.proofs.RunsLaws.{run_starts}
 use Rattle.slow.proofs.rounding.run_until_calm.Goals as goal
 
 pub prepare-requires : goal.prepare-requires
 prepare-requires c = record { index_len = (refl, refl, refl); counts_value = λ e. sym (c.are_full-long.ensures c.args.counts) ∙ e }
 
-pub drawn_run-made-requires : goal.drawn_run-made-requires
-drawn_run-made-requires c =
+pub run_over-made-requires : goal.run_over-made-requires
+run_over-made-requires c =
     let a = c.args in
-    prepared_for a.file.now _ _ _ _ _ _ _ _ _ _ (c.prepare.ensures.1 _ c.in_ok-count.was) _ c.counts_for.ensures
+    let flat = prepared_for a.file.now _ _ _ _ _ _ _ _ _ _ (c.prepare.ensures.1 _ c.in_ok-count.was) _ c.counts_for.ensures in
+    let bytes : IsBytes a.file.now = λ i. omega (arith, c.type_inv.file i) in
+    run_starts a.file.now _ _ _ _ _ _ _ _ _ bytes flat.0 flat.1
 
 pub returns-in_err-count : goal.returns-in_err-count
 returns-in_err-count c =
@@ -41,7 +45,7 @@ returns c =
     let at = record_at a.file.now in
     let n = record_count a.file.now in
     let p = c.prepare.ensures.1 _ c.in_ok-count.was in
-    let r = c.drawn_run-made in
+    let r = c.run_over-made in
     let U = tables_of c.prepare.new.components r.new.inputs r.new.outputs []
     r.new.current r.new.following r.new.standing r.result.counts in
     rw c.slow_counts.ensures
