@@ -6,7 +6,7 @@ ghost use Rattle.kinds.specs.Kinds.{seen_as, kind_of};
 ghost use Rattle.text.specs.Text.{Puts};
 ghost use Rattle.names.specs.Names.{name_of};
 
-use kinds::{Kind, Seen, kind_of};
+use kinds::{Kind, NoKind};
 
 // The name of a kind. A composite is never listed, and has none.
 fn put_name(out: &mut [u8], at: usize, kind: Kind) -> usize
@@ -32,22 +32,17 @@ fn put_name(out: &mut [u8], at: usize, kind: Kind) -> usize
 }
 
 // What a word that should be a kind's number is read as.
-fn seen_as(word: u64) -> Seen
+fn seen_as(word: u64) -> Result<Kind, NoKind>
     ensures { result ≡ seen_as word }
 {
-    if word < 256 {
-        return kind_of(word as u8);
-    }
-    Seen::Unknown
+    let number = u8::try_from(word).map_err(|_| NoKind::Unknown)?;
+    Kind::try_from(number)
 }
 
 // The name of the kind of a number; a number that is no kind has none. Crate lines calls it.
 pub fn put_kind(out: &mut [u8], at: usize, number: u64) -> usize
     ensures { Puts out.old at (name_of (kind_of number)) out.new result }
 {
-    match seen_as(number) {
-        Seen::Known(kind) => put_name(out, at, kind),
-        Seen::Kept => put_name(out, at, Kind::Composite),
-        Seen::Unknown => put_name(out, at, Kind::Composite),
-    }
+    let kind = seen_as(number).unwrap_or(Kind::Composite);
+    put_name(out, at, kind)
 }
