@@ -78,7 +78,7 @@ pub fn is_kind(components: &[u64], i: usize, kind: Kind) -> bool
     requires { RowInside components.now i }
     ensures { result ≡ is kind (fields_in components.now i) }
 {
-    kind_word(components, i) == kinds::number_of(kind) as u64
+    kind_word(components, i) == u8::from(kind) as u64
 }
 
 // Whether component i has this id. Crates net and questions call it likewise.

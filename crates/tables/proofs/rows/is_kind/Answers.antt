@@ -3,4 +3,4 @@
 use Rattle.tables.proofs.rows.is_kind.Goals as goal
 
 pub returns : goal.returns
-returns c = rw (c.kind_word.ensures, c.number_of.ensures)
+returns c = rw (c.kind_word.ensures, c.from.ensures)
