@@ -11,7 +11,7 @@ pub use reader::{
 };
 
 // A child, counted below one owner.
-#[derive(Clone, Copy)]
+#[derive(Clone, Copy, PartialEq, Eq)]
 pub struct ChildNo(pub u16);
 
 // A record as the file has it: its nine numbers.
