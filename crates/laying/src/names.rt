@@ -37,7 +37,7 @@ pub fn count_up(list: &mut [u16], count: usize)
 fn stands(fields: Fields) -> bool
     ensures { result ≡ (is Const fields || is Clock fields) }
 {
-    (fields.kind == kinds::number_of(Kind::Const)) | (fields.kind == kinds::number_of(Kind::Clock))
+    (fields.kind == u8::from(Kind::Const)) | (fields.kind == u8::from(Kind::Clock))
 }
 
 // Lays the index of a primitive that stands behind those before.

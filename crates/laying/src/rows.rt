@@ -110,7 +110,7 @@ fn lay_output(outputs: &mut [u64], at: usize, drawn: Drawn) -> usize
     let Drawn::Primitive { fields, .. } = drawn else {
         return at;
     };
-    if fields.kind == kinds::number_of(Kind::Const) {
+    if fields.kind == u8::from(Kind::Const) {
         outputs[at] = fields.parameter;
         return at + 1;
     }

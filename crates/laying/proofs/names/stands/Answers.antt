@@ -3,4 +3,4 @@
 use Rattle.laying.proofs.names.stands.Goals as goal
 
 pub returns : goal.returns
-returns c = rw (c.number_of-2.ensures, c.number_of.ensures)
+returns c = rw (c.from-2.ensures, c.from.ensures)

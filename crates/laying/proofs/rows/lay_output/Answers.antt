@@ -11,22 +11,22 @@ returns-in_default c =
 pub bounds-outputs-at : goal.bounds-outputs-at
 bounds-outputs-at c =
     const_room _ _ c.args.drawn c.in-Primitive.is _
-    c.number_of.ensures c.args.outputs.now c.args.at c.if-fields-number_of.true c.requires
+    c.from.ensures c.args.outputs.now c.args.at c.if-fields-from.true c.requires
 
-pub returns-then-fields-number_of : goal.returns-then-fields-number_of
-returns-then-fields-number_of c =
+pub returns-then-fields-from : goal.returns-then-fields-from
+returns-then-fields-from c =
     const_laid _ _ c.args.drawn c.in-Primitive.is _
-    c.number_of.ensures c.args.outputs.now c.args.at c.if-fields-number_of.true
+    c.from.ensures c.args.outputs.now c.args.at c.if-fields-from.true
 
 pub zeros-requires : goal.zeros-requires
 zeros-requires c =
     zeros_room _ _ c.args.drawn c.in-Primitive.is _
-    c.number_of.ensures c.args.outputs.now c.args.at
-    c.if-fields-number_of.false
+    c.from.ensures c.args.outputs.now c.args.at
+    c.if-fields-from.false
     _ c.wide-count.ensures.0 c.requires
 
 pub returns : goal.returns
 returns c =
     zeros_laid _ _ c.args.drawn c.in-Primitive.is _
-    c.number_of.ensures c.args.outputs.now c.args.at
-    c.if-fields-number_of.false _ c.wide-count.ensures.0 _ c.zeros.ensures
+    c.from.ensures c.args.outputs.now c.args.at
+    c.if-fields-from.false _ c.wide-count.ensures.0 _ c.zeros.ensures
