@@ -17,7 +17,7 @@ fn is_named(file: &[u8], c: usize, id: Id, q: usize) -> bool
     let Stands::Component { owner, id: own, .. } = component_at(file, q) else {
         return false;
     };
-    (owner as usize == c) & (own.0 == id.0)
+    (owner as usize == c) & (own == id)
 }
 
 // The child of component c that has this id; the number of records where there is none.

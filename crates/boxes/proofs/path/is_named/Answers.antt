@@ -12,4 +12,4 @@ returns-in_default c =
 pub returns : goal.returns
 returns c =
     let a = c.args in
-    named_is (record_at a.file.now) a.c a.id.0 a.q _ c.component_at.ensures _ _ _ c.in-Component.is
+    rw c.eq.ensures (named_is (record_at a.file.now) a.c a.id.0 a.q _ c.component_at.ensures _ _ _ c.in-Component.is)
