@@ -173,12 +173,14 @@ fn update_as(kind: Kind, f: Fields, inputs: &[u64], outputs: &mut [u64], time: u
 
 // Evaluates a component that obeys the table of kinds over its own ports and no others. The answer is which of its outputs changed, bit
 // i for output i. `evaluate` calls it, crate rounds does for each component of a round, and crate judging for each that it judges: all
-// have tested what it requires.
+// have tested what it requires. The number of such a component is a kind's: the second arm is never taken.
 pub fn update(f: Fields, inputs: &[u64], outputs: &mut [u64], time: u64) -> u64
     requires { Own f inputs.now outputs.old }
     ensures { (result ≡ moved_outputs f inputs.now outputs.old time)
         × (outputs.new ≡ outputs_after f inputs.now outputs.old time) }
 {
-    let kind = Kind::try_from(f.kind).unwrap();
-    update_as(kind, f, inputs, outputs, time)
+    match Kind::try_from(f.kind) {
+        Ok(kind) => update_as(kind, f, inputs, outputs, time),
+        Err(_) => 0,
+    }
 }

@@ -4,9 +4,9 @@ ghost use Rattle.component.specs.Record.{record_at, record_count};
 ghost use Rattle.slow.specs.Slow.{slow_tables_of, slow_round_of, slow_bits, slow_counts_after, slow_counts_after_run, SlowRounds, SlowRuns, slow_counts_of};
 ghost use Rattle.slow.specs.Sending.{InRun};
 
+use crate::SlowCounts;
 use crate::leading::Drawn;
 use crate::preparing::{are_full, counts_for, prepare};
-use crate::SlowCounts;
 use kinds::Refusal;
 use rounds::round_over;
 use simulator::{Engine, Ran, run_over};
