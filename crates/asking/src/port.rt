@@ -44,5 +44,8 @@ pub fn berxundar_value(
         standing,
         counts_in(counts),
     );
-    lay(found, questions::value_of(&lent, side_of(side), FlatIdx(index), port).map(value_words))
+    lay(
+        found,
+        questions::value_of(&lent, side_of(side), FlatIdx(index), port).map(value_words),
+    )
 }

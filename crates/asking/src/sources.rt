@@ -42,5 +42,8 @@ pub fn berxundar_sources(
         standing,
         counts_in(counts),
     );
-    lay(found, questions::sources_of(&lent, FlatIdx(index), list).map(list_words))
+    lay(
+        found,
+        questions::sources_of(&lent, FlatIdx(index), list).map(list_words),
+    )
 }

@@ -42,5 +42,8 @@ pub fn berxundar_targets(
         standing,
         counts_in(counts),
     );
-    lay(found, questions::targets_of(&lent, FlatIdx(index), list).map(list_words))
+    lay(
+        found,
+        questions::targets_of(&lent, FlatIdx(index), list).map(list_words),
+    )
 }

@@ -56,5 +56,8 @@ pub fn berxundar_look(
         standing,
         counts_in(counts),
     );
-    lay(found, look::look(file, &lent, path, numbers, widths).map(looked_words))
+    lay(
+        found,
+        look::look(file, &lent, path, numbers, widths).map(looked_words),
+    )
 }
