@@ -39,4 +39,5 @@ returns c =
     let came = tables_of a.components.now a.inputs.now a.outputs.now a.wires.now a.current.now a.following.now a.standing.now in
     let e = same_given value_gives (λ (v : Value). v.number ∷ v.width ∷ []) (λ x. refl) (λ x. refl) r.result c.map.result c.map.ensures.cases in
     ask_made value_gives (λ T. AsksValue T (side_of a.side) a.index a.port) _ a.counts.now a.found.now came r.result m.result k.new.found k.result
-    c.if-counts-found.false m.ensures (subst (λ (x : Side). AsksValue (lent m.result) x a.index a.port r.result) c.side_of.ensures r.ensures) (k.ensures.said ∙ ap spoken e) (laid_as a.found.now e k.ensures.laid)
+    c.if-counts-found.false m.ensures (rw (c.new-lent.ensures, c.side_of.ensures) at r.ensures)
+    (k.ensures.said ∙ ap spoken e) (laid_as a.found.now e k.ensures.laid)
