@@ -43,5 +43,8 @@ pub fn berxundar_value(
         standing,
         counts_in(counts),
     );
-    lay_value(found, questions::value_of(&lent, side_of(side), FlatIdx(index), port))
+    lay_value(
+        found,
+        questions::value_of(&lent, side_of(side), FlatIdx(index), port),
+    )
 }
