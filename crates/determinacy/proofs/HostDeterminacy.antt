@@ -172,7 +172,7 @@ module _ (few : Bool) (ws fs : List ℕ) (lent : Counts → Tables) where
     λ side i port. asks value_gives _ (λ T. determinacy.17 T side i port),
     λ i. lists _ (λ T ls. determinacy.6 T i ls),
     λ i. lists _ (λ T ls. determinacy.7 T i ls),
-    asks (λ (k : ℕ). giving k []) _ determinacy.13,
+    asks (λ (k : ℕ). giving k []) _ (λ T a b x y. x ∙ sym y),
     evaluates,
     λ file path. looks _ (λ T. determinacy.8 file T path),
     mends,
