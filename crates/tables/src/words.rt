@@ -8,11 +8,3 @@ pub fn word(table: &[u64], at: usize) -> u64
 {
     table[at]
 }
-
-// A word of a table of 16-bit numbers: a component's index, or a port. Crates rounds, judging and slow call it likewise.
-pub fn entry(table: &[u16], at: usize) -> usize
-    requires { at < length table.now }
-    ensures { result ≡ get_or table.now at 0 }
-{
-    table[at] as usize
-}
