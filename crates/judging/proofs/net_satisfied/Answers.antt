@@ -1,7 +1,12 @@
 -- `net_satisfied`: no list names anything; or one names a component that does not agree; or the wires decide.
 -- Assumes nothing.
+use mathlib.Core.Path.{◌∙◌, ap}
 use mathlib.Core.List.{[]}
 use native.Mathlib.Omega.{arith}
+use lib.ListN.{take}
+use Rattle.lists.specs.Lists.{every}
+use Rattle.tables.specs.declared.Counts.{Counts}
+use Rattle.judging.specs.Judged.{component_agrees}
 use Rattle.lists.proofs.ListsLaws.{replicate_zero}
 use Rattle.rounds.proofs.Sound.{net_within, current_in, following_in, standing_in}
 use Rattle.rounds.proofs.RoundLaws.{net_wires}
@@ -52,8 +57,8 @@ judge_list-requires-2 c =
 pub returns-then-not-judge_list-2 : goal.returns-then-not-judge_list-2
 returns-then-not-judge_list-2 c =
     following_fails c.args.lent.now c.requires
-    (rw (c.counts-counts.ensures, c.components-components.ensures, c.inputs-inputs.ensures, c.outputs-outputs.ensures, c.following.ensures)
-    at c.if-not-judge_list-2.ensures.0)
+    ((rw (c.components-components.ensures, c.inputs-inputs.ensures, c.outputs-outputs.ensures, c.following.ensures) at c.if-not-judge_list-2.ensures.0)
+    ∙ ap (λ (m : Counts). every (component_agrees c.args.lent.now) (take m.following c.args.lent.now.following)) c.counts-counts.ensures)
 
 pub judge_list-requires-3 : goal.judge_list-requires-3
 judge_list-requires-3 c =
@@ -69,8 +74,8 @@ judge_list-requires-3 c =
 pub returns-then-not-judge_list-3 : goal.returns-then-not-judge_list-3
 returns-then-not-judge_list-3 c =
     standing_fails c.args.lent.now c.requires
-    (rw (c.counts-counts.ensures, c.components-components.ensures, c.inputs-inputs.ensures, c.outputs-outputs.ensures, c.standing.ensures)
-    at c.if-not-judge_list-3.ensures.0)
+    ((rw (c.components-components.ensures, c.inputs-inputs.ensures, c.outputs-outputs.ensures, c.standing.ensures) at c.if-not-judge_list-3.ensures.0)
+    ∙ ap (λ (m : Counts). every (component_agrees c.args.lent.now) (take m.standing c.args.lent.now.standing)) c.counts-counts.ensures)
 
 pub judge_wires-requires : goal.judge_wires-requires
 judge_wires-requires c =
