@@ -21,8 +21,7 @@ fn only_clocks(components: &[u64], list: &[u16], count: usize) -> bool
     true
 }
 
-// Whether all three lists of a net name only Clocks. Crate questions asks it, and crates simulator and slow after each round of a run until
-// calm.
+// Whether all three lists of a net name only Clocks. Crate questions asks it, and crate simulator after each round of a run until calm.
 pub fn net_calm(
     components: &[u64],
     current: &[u16],

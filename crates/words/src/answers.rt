@@ -43,8 +43,8 @@ fn lay_words<const N: usize>(lent: &mut [u64], words: [u64; N])
     }
 }
 
-// Lays the words of an answer at the front of lent ones, and says its number and position. A refusal lays nothing. Crates asking, changing,
-// host and slowly call it with the words of their answers, where what is done has room.
+// Lays the words of an answer at the front of lent ones, and says its number and position. A refusal lays nothing. Crates asking, host
+// and slowly call it with the words of their answers, where what is done has room.
 pub fn lay<const N: usize>(found: &mut [u64], answer: Result<[u64; N], Refusal>) -> u32
     requires room { (words : List ℕ) → answer ≡ Ok words → N ≤ length found.old }
     requires small { spoken (words_give answer) < 4294967296 }
