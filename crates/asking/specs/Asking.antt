@@ -1,5 +1,5 @@
 -- What the questions of the screen's host promise. docs/SPECIFICATION.md, "Rounds" (the host's call) and "Numbers given back". Each promise is the
--- engine's own, by name, on the tables that the lent slices and the count words make.
+-- engine's own, by name, and of the call that only checks the number of the check, on the tables that the lent slices and the count words make.
 --   CallAsks, CallLists   the promises of the calls, by their shape
 --   Numbers               what is asked by the call that only checks
 -- `lent` are the seven tables, by their counts; ws are the count words, fs and fs' the words that are lent for an answer's values, before and after;

@@ -1,6 +1,6 @@
 // The questions of the screen's host program, which is written in C. Rules: docs/SPECIFICATION.md, "Rounds", its last paragraph, and
-// "Numbers given back". host/berxundar.h declares them. Each has its engine's own promise, on the tables that the lent slices and
-// count words make; a function of many slices stands in a module of its own.
+// "Numbers given back". host/berxundar.h declares them. Each has its engine's own promise, and the call that only checks the number of the
+// check, on the tables that the lent slices and count words make; a function of many slices stands in a module of its own.
 #![tactic(auto)]
 
 mod answers;

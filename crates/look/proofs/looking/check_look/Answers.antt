@@ -1,6 +1,7 @@
 -- `check_look`: each way out is one of the cases of the definition.
 -- Assumes nothing.
-use mathlib.Core.Path.{ap}
+use mathlib.Core.Path.{ap, ◌∙◌}
+use Rattle.std.specs.Prelude.{Err}
 use native.Mathlib.Omega.{arith}
 use Rattle.kinds.specs.Given.{refusing}
 use Rattle.kinds.proofs.GivenLaws.{handed_on}
@@ -43,8 +44,8 @@ returns-then-file-place c =
 pub returns-then-is_dangling : goal.returns-then-is_dangling
 returns-then-is_dangling c =
     let a = c.args in
-    rw c.refused_by-then-is_dangling.ensures
-    (ap refusing (number_21 (record_at a.file.now) (record_count a.file.now) a.lent.now a.place c.requires.lent_value _ c.check_net.ensures
+    ap Err c.refused_by-then-is_dangling.ensures
+    ∙ (ap refusing (number_21 (record_at a.file.now) (record_count a.file.now) a.lent.now a.place c.requires.lent_value _ c.check_net.ensures
     c.in_ok-check_net.was _ c.is_matched.ensures c.if-not-is_matched.false c.if-file-place.false _ c.is_dangling.ensures c.if-is_dangling.true))
 
 pub returns : goal.returns
