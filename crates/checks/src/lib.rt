@@ -23,7 +23,7 @@ use index::{child_of, out_map_count};
 use kinds::{Id, Kind, number_of};
 pub use passes::{first10, first11, first13, place_mark};
 
-// 3: the record is not taken apart. Crate flatten calls it over all records of a file, and so each of the other checks of one record, in number order.
+// 3: the record is not taken apart. Crate flatten calls it, and each of the other checks of one record, over all records of a file, in number order.
 pub fn check3(file: &[u8], p: usize) -> bool
     ensures { result ≡ fails3 (record_at file.now) p }
 {
@@ -56,7 +56,7 @@ fn falls(here: Says, owner: u16, before: Says, was: u16) -> bool
     }
 }
 
-// 4: kinds do not fall, nor owners among equal kinds 2 to 4; the first record is of kind 1. Check 3 has passed.
+// 4: kinds do not fall, nor owners among equal kinds 2 to 4; the first record is of kind 1. Check 3 has passed. Crate flatten calls it.
 pub fn check4(file: &[u8], p: usize) -> bool
     requires { Readable file.now × (fails3 (record_at file.now) p ≡ false) }
     ensures { result ≡ fails4 (record_at file.now) p }
@@ -108,6 +108,7 @@ pub fn is_composite_at(file: &[u8], p: usize) -> bool
 }
 
 // 5: the root's owner is 0; any other is a composite, a component's one that is the component before or holds it. Check 3 has passed.
+// Crate flatten calls it.
 pub fn check5(file: &[u8], p: usize) -> bool
     requires { Readable file.now × (fails3 (record_at file.now) p ≡ false) }
     ensures { result ≡ fails5 (record_at file.now) p }
@@ -149,7 +150,7 @@ fn deeper(file: &[u8], d: u8, p: usize) -> bool
     true
 }
 
-// 6: component number 256 or more, or too deep.
+// 6: component number 256 or more, or too deep. Crate flatten calls it where check 3 has passed, as it does the next three.
 pub fn check6(file: &[u8], p: usize) -> bool
     requires { Readable file.now }
     ensures { result ≡ fails6 (record_at file.now) p }
@@ -163,7 +164,7 @@ pub fn check6(file: &[u8], p: usize) -> bool
     deeper(file, deepest(), p)
 }
 
-// 7: the kind is the one kept for Custom.
+// 7: the kind is the one kept for Custom. Crate flatten calls it likewise.
 pub fn check7(file: &[u8], p: usize) -> bool
     requires { Readable file.now }
     ensures { result ≡ fails7 (record_at file.now) p }
@@ -174,7 +175,7 @@ pub fn check7(file: &[u8], p: usize) -> bool
     kinds::is_kept(fields.kind)
 }
 
-// 8: the kind is none.
+// 8: the kind is none. Crate flatten calls it likewise.
 pub fn check8(file: &[u8], p: usize) -> bool
     requires { Readable file.now }
     ensures { result ≡ fails8 (record_at file.now) p }
@@ -185,7 +186,7 @@ pub fn check8(file: &[u8], p: usize) -> bool
     kinds::is_unknown(fields.kind)
 }
 
-// 9: the component breaks the table of kinds.
+// 9: the component breaks the table of kinds. Crate flatten calls it likewise.
 pub fn check9(file: &[u8], p: usize) -> bool
     requires { Readable file.now }
     ensures { result ≡ fails9 (record_at file.now) p }
@@ -258,7 +259,7 @@ pub fn has_input(file: &[u8], c: usize, i: u16) -> bool
     i < fields.inputs
 }
 
-// Whether component c has an output i.
+// Whether component c has an output i. Crate mend calls it likewise.
 pub fn has_output(file: &[u8], c: usize, i: u16) -> bool
     requires { Readable file.now }
     ensures { result ≡ ltb i (outputs_of (record_at file.now c)) }
@@ -269,7 +270,7 @@ pub fn has_output(file: &[u8], c: usize, i: u16) -> bool
     i < fields.outputs
 }
 
-// 12: a child or port in kinds 2 to 4 does not exist.
+// 12: a child or port in kinds 2 to 4 does not exist. Crate flatten calls it with the index filled.
 pub fn check12(file: &[u8], index: &[u16], p: usize) -> bool
     requires { IsIndex file.now index.now }
     ensures { result ≡ fails12 (record_at file.now) (record_count file.now) p }
@@ -353,7 +354,8 @@ pub fn earlier_of(file: &[u8], p: usize) -> usize
     p
 }
 
-// 14: a composite's output maps differ in number from its outputs. Check 6 has passed, so that the index has a word of it.
+// 14: a composite's output maps differ in number from its outputs. Check 6 has passed, so that the index has a word of it. Crate
+// flatten calls it with the index filled.
 pub fn check14(file: &[u8], index: &[u16], p: usize) -> bool
     requires { IsIndex file.now index.now × (fails6 (record_at file.now) p ≡ false) }
     ensures { result ≡ fails14 (record_at file.now) (record_count file.now) p }

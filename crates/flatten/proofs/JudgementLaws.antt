@@ -207,3 +207,8 @@ verdict_bound s r e = by_size (sized s) refl e
         let y : 1 ≡ r.number = ap (λ (x : Refusal). x.number) z in
         let w : 0 ≡ r.position = ap (λ (x : Refusal). x.position) z in
         (omega arith, omega arith, sym (ap (λ (x : Refusal). x.earlier) z))
+
+-- What a search with a test ends with, where the test says what f does: the first position that f holds of.
+pub first_by : {P : ℕ → Type 0} {Q : Type 0} (f : ℕ → Bool) (n r : ℕ) → (r ≤ n) × ((p : ℕ) → p < r → P p) × (r < n → Q)
+    → ((p : ℕ) → P p → f p ≡ false) → (Q → f r ≡ true) → IsFirst f n r
+first_by f n r e passes fails = record { within = e.0; before = λ p h. passes p (e.1 p h); here = λ h. fails (e.2 h) }

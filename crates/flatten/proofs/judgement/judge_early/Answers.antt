@@ -12,18 +12,13 @@ use Rattle.component.specs.Record.{record_at}
 use Rattle.component.specs.Drawing.{fails3}
 use Rattle.component.specs.Reading.{Readable}
 use Rattle.flatten.proofs.Accepted.{passed_check}
-use Rattle.flatten.proofs.JudgementLaws.{readable_before}
+use Rattle.flatten.proofs.JudgementLaws.{readable_before, first_by}
 use Rattle.flatten.proofs.judgement.judge_early.Goals as goal
 
 -- 3
 pub refused_at-requires-clause-first : goal.refused_at-requires-clause-first
 refused_at-requires-clause-first c =
-    let e = c.first_failing.ensures in (
-      c.requires,
-      omega arith,
-      omega arith,
-      record { within = e.0; before = λ p h. let k = e.1 p h in search (rules, tests); here = λ h. let k = e.2 h in search (rules, tests) },
-    )
+    (c.requires, omega arith, omega arith, first_by _ _ _ c.first_failing.ensures (λ p k. search (rules, tests)) (λ k. search (rules, tests)))
 
 -- 4
 pub first_failing-requires-2 : goal.first_failing-requires-2
@@ -37,12 +32,7 @@ first_failing-requires-2 c =
 
 pub refused_at-requires-2-clause-first : goal.refused_at-requires-2-clause-first
 refused_at-requires-2-clause-first c =
-    let e = c.first_failing-2.ensures in (
-      c.requires,
-      omega arith,
-      omega arith,
-      record { within = e.0; before = λ p h. let k = e.1 p h in search (rules, tests); here = λ h. let k = e.2 h in search (rules, tests) },
-    )
+    (c.requires, omega arith, omega arith, first_by _ _ _ c.first_failing-2.ensures (λ p k. search (rules, tests)) (λ k. search (rules, tests)))
 
 -- 5
 pub first_failing-requires-3 : goal.first_failing-requires-3
@@ -56,12 +46,7 @@ first_failing-requires-3 c =
 
 pub refused_at-requires-3-clause-first : goal.refused_at-requires-3-clause-first
 refused_at-requires-3-clause-first c =
-    let e = c.first_failing-3.ensures in (
-      c.requires,
-      omega arith,
-      omega arith,
-      record { within = e.0; before = λ p h. let k = e.1 p h in search (rules, tests); here = λ h. let k = e.2 h in search (rules, tests) },
-    )
+    (c.requires, omega arith, omega arith, first_by _ _ _ c.first_failing-3.ensures (λ p k. search (rules, tests)) (λ k. search (rules, tests)))
 
 -- 6
 pub first_failing-requires-4 : goal.first_failing-requires-4
@@ -73,12 +58,7 @@ first_failing-requires-4 c =
 
 pub refused_at-requires-4-clause-first : goal.refused_at-requires-4-clause-first
 refused_at-requires-4-clause-first c =
-    let e = c.first_failing-4.ensures in (
-      c.requires,
-      omega arith,
-      omega arith,
-      record { within = e.0; before = λ p h. let k = e.1 p h in search (rules, tests); here = λ h. let k = e.2 h in search (rules, tests) },
-    )
+    (c.requires, omega arith, omega arith, first_by _ _ _ c.first_failing-4.ensures (λ p k. search (rules, tests)) (λ k. search (rules, tests)))
 
 -- 7
 pub first_failing-requires-5 : goal.first_failing-requires-5
@@ -90,12 +70,7 @@ first_failing-requires-5 c =
 
 pub refused_at-requires-5-clause-first : goal.refused_at-requires-5-clause-first
 refused_at-requires-5-clause-first c =
-    let e = c.first_failing-5.ensures in (
-      c.requires,
-      omega arith,
-      omega arith,
-      record { within = e.0; before = λ p h. let k = e.1 p h in search (rules, tests); here = λ h. let k = e.2 h in search (rules, tests) },
-    )
+    (c.requires, omega arith, omega arith, first_by _ _ _ c.first_failing-5.ensures (λ p k. search (rules, tests)) (λ k. search (rules, tests)))
 
 -- 8
 pub first_failing-requires-6 : goal.first_failing-requires-6
@@ -107,12 +82,7 @@ first_failing-requires-6 c =
 
 pub refused_at-requires-6-clause-first : goal.refused_at-requires-6-clause-first
 refused_at-requires-6-clause-first c =
-    let e = c.first_failing-6.ensures in (
-      c.requires,
-      omega arith,
-      omega arith,
-      record { within = e.0; before = λ p h. let k = e.1 p h in search (rules, tests); here = λ h. let k = e.2 h in search (rules, tests) },
-    )
+    (c.requires, omega arith, omega arith, first_by _ _ _ c.first_failing-6.ensures (λ p k. search (rules, tests)) (λ k. search (rules, tests)))
 
 -- 9
 pub first_failing-requires-7 : goal.first_failing-requires-7
@@ -124,12 +94,7 @@ first_failing-requires-7 c =
 
 pub refused_at-requires-7-clause-first : goal.refused_at-requires-7-clause-first
 refused_at-requires-7-clause-first c =
-    let e = c.first_failing-7.ensures in (
-      c.requires,
-      omega arith,
-      omega arith,
-      record { within = e.0; before = λ p h. let k = e.1 p h in search (rules, tests); here = λ h. let k = e.2 h in search (rules, tests) },
-    )
+    (c.requires, omega arith, omega arith, first_by _ _ _ c.first_failing-7.ensures (λ p k. search (rules, tests)) (λ k. search (rules, tests)))
 
 -- 10
 pub first10-requires : goal.first10-requires

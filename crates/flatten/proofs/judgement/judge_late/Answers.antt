@@ -10,18 +10,14 @@ use borrow.Author.Tests.{tests}
 use Rattle.std.proofs.iter.Serving.{serving}
 use Rattle.component.specs.Record.{record_at}
 use Rattle.component.specs.Drawing.{fails6}
+use Rattle.flatten.proofs.JudgementLaws.{first_by}
 use Rattle.flatten.proofs.Accepted.{passed_check}
 use Rattle.flatten.proofs.judgement.judge_late.Goals as goal
 
 -- 12
 pub refused_at-requires-clause-first : goal.refused_at-requires-clause-first
 refused_at-requires-clause-first c =
-    let e = c.first_failing.ensures in (
-      c.requires.0.few,
-      omega arith,
-      omega arith,
-      record { within = e.0; before = λ p h. let k = e.1 p h in search (rules, tests); here = λ h. let k = e.2 h in search (rules, tests) },
-    )
+    (c.requires.0.few, omega arith, omega arith, first_by _ _ _ c.first_failing.ensures (λ p k. search (rules, tests)) (λ k. search (rules, tests)))
 
 -- 14, of a record that check 6 passes
 pub first_failing-requires-2 : goal.first_failing-requires-2
@@ -33,9 +29,4 @@ first_failing-requires-2 c =
 
 pub refused_at-requires-3-clause-first : goal.refused_at-requires-3-clause-first
 refused_at-requires-3-clause-first c =
-    let e = c.first_failing-2.ensures in (
-      c.requires.0.few,
-      omega arith,
-      omega arith,
-      record { within = e.0; before = λ p h. let k = e.1 p h in search (rules, tests); here = λ h. let k = e.2 h in search (rules, tests) },
-    )
+    (c.requires.0.few, omega arith, omega arith, first_by _ _ _ c.first_failing-2.ensures (λ p k. search (rules, tests)) (λ k. search (rules, tests)))
