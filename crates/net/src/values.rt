@@ -13,13 +13,16 @@ fn all_fit(ports: &[u64], start: usize, count: usize, width: u64) -> bool
     requires { start + count ≤ length ports.now }
     ensures { result ≡ all_fit width (numbers ports.now start count) }
 {
-    ports[start..start + count].iter().all(|number| {
+    for number in &ports[start..start + count] {
         let held = Value {
             number: *number,
             width,
         };
-        held.fits().fits
-    })
+        if !held.fits().fits {
+            return false;
+        }
+    }
+    true
 }
 
 // Whether the values of component i fit its ports, each of whose inputs has `inward` bits and each output `outward`. Crates net and slow call

@@ -234,7 +234,7 @@ keep_map f g (x ∷ xs) = by_test (f (g x)) (keep_map f g xs)
     by_test true e = ap (λ (l : List Wire). g x ∷ l) e
     by_test false e = e
 
-follows_from : (ws : List ℕ) (n : ℕ) (head after : List ℕ) (vs : List Wire) (f : Follows ws n head after vs) (i : ℕ)
+pub follows_from : (ws : List ℕ) (n : ℕ) (head after : List ℕ) (vs : List Wire) (f : Follows ws n head after vs) (i : ℕ)
     → wires_from vs i ≡ map (wire_in ws) (numbers_from ws i f.order)
 follows_from ws n head after vs f i =
     ap (λ (us : List Wire). wires_from us i) f.these ∙ keep_map (λ (w : Wire). eqb w.src.comp.0 i) (wire_in ws) f.order

@@ -19,32 +19,33 @@ ghost use Rattle.rounds.specs.Round.{state_of, wires_from, turn, leave, send, ev
 ghost use Rattle.rounds.specs.Steps.{bare, state_at, CanEvaluate, CanSend, ListFits, Step};
 ghost use Rattle.rounds.specs.Links.{Follows, HasLinks, IsListed, ListMarked, ListCovered};
 
-use crate::marks::{append_marked, mark};
+use crate::marks::append_marked;
 pub use calm::net_calm;
 use kinds::Kind;
 pub use leaving::{Linked, Wiring};
 pub use links::{NO_WIRE, is_order, link_by, link_once};
+pub use marks::mark;
 use tables::{Counts, Wire};
 
 // How many entries of the following and the standing list are in use.
 #[derive(Clone, Copy)]
-struct Sizes {
-    following: usize,
-    standing: usize,
+pub struct Sizes {
+    pub following: usize,
+    pub standing: usize,
 }
 
 // What an evaluation comes to: the standing list's new count, and which outputs changed, bit i for output i.
 #[derive(Clone, Copy)]
-struct Outcome {
-    standing: usize,
-    moved: u64,
+pub struct Outcome {
+    pub standing: usize,
+    pub moved: u64,
 }
 
 // What a visit comes to: the new counts of the two lists, and which outputs changed.
 #[derive(Clone, Copy)]
-struct Visited {
-    sizes: Sizes,
-    moved: u64,
+pub struct Visited {
+    pub sizes: Sizes,
+    pub moved: u64,
 }
 
 // One wire: if output and input differ, writes the input and appends the target to the following list unless there. The answer is
@@ -77,8 +78,9 @@ pub fn send_along(
 }
 
 // Evaluates component i in the tables of ports and, unless it is a Clock, strikes it from the standing list. What the list named at
-// the round's start is marked in `stood`: any other component is not there to be struck.
-fn evaluate_at(
+// the round's start is marked in `stood`: any other component is not there to be struck. Crate rounds calls it for a component of a net;
+// public for a crate that makes rounds of its own.
+pub fn evaluate_at(
     components: &[u64],
     inputs: &[u64],
     outputs: &mut [u64],
@@ -223,8 +225,9 @@ fn visit_all<W: Wiring>(
 }
 
 // The end of a round: current becomes following, and following becomes a copy of standing. `next` and `left` are the following and
-// the standing list that the round has made; entries past their counts stay what they were in the lent tables.
-fn end_round(
+// the standing list that the round has made; entries past their counts stay what they were in the lent tables. Crate rounds calls it where
+// all tables have room; public for a crate that makes rounds of its own.
+pub fn end_round(
     next: &[u16],
     left: &[u16],
     current: &mut [u16],

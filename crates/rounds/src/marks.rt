@@ -3,8 +3,9 @@ ghost use Rattle.std.specs.Prelude.{◌≡◌, [], ℕ, ◌≤◌, ◌<◌, leng
 ghost use Rattle.lists.specs.Lists.{append_new, overlay};
 ghost use Rattle.rounds.specs.Links.{IsListed};
 
-// Marks what the first `count` entries of a list name, where nothing is marked yet.
-pub(crate) fn mark(list: &[u16], count: usize, marks: &mut [u8; 256])
+// Marks what the first `count` entries of a list name, where nothing is marked yet. Crate rounds calls it for lists of a net; public for a
+// crate that makes rounds of its own.
+pub fn mark(list: &[u16], count: usize, marks: &mut [u8; 256])
     requires { (count ≤ length list.now) × ((j : ℕ) → j < count → get_or list.now j 0 < 256) × IsListed marks.old [] }
     ensures { IsListed marks.new (take count list.now) }
 {

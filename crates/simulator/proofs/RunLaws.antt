@@ -1,6 +1,7 @@
 -- Run until calm: a turn of the loop, its end, and the call.
 --   on_top r e m x      r rounds, e evaluations and m bits set before the run x
 --   stopped_by round bits b k T   nothing more if b, else at most k rounds more
+--   stopped t b k T    the same of rounds of a net at time t
 -- Assumes nothing.
 use mathlib.Core.Path.{◌≡◌, refl, sym, ap, ◌∙◌}
 use mathlib.Core.Bool.{Bool, true, false, cond, not, ◌&&◌}
@@ -17,12 +18,13 @@ use Rattle.lists.proofs.TestsLaws.{and_left, and_right}
 use Rattle.kinds.specs.declared.answers.Refusal.{Refusal}
 use Rattle.kinds.specs.Given.{Verdict, done}
 use Rattle.tables.specs.declared.Counts.{Counts}
+use Rattle.tables.specs.declared.Wire.{Wire}
 use Rattle.tables.specs.Tables.{Tables, wires_in, current_list, count_words}
 use Rattle.tables.proofs.NamedLaws.{overlay_list}
 use Rattle.net.specs.Net.{net_number, Checks}
-use Rattle.rounds.specs.Round.{state_of, wires_from, calm, round_bits, round_of}
+use Rattle.rounds.specs.Round.{state_of, wires_from, moved_by, calm, round_bits, round_of}
 use Rattle.rounds.proofs.MovedLaws.{moved_by-length}
-use Rattle.simulator.specs.Calls.{bits_set, Run, no_round, once_more, run_by, run, run_tables, Runs}
+use Rattle.simulator.specs.Calls.{round_tables, bits_set, Run, no_round, once_more, run_by, run, run_tables, Runs}
 use Rattle.simulator.proofs.Kept.{round_tables-done, round_tables-net}
 use Rattle.rounds.proofs.Sound.{current_in}
 use Rattle.simulator.proofs.CallsLaws.{counted, call_refused, call_made}
@@ -92,6 +94,14 @@ pub counted_front : (bits ms ns : List ℕ) (n k : ℕ) → length bits ≡ n �
     → k ≡ total bits_set bits
 counted_front bits ms ns n k l e ek = ek ∙ ap (total bits_set) (rw e (overlay_list bits ms n (sym l)))
 
+-- The words that a round's bits are laid over: at their front stand the bits.
+pub bits_front : (T : Tables) (leaving : ℕ → List Wire) (t : ℕ) (ms ns : List ℕ) → length (current_list T) ≡ T.counts.current
+    → ns ≡ overlay (moved_by T leaving t (state_of T) (current_list T)) ms
+    → take T.counts.current ns ≡ moved_by T leaving t (state_of T) (current_list T)
+bits_front T leaving t ms ns listed e =
+    rw e (overlay_list (moved_by T leaving t (state_of T) (current_list T)) ms T.counts.current
+    (sym (moved_by-length T leaving t (state_of T) (current_list T) ∙ listed)))
+
 -- A round of the tables T, which are a net, at time t.
 module _ (t : ℕ) (T : Tables) where
   pub round_net : (U : Tables) → net_number T ≡ 0 → U ≡ round_of t T → net_number U ≡ 0
@@ -105,6 +115,21 @@ module _ (t : ℕ) (T : Tables) where
     pub bits_length : length (round_bits t T) ≡ T.counts.current
     unfolding round_bits
     bits_length = moved_by-length T (wires_from (wires_in T)) t (state_of T) (current_list T) ∙ net_current
+
+-- A turn of the loop by rounds of a net at time t.
+module _ (t : ℕ) where
+  abbrev pub stopped : Bool → ℕ → Tables → Run
+  stopped b k T = stopped_by (λ V. round_tables V t) (round_bits t) b k T
+
+  -- One round: of the tables T, which are a net, it leaves the tables U.
+  module _ (T U : Tables) (net : net_number T ≡ 0) (made : U ≡ round_of t T) where
+    pub run_turn : (limit r e m n : ℕ) (c : Bool) (x : Run) (ms bits : List ℕ) → r < limit → c ≡ calm U → bits ≡ overlay (round_bits t T) ms
+        → n ≡ total bits_set (take T.counts.current bits)
+        → on_top r e m (stopped false (limit - r) T) ≡ x
+        → on_top (r + 1) (e + T.counts.current) (m + n) (stopped c (limit - (r + 1)) U) ≡ x
+    run_turn limit r e m n c x ms bits h q over counted so_far =
+        run_by-turn (λ V. round_tables V t) (round_bits t) T U (round_tables-done T t net ∙ sym made) (net_current t T net) limit r e m n c x h q
+        (counted_front (round_bits t T) ms bits T.counts.current n (bits_length t T net) over counted) so_far
 
 -- The loop's test.
 pub test_going : (b : Bool) (r limit : ℕ) → (not b && ltb r limit) ≡ true → b ≡ false

@@ -13,6 +13,7 @@ mod standing;
 pub use calls::{round, run_until_calm};
 pub use edits::{check_port, set_port};
 pub use first::edit;
+pub use moved::count_moved;
 pub use ordered::round_ordered;
 pub use runs::{Engine, run_over};
 pub use standing::edit_standing;

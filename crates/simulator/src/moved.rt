@@ -10,8 +10,9 @@ fn bits_set(word: u64) -> u32
     u64::count_ones(word)
 }
 
-// How many bits are set in the first `count` words.
-pub(crate) fn count_moved(bits: &[u64], count: usize) -> u32
+// How many bits are set in the first `count` words. Crate simulator calls it for what a round has passed on; public for a crate that runs
+// rounds of its own.
+pub fn count_moved(bits: &[u64], count: usize) -> u32
     requires { (count ≤ length bits.now) × (count ≤ 256) }
     ensures { result ≡ total bits_set (take count bits.now) }
 {

@@ -1,13 +1,9 @@
 -- `round`: with room for the bits the check of the net decides; where it passes the tables are a net, and the round is made.
 -- Assumes nothing.
-use mathlib.Core.Path.{◌∙◌}
 use native.Mathlib.Omega.{arith}
 use Rattle.kinds.proofs.GivenLaws.{handed_on}
 use Rattle.tables.specs.Tables.{tables_of}
 use Rattle.net.proofs.NetLaws.{passed_net}
-use Rattle.rounds.proofs.Sound.{net_within}
-use Rattle.rounds.proofs.LinksLaws.{linked_none}
-use Rattle.simulator.proofs.Kept.{round_tables-done}
 use Rattle.simulator.proofs.CallsLaws.{round_short, round_refused, round_made}
 use Rattle.simulator.proofs.calls.round.Goals as goal
 
@@ -24,19 +20,17 @@ returns-in_err-check_net c =
     rw (handed_on c.from_residual.result _ c.from_residual.ensures.1)
     (round_refused came a.time a.moved.now (omega arith) _ (rw c.new-lent.ensures at c.check_net.ensures) _ c.in_err-check_net.was)
 
-pub round-requires : goal.round-requires
-round-requires c =
+pub round_of_net-requires : goal.round_of_net-requires
+round_of_net-requires c =
     let a = c.args in
     let came = tables_of a.components.now a.inputs.now a.outputs.now a.wires.now a.current.now a.following.now a.standing.now a.counts in
-    let z = passed_net came _ (rw c.new-lent.ensures at c.check_net.ensures) c.in_ok-check_net.was in
-    ((z, linked_none a.wires.now a.counts.wires (net_within came z).wires), omega arith)
+    (passed_net came _ (rw c.new-lent.ensures at c.check_net.ensures) c.in_ok-check_net.was, omega arith)
 
 pub returns : goal.returns
 returns c =
     let a = c.args in
     let came = tables_of a.components.now a.inputs.now a.outputs.now a.wires.now a.current.now a.following.now a.standing.now a.counts in
-    let z = passed_net came _ (rw c.new-lent.ensures at c.check_net.ensures) c.in_ok-check_net.was in
-    let r = c.round in
+    let r = c.round_of_net in
     let left = tables_of a.components.now r.new.inputs r.new.outputs a.wires.now r.new.current r.new.following r.new.standing r.result in
     round_made came a.time a.moved.now (omega arith) _ (rw c.new-lent.ensures at c.check_net.ensures) c.in_ok-check_net.was left r.result _
-    (r.ensures.0 ∙ round_tables-done came a.time z) r.ensures.1
+    r.ensures.0 r.ensures.1

@@ -22,7 +22,8 @@ returns-in_err-check_net c =
 pub is_driven-entered-requires : goal.is_driven-entered-requires
 is_driven-entered-requires c =
     let T = c.args.lent.now in
-    rw (c.counts-counts.ensures, c.wires.ensures) (net_wires T (passed_net T _ c.check_net.ensures c.in_ok-check_net.was))
+    rw c.wires.ensures
+    (omega (arith, net_wires T (passed_net T _ c.check_net.ensures c.in_ok-check_net.was), ap (λ (m : Counts). m.wires) c.counts-counts.ensures))
 
 pub check_port-requires : goal.check_port-requires
 check_port-requires c =
