@@ -32,7 +32,7 @@ use Rattle.std.specs.Option.{option_eq}
 use Rattle.std.proofs.Math.Bool.{and_assoc}
 use Rattle.checks.specs.contracts.EntryPartialEq.TheImpl.{eq-value}
 use Rattle.component.specs.Record.{record_at, to_of, input_of}
-use Rattle.component.specs.Reading.{id_of, owner_of, form_of, apart, form_by, said, StandsAs}
+use Rattle.component.specs.Reading.{id_of, owner_of, form_of, apart, form_by, said, number, given, StandsAs}
 use Rattle.checks.specs.Checks.{EntryAs}
 use Rattle.component.specs.Record.{inputs_of, outputs_of, is_primitive, composite}
 use Rattle.component.specs.Record.{entering, entering_as}
@@ -45,6 +45,41 @@ use Rattle.component.specs.Drawing.{missing, fails10, fails12, fails13, fails14,
 use Rattle.component.specs.contracts.Says.{the_type}
 use Rattle.component.proofs.RecordLaws.{form_by-tag, no_component, refused_is, taken_is, taken_form, taken_owner, unseen_test, unseen_fields, seen_is}
 use Rattle.component.proofs.ScanLaws.{tested}
+
+-- A check fails, or not; r is the number that it gives back, as `given` of crate component answers it.
+module _ (k : ℕ) (b : Bool) where
+  pub given_fails : true ≡ b → k ≡ given k b
+  given_fails e = ap (given k) e
+
+  pub given_passes : false ≡ b → 0 ≡ given k b
+  given_passes e = ap (given k) e
+
+  pub given_by : (r : ℕ) (a : Bool) → r ≡ given k a → a ≡ b → r ≡ given k b
+  given_by r a h e = h ∙ ap (given k) e
+
+  -- and what the number given says of it: it is not 0; it is 0
+  module _ (r : ℕ) (e : r ≡ given k b) where
+    pub given_failed : (r ≡ 0 → ⊥) → b ≡ true
+    given_failed h = by_test b e
+      where
+        by_test : (c : Bool) → r ≡ given k c → c ≡ true
+        by_test true d = refl
+        by_test false d = absurd (h d)
+
+    pub given_passed : r ≡ 0 → 0 < k → b ≡ false
+    given_passed z h = by_test b e
+      where
+        by_test : (c : Bool) → r ≡ given k c → c ≡ false
+        by_test true d = absurd (omega arith)
+        by_test false d = refl
+
+-- The number that reading a record gives: taken apart; refused
+module _ (m : ℕ) (r : Reading) (e : number r ≡ m) where
+  pub number_taken : {o : ℕ} {x : Says} → r ≡ Taken o x → 0 ≡ m
+  number_taken h = sym (ap number h) ∙ e
+
+  pub number_refused : (k : ℕ) → r ≡ Refused k → k ≡ m
+  number_refused k h = sym (ap number h) ∙ e
 
 -- 4: the order of two record kinds
 module _ (f g o m : ℕ) where
@@ -124,13 +159,16 @@ module _ (s : List ℕ) where
     pub fails3_taken : (o : ℕ) (x : Says) → r ≡ Taken o x → false ≡ fails3 (record_at s) p
     fails3_taken o x h = sym (ne_eqb (form_of (record_at s p)) 0 (λ z. form_by-some x (sym (taken_form (record_at s p) r e o x h) ∙ z)))
 
-  -- 4: the first record; one after a refused one; any other
+  -- 4: the first record, and where it is no component; one after a refused one; any other
   pub fails4_first : (p : ℕ) (g : Option Seen) (b : Bool) → p ≡ 0 → StandsAs g (record_at s 0) → is_some g ≡ not b → b ≡ fails4 (record_at s) p
   fails4_first p g b z e h = by_case g e h ∙ ap (fails4 (record_at s)) (sym z)
     where
       by_case : (g : Option Seen) → StandsAs g (record_at s 0) → is_some g ≡ not b → b ≡ fails4 (record_at s) 0
       by_case None e h = rw (unseen_test (record_at s 0) None e refl, not-false b (sym h))
       by_case (Some x) e h = rw (e, not-true b (sym h))
+
+  pub fails4_first_none : (p : ℕ) (g : Option Seen) → p ≡ 0 → StandsAs g (record_at s 0) → g ≡ None → true ≡ fails4 (record_at s) p
+  fails4_first_none p g z e h = rw (z, unseen_test (record_at s 0) g e h)
 
   module _ (p : ℕ) (z : p ≡ 0 → ⊥) (r : Reading) (e : said r ≡ record_at s p) where
     fails4_pred : (p : ℕ) → (p ≡ 0 → ⊥) → fails4 (record_at s) p

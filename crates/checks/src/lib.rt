@@ -27,7 +27,10 @@ pub use passes::{first10, first11, first13, place_mark};
 pub fn check3(file: &[u8], p: usize) -> bool
     ensures { result ≡ fails3 (record_at file.now) p }
 {
-    matches!(record_at(file, p), Reading::Refused(_))
+    let Reading::Refused(_) = record_at(file, p) else {
+        return false;
+    };
+    true
 }
 
 // Whether the record kind falls, or the owner among equal kinds 2 to 4.
@@ -336,7 +339,10 @@ fn entry_at(file: &[u8], p: usize) -> Option<Entry>
 fn same_entry(file: &[u8], q: usize, entry: Entry) -> bool
     ensures { result ≡ enters entry.owner entry.to.0 entry.input (record_at file.now q) }
 {
-    entry_at(file, q) == Some(entry)
+    let Some(other) = entry_at(file, q) else {
+        return false;
+    };
+    other == entry
 }
 
 // The first record that enters the child's input which the record at p enters, as an earlier one of two that meet; p where there is none.

@@ -34,7 +34,8 @@ fn id_again(file: &[u8], marks: &mut [u8; 4096], p: usize) -> bool
 }
 
 // 10: an earlier component's id. The first record that fails; the number of records where none does. Crate flatten calls it, check 3 having
-// passed.
+// passed. It stands where it is called, so that its marks have the stack that the checks after it use.
+#[inline(always)]
 pub fn first10(file: &[u8]) -> usize
     requires { Readable file.now }
     ensures { IsFirst (fails10 (record_at file.now)) (record_count file.now) result }
@@ -50,6 +51,7 @@ pub fn first10(file: &[u8]) -> usize
 }
 
 // 11: the primitives so far, this one counted, have too many inputs or outputs. Crate flatten calls it likewise.
+#[inline(always)]
 pub fn first11(file: &[u8]) -> usize
     requires { Readable file.now }
     ensures { IsFirst (fails11 (record_at file.now)) (record_count file.now) result }

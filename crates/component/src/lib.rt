@@ -6,7 +6,8 @@ mod reader;
 
 use kinds::{Fields, Id};
 pub use reader::{
-    component_at, deepest, fields_at, is_primitive_at, is_sized, known_at, loose_at, record_at,
+    component_at, deepest, fields_at, given, is_primitive_at, is_sized, known_at, loose_at,
+    record_at,
 };
 
 // A child, counted below one owner.

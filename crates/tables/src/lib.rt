@@ -15,7 +15,7 @@ pub use rows::{
     kind_word, lay_row, output_count, parameter_word,
 };
 pub use wires::{lay_wire, wire_at};
-pub use words::word;
+pub use words::{entry, word};
 
 // The place of a component in the table of components.
 #[derive(Clone, Copy)]
