@@ -6,14 +6,14 @@ use mathlib.Core.Bool.{true, false}
 use mathlib.Core.List.{List, [], ◌∷◌, ◌++◌, map}
 use lib.ListN.{take, replicate}
 use Rattle.lists.specs.Lists.{from, joined, append_new, strike, overlay}
-use Rattle.kinds.specs.Given.{Given, declined, Verdict}
+use Rattle.kinds.specs.Given.{Given, declined, Verdict, verdict_gives}
 use Rattle.kinds.specs.Kinds.{obeys}
 use Rattle.primitive.specs.Evaluate.{function_of, outputs_after, moved_outputs}
 use Rattle.component.specs.Record.{record_at, record_count}
 use Rattle.component.specs.Drawing.{deepest}
 use Rattle.component.proofs.Drawings.{component_bytes, connection_bytes, input_map_bytes, output_map_bytes, lamp, lamp_twice}
 use Rattle.flatten.specs.Descent.{output_below, inputs_below, comes_from, goes_to}
-use Rattle.flatten.specs.Verdict.{verdict, verdict_gives}
+use Rattle.flatten.specs.Verdict.{verdict}
 use Rattle.meeting.specs.Meeting.{judgement}
 use Rattle.tables.specs.Tables.{wire_words}
 use Rattle.load.specs.Load.{drawing_tables}

@@ -1,7 +1,6 @@
 -- What the questions of the screen's host promise. docs/SPECIFICATION.md, "Rounds" (the host's call) and "Numbers given back". Each promise is the
--- engine's own, by name, and of the call that only checks the number of the check, on the tables that the lent slices and the count words make.
+-- engine's own, by name, on the tables that the lent slices and the count words make.
 --   CallAsks, CallLists   the promises of the calls, by their shape
---   Numbers               what is asked by the call that only checks
 -- `lent` are the seven tables, by their counts; ws are the count words, fs and fs' the words that are lent for an answer's values, before and after;
 -- `few` says that fewer words are lent than the call needs: it then gives 2 and writes nothing. r is what the call says.
 -- Assumes nothing.
@@ -10,7 +9,6 @@ use Rattle.lists.specs.Lists.{overlay}
 use Rattle.kinds.specs.Given.{Given, spoken}
 use Rattle.tables.specs.declared.Counts.{Counts}
 use Rattle.tables.specs.Tables.{Tables}
-use Rattle.net.specs.Net.{net_number}
 use Rattle.questions.specs.Questions.{list_gives}
 use Rattle.words.specs.Words.{counts_in, values_in}
 use Rattle.words.specs.Said.{says_short}
@@ -28,7 +26,3 @@ pub data CallLists (P : Tables → List ℕ → Result ℕ Refusal → List ℕ 
   few_to_list : few ≡ true → r ≡ says_short → ls' ≡ ls → fs' ≡ fs → CallLists P few ws ls ls' fs fs' lent r
   listed : (a : Result ℕ Refusal) → few ≡ false → P (lent (counts_in ws)) ls a ls' → r ≡ spoken (list_gives a)
       → fs' ≡ overlay (values_in (list_gives a)) fs → CallLists P few ws ls ls' fs fs' lent r
-
--- The number of the first check that refuses tables, 0 where none does.
-abbrev pub Numbers : Tables → ℕ → Type 0
-Numbers T k = k ≡ net_number T

@@ -1,9 +1,10 @@
 // Whether tables are a net, called from C.
 ghost use Rattle.std.specs.Prelude.{[]};
-ghost use Rattle.kinds.specs.Given.{giving};
+ghost use Rattle.kinds.specs.Given.{verdict_gives};
 ghost use Rattle.tables.specs.Tables.{tables_of};
+ghost use Rattle.net.specs.Net.{Checks};
 ghost use Rattle.words.specs.Said.{short};
-ghost use Rattle.asking.specs.Asking.{CallAsks, Numbers};
+ghost use Rattle.asking.specs.Asking.{CallAsks};
 
 use tables::Lent;
 use words::{counts_in, speak};
@@ -21,7 +22,7 @@ pub fn berxundar_check(
 ) -> u32
     ensures { let lent = tables_of components.now inputs.now outputs.now wires.now
         current.now following.now standing.now in
-        CallAsks (λ k. giving k []) Numbers (short counts.now 7) counts.now [] [] lent result }
+        CallAsks (λ v. verdict_gives v []) Checks (short counts.now 7) counts.now [] [] lent result }
 {
     if counts.len() < 7 {
         return 131072;

@@ -3,8 +3,9 @@ ghost use Rattle.std.specs.Prelude.{◌||◌, []};
 ghost use Rattle.tables.specs.Tables.{tables_of};
 ghost use Rattle.questions.specs.Questions.{whether_gives, AsksCalm, index_gives, AsksIndex, value_gives, AsksValue, AsksSatisfied, AsksSources, AsksTargets};
 ghost use Rattle.words.specs.Said.{short};
-ghost use Rattle.asking.specs.Asking.{CallAsks, CallLists, Numbers};
-ghost use Rattle.kinds.specs.Given.{giving};
+ghost use Rattle.asking.specs.Asking.{CallAsks, CallLists};
+ghost use Rattle.kinds.specs.Given.{verdict_gives};
+ghost use Rattle.net.specs.Net.{Checks};
 ghost use Rattle.words.specs.Words.{side_of};
 
 // Whether all three lists name only Clocks: a word is lent for the answer, 1 or 0.
@@ -70,7 +71,7 @@ pub extern "C" fn berxundar_check(
 ) -> u32
     ensures { let lent = tables_of components.now inputs.now outputs.now wires.now
         current.now following.now standing.now in
-        CallAsks (λ k. giving k []) Numbers (short counts.now 7) counts.now [] [] lent result }
+        CallAsks (λ v. verdict_gives v []) Checks (short counts.now 7) counts.now [] [] lent result }
 {
     asking::berxundar_check(
         components, inputs, outputs, wires, current, following, standing, counts,

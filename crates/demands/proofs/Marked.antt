@@ -11,8 +11,7 @@ use Rattle.kinds.specs.declared.Kind.TheVariants.{And, Or, Nor, Xor, Splitter, J
 use Rattle.kinds.specs.Kinds.{number_of}
 use Rattle.primitive.specs.Evaluate.{evaluate_number, evaluate_outputs}
 use Rattle.component.specs.Record.{record_at, record_count}
-use Rattle.kinds.specs.Given.{spoken_pair}
-use Rattle.flatten.specs.Verdict.{verdict_gives}
+use Rattle.kinds.specs.Given.{spoken_pair, verdict_gives}
 use Rattle.meeting.specs.Meeting.{judgement}
 use Rattle.laying.specs.Laid.{flat_wires}
 use Rattle.component.proofs.Drawings.{lamp, lamp_twice}

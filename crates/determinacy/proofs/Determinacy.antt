@@ -4,10 +4,9 @@ use mathlib.Core.Path.{◌≡◌, sym, ap, ◌∙◌}
 use mathlib.Core.List.{List, [], ◌∷◌}
 use Prim.Native.Nat.{ℕ}
 use lib.ListN.{length, take}
-use Rattle.kinds.specs.Given.{Given, giving}
+use Rattle.kinds.specs.Given.{Given, giving, verdict_gives}
 use Rattle.primitive.specs.Evaluate.{moved_outputs, evaluate_number, evaluated_gives}
 use Rattle.primitive.proofs.EvaluateLaws.{evaluated_gives-is}
-use Rattle.flatten.specs.Verdict.{verdict_gives}
 use Rattle.meeting.proofs.MeetingLaws.{judges_judgement}
 use Rattle.tables.specs.Tables.{Tables, answer_gives, Changes, sources, targets}
 use Rattle.tables.proofs.AnswerLaws.{answer_gives-is, changes_determined}

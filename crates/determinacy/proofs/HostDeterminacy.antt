@@ -8,7 +8,7 @@ use lib.ListN.{take, drop}
 use Rattle.lists.specs.Lists.{within, overlay}
 use Rattle.component.specs.Record.{record_count}
 use Rattle.kinds.specs.declared.table.Fields.{Fields}
-use Rattle.kinds.specs.Given.{Given, giving, spoken}
+use Rattle.kinds.specs.Given.{Given, Verdict, verdict_gives, spoken}
 use Rattle.primitive.specs.Evaluate.{evaluated_gives}
 use Rattle.tables.specs.declared.Counts.{Counts}
 use Rattle.tables.specs.Tables.{Tables, answer_gives}
@@ -172,7 +172,7 @@ module _ (few : Bool) (ws fs : List ℕ) (lent : Counts → Tables) where
     λ side i port. asks value_gives _ (λ T. determinacy.17 T side i port),
     λ i. lists _ (λ T ls. determinacy.6 T i ls),
     λ i. lists _ (λ T ls. determinacy.7 T i ls),
-    asks (λ (k : ℕ). giving k []) _ (λ T a b x y. x ∙ sym y),
+    asks (λ (v : Verdict). verdict_gives v []) _ determinacy.13,
     evaluates,
     λ file path. looks _ (λ T. determinacy.8 file T path),
     mends,

@@ -7,8 +7,7 @@ use mathlib.Core.List.{List, ◌∷◌}
 use Prim.Native.Nat.{ℕ}
 use lib.ListN.{take, drop}
 use Rattle.lists.specs.Lists.{overlay}
-use Rattle.kinds.specs.Given.{spoken}
-use Rattle.flatten.specs.Verdict.{verdict_gives}
+use Rattle.kinds.specs.Given.{spoken, verdict_gives}
 use Rattle.words.specs.Words.{values_in}
 use Rattle.slow.specs.declared.SlowCounts.{SlowCounts}
 use Rattle.simulator.specs.declared.Ran.{Ran}

@@ -4,10 +4,11 @@
 -- Assumes nothing.
 use Rattle.std.specs.Prelude.{ℕ, ◌≡◌, Bool, List, []}
 use Rattle.kinds.specs.declared.table.Fields.{Fields}
-use Rattle.kinds.specs.Given.{Given, giving}
+use Rattle.kinds.specs.Given.{Given, verdict_gives}
 use Rattle.tables.specs.declared.Counts.{Counts}
 use Rattle.tables.specs.Tables.{Tables}
 use Rattle.load.specs.Load.{Loads}
+use Rattle.net.specs.Net.{Checks}
 use Rattle.questions.specs.declared.Side.{Side}
 use Rattle.simulator.specs.Edit.{Way}
 use Rattle.simulator.specs.Calls.{Rounds, Edits, Runs}
@@ -18,7 +19,7 @@ use Rattle.look.specs.Look.{Looks}
 use Rattle.words.specs.Words.{counts_in}
 use Rattle.words.specs.Said.{CallChanges}
 use Rattle.changing.specs.Changing.{CallMoves, CallRuns}
-use Rattle.asking.specs.Asking.{CallAsks, CallLists, Numbers}
+use Rattle.asking.specs.Asking.{CallAsks, CallLists}
 use Rattle.host.specs.Host.{CallEvaluates, CallLooks, CallMends}
 use Rattle.determinacy.specs.Determined.{Determined}
 use Rattle.std.specs.Prelude.{Result}
@@ -66,7 +67,7 @@ module _ (few : Bool) (ws fs : List ℕ) (lent : Counts → Tables) where
       × ((side : Side) (i port : ℕ) → AsksDetermined value_gives (λ T. AsksValue T side i port))
       × ((i : ℕ) → ListsDetermined (λ T. AsksSources T i))
       × ((i : ℕ) → ListsDetermined (λ T. AsksTargets T i))
-      × AsksDetermined (λ k. giving k []) Numbers
+      × AsksDetermined (λ v. verdict_gives v []) Checks
       × ((f : Fields) (xs vs ys us : List ℕ) (t : ℕ)
       → Determined (λ (r : ℕ) (c : List ℕ × List ℕ). CallEvaluates f xs vs ys us t fs r c.0 c.1))
       × ((file path : List ℕ) → LooksDetermined (λ T. Looks file T path))

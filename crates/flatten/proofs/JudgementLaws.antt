@@ -21,10 +21,10 @@ use Rattle.component.specs.Record.{record_at, sized}
 use Rattle.component.specs.declared.Record.{Record}
 use Rattle.component.specs.Reading.{Readable}
 use Rattle.checks.specs.Checks.{IsFirst}
-use Rattle.flatten.specs.Verdict.{checks, refused, or_later, judged, verdict, verdict_gives}
+use Rattle.flatten.specs.Verdict.{checks, refused, or_later, judged, verdict}
 use Rattle.flatten.specs.Searches.{fails_at, PassedBefore, Judged}
 use Rattle.flatten.proofs.Accepted.{Check, not_accepted, refused_not, no_check, passed_check}
-use Rattle.kinds.specs.Given.{Verdict}
+use Rattle.kinds.specs.Given.{Verdict, verdict_gives}
 use Rattle.std.specs.Prelude.{Ok, Err}
 
 -- What is found is one of the positions looked at.

@@ -3,7 +3,7 @@
 use Rattle.std.specs.Prelude.{◌≡◌, ℕ, Bool, cond, List, [], ◌∷◌}
 use Rattle.std.proofs.Math.Option.{Option, none, some}
 use Rattle.lists.specs.Lists.{from, first, overlay}
-use Rattle.kinds.specs.Given.{Given, done, declined, refusing, spoken, Verdict}
+use Rattle.kinds.specs.Given.{Verdict, verdict_gives, refusing, spoken}
 use Rattle.component.specs.declared.Record.{Record}
 use Rattle.component.specs.Record.{record_at, record_count, sized}
 use Rattle.component.specs.Drawing.{fails3, fails4, fails5, fails6, fails7, fails8, fails9, fails10, fails11, fails12, fails13, fails14}
@@ -33,11 +33,6 @@ judged n (k ∷ ks) = or_later k.0 (first k.1 (from 0 n)) (judged n ks)
 -- The verdict on a file's bytes; check 2 is not made.
 unfoldable pub verdict : List ℕ → Verdict
 verdict file = cond (sized file) (judged (record_count file) (checks (record_at file) (record_count file))) (refused 1 0)
-
--- What each verdict gives; where it is accepted, these values.
-abbrev pub verdict_gives : Verdict → List ℕ → Given
-verdict_gives (Ok _) xs = done xs
-verdict_gives (Err r) xs = declined r
 
 -- A load's own refusal, or else, at position 0, the call's number k.
 abbrev pub and_then : Verdict → ℕ → Verdict

@@ -15,7 +15,9 @@ use component::is_sized;
 use index::fill_index;
 use kinds::{Refusal, refused_by};
 
-// The first of n positions that fails a test; n where none does.
+// The first of n positions that fails a test; n where none does. Where it is called n is the file's count of records, so that once it stands there
+// the loop's end is also the test that a record of the file is read.
+#[inline(always)]
 fn first_failing<F: Fn(usize) -> bool>(n: usize, fails: F) -> usize
     requires { (p : ℕ) → p < n → F.pre fails p }
     ensures { (result ≤ n) × ((p : ℕ) → p < result → F.post fails p false) × (result < n → F.post fails result true) }

@@ -8,9 +8,9 @@ use native.Mathlib.Omega.{arith}
 use lib.ListN.{length}
 use lib.Dec.{eqb, leb, ltb}
 use Rattle.lists.specs.Lists.{overlay, refusal, ◌if◌}
-use Rattle.kinds.specs.Given.{Given, refused_by, spoken, Verdict}
+use Rattle.kinds.specs.Given.{Given, refused_by, spoken, Verdict, verdict_gives}
 use Rattle.component.specs.Record.{record_at, record_count, sized}
-use Rattle.flatten.specs.Verdict.{refused, verdict_gives, and_then}
+use Rattle.flatten.specs.Verdict.{refused, and_then}
 use Rattle.tables.specs.declared.Counts.{Counts}
 use Rattle.tables.specs.Tables.{Tables}
 use Rattle.load.specs.Load.{load_verdict}

@@ -9,9 +9,9 @@ use borrow.Author.Tests.{lt-ltb, le-ltb}
 use lib.ListN.{length}
 use lib.Dec.{leb, ltb}
 use Rattle.lists.specs.Lists.{within, overlay}
-use Rattle.kinds.specs.Given.{Given, refused_by, spoken}
+use Rattle.kinds.specs.Given.{Given, refused_by, spoken, verdict_gives}
 use Rattle.component.specs.Record.{record_count}
-use Rattle.flatten.specs.Verdict.{refused, verdict_gives}
+use Rattle.flatten.specs.Verdict.{refused}
 use Rattle.meeting.specs.Meeting.{judgement}
 use Rattle.mend.specs.declared.Mended.{Mended}
 use Rattle.mend.specs.Mend.{mended, mend_verdict, mend_gives, Mends}

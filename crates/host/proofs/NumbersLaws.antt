@@ -10,10 +10,10 @@ use lib.Dec.{ltb}
 use Rattle.lists.specs.Lists.{◌if◌}
 use Rattle.kinds.specs.declared.table.Fields.{Fields}
 use Rattle.kinds.specs.Kinds.{for_custom, unknown, primitive, obeys, input_width, output_width}
-use Rattle.kinds.specs.Given.{Given, giving, spoken}
+use Rattle.kinds.specs.Given.{Given, giving, spoken, verdict_gives}
 use Rattle.primitive.specs.Evaluate.{fitting, evaluate_number}
 use Rattle.component.specs.Record.{sized}
-use Rattle.flatten.specs.Verdict.{refused, verdict_gives}
+use Rattle.flatten.specs.Verdict.{refused}
 use Rattle.meeting.specs.Meeting.{judgement}
 use Rattle.meeting.proofs.SpokenLaws.{spoken_of, judged_small, cond_small, by_verdict}
 use Rattle.tables.specs.Tables.{Tables, full_size}

@@ -5,7 +5,7 @@ ghost use Rattle.tables.specs.Tables.{tables_of};
 ghost use Rattle.load.specs.Load.{Loads};
 ghost use Rattle.words.specs.Said.{short, CallChanges};
 
-use words::keep;
+use words::keep_loaded;
 
 // Loads a drawing file into the tables.
 pub fn berxundar_load(
@@ -35,5 +35,5 @@ pub fn berxundar_load(
     let answer = load::load(
         file, components, inputs, outputs, wires, current, following, standing,
     );
-    keep(counts, answer)
+    keep_loaded(counts, answer)
 }

@@ -3,6 +3,7 @@
 --   done xs      number 0, with these values
 --   declined r   a refusal's number, position and earlier record, no values
 --   Verdict      accepted, or the refusal
+--   verdict_gives v xs   what a verdict gives: these values where it is accepted
 --   giving k xs  a call of number k: its values at 0, else refused "at position 0"
 --   refusing k   a check of number k: accepted at 0, else refused "at position 0"
 --   spoken g     the host's number
@@ -36,6 +37,11 @@ refused_by k = record { number = k; position = 0; earlier = 0 }
 -- Accepted, or refused.
 abbrev pub Verdict : Type 0
 Verdict = Result (Unit {0}) Refusal
+
+-- What each verdict gives; where it is accepted, these values.
+abbrev pub verdict_gives : Verdict → List ℕ → Given
+verdict_gives (Ok _) xs = done xs
+verdict_gives (Err r) xs = declined r
 
 -- A check of number k: accepted at 0, else refused.
 abbrev pub refusing : ℕ → Verdict

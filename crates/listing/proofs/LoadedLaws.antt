@@ -7,11 +7,10 @@ use native.Mathlib.Omega.{arith}
 use lib.ListN.{length}
 use lib.Seq.{length-sets}
 use Rattle.kinds.specs.declared.answers.Refusal.{Refusal}
-use Rattle.kinds.specs.Given.{done, declined, Verdict}
+use Rattle.kinds.specs.Given.{done, declined, Verdict, verdict_gives}
 use Rattle.kinds.proofs.GivenLaws.{done_declined, declined_refusal}
 use Rattle.component.specs.Record.{IsBytes}
 use Rattle.tables.specs.declared.Counts.{Counts}
-use Rattle.flatten.specs.Verdict.{verdict_gives}
 use Rattle.tables.specs.Tables.{Tables, count_words, answer_gives, counts_after}
 use Rattle.load.specs.Load.{load_verdict, load_tables, Loads}
 use Rattle.net.specs.Net.{net_number}

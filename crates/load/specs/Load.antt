@@ -5,11 +5,11 @@ use Rattle.primitive.specs.Evaluate.{starting}
 use Rattle.component.specs.declared.Record.{Record}
 use Rattle.component.specs.Record.{record_at, record_count, fields_of, sized}
 use Rattle.component.specs.Drawing.{inputs_before, outputs_before}
-use Rattle.flatten.specs.Verdict.{refused, verdict_gives}
+use Rattle.flatten.specs.Verdict.{refused}
 use Rattle.meeting.specs.Meeting.{judgement}
 use Rattle.tables.specs.Tables.{Tables, wire_words, counts_of, tables_of, full_size, answer_gives, Changes}
 use Rattle.laying.specs.Laid.{primitives, primitive_words, flat_wires, standing_at_load}
-use Rattle.kinds.specs.Given.{Verdict}
+use Rattle.kinds.specs.Given.{Verdict, verdict_gives}
 use Rattle.std.specs.Prelude.{Result, Ok, Err}
 use Rattle.tables.specs.declared.Counts.{Counts}
 use Rattle.kinds.specs.declared.answers.Refusal.{Refusal}

@@ -3,11 +3,11 @@
 use Rattle.std.specs.Prelude.{◌≡◌, ℕ, cond, not, ◌&&◌, ◌||◌, List, [], ◌∷◌, ◌++◌, map, length, leb, ltb}
 use Rattle.lists.specs.Lists.{from, refusal, ◌if◌}
 use Rattle.value.specs.declared.Value.{Value}
-use Rattle.kinds.specs.Given.{Given, done, declined, Verdict}
+use Rattle.kinds.specs.Given.{Given, done, declined, Verdict, verdict_gives}
 use Rattle.component.specs.declared.Record.{Record}
 use Rattle.component.specs.Record.{record_at, record_count, inputs_of, outputs_of, sized}
 use Rattle.flatten.specs.Descent.{flat}
-use Rattle.flatten.specs.Verdict.{refused, verdict_gives, and_then, list_by}
+use Rattle.flatten.specs.Verdict.{refused, and_then, list_by}
 use Rattle.tables.specs.Tables.{Tables}
 use Rattle.load.specs.Load.{load_verdict}
 use Rattle.net.specs.Net.{is_net}

@@ -6,14 +6,14 @@ use mathlib.Core.List.{List, [], ◌∷◌, map}
 use lib.ListN.{take, replicate}
 use Rattle.lists.specs.Lists.{append_new, strike, overlay}
 use Rattle.value.specs.declared.Value.{Value}
-use Rattle.kinds.specs.Given.{Given, done, declined}
+use Rattle.kinds.specs.Given.{Given, done, declined, verdict_gives}
 use Rattle.kinds.specs.Kinds.{obeys}
 use Rattle.primitive.specs.Evaluate.{function_of, outputs_after}
 use Rattle.component.specs.Record.{record_at, inputs_of, outputs_of}
 use Rattle.component.specs.Drawing.{deepest}
 use Rattle.component.proofs.Drawings.{lamp, lamp_twice}
 use Rattle.flatten.specs.Descent.{output_below, inputs_below, comes_from, goes_to}
-use Rattle.flatten.specs.Verdict.{verdict, verdict_gives, list_by}
+use Rattle.flatten.specs.Verdict.{verdict, list_by}
 use Rattle.meeting.specs.Meeting.{judgement}
 use Rattle.tables.specs.Tables.{Tables, full_size}
 use Rattle.load.specs.Load.{drawing_tables, load_verdict, load_tables}

@@ -11,7 +11,7 @@ use lib.Dec.{eqb}
 use Rattle.kinds.specs.declared.Id.{Id}
 use Rattle.kinds.specs.declared.table.Fields.{Fields}
 use Rattle.kinds.specs.declared.answers.Refusal.{Refusal}
-use Rattle.kinds.specs.Given.{tells_of_two, Verdict}
+use Rattle.kinds.specs.Given.{tells_of_two, Verdict, verdict_gives}
 use Rattle.component.specs.declared.Record.{Record}
 use Rattle.component.specs.declared.ChildNo.{ChildNo}
 use Rattle.component.specs.declared.Says.{Says}
@@ -22,7 +22,7 @@ use Rattle.component.specs.Record.{record_at}
 use Rattle.component.specs.Reading.{form_of, form_by, said}
 use Rattle.component.specs.Drawing.{earlier_of}
 use Rattle.component.proofs.RecordLaws.{refused_is, taken_form}
-use Rattle.flatten.specs.Verdict.{refused, verdict, verdict_gives}
+use Rattle.flatten.specs.Verdict.{refused, verdict}
 use Rattle.flatten.proofs.Accepted.{not_accepted}
 use Rattle.flatten.proofs.Refusals.{number_in, position_in}
 use Rattle.flatten.proofs.JudgementLaws.{verdict_gives-is, verdict_bound}

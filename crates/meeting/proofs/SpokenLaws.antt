@@ -5,8 +5,7 @@ use mathlib.Core.Bool.{Bool, true, false, cond}
 use mathlib.Core.List.{List, []}
 use Prim.Native.Nat.{ℕ, ◌<◌}
 use native.Mathlib.Omega.{arith}
-use Rattle.kinds.specs.Given.{spoken, Verdict}
-use Rattle.flatten.specs.Verdict.{verdict_gives}
+use Rattle.kinds.specs.Given.{spoken, Verdict, verdict_gives}
 use Rattle.meeting.specs.Meeting.{judgement}
 use Rattle.meeting.proofs.MeetingLaws.{judgement_small}
 use Rattle.std.specs.Prelude.{Ok, Err}

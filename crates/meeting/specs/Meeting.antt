@@ -5,11 +5,11 @@
 -- Assumes nothing.
 use Rattle.std.specs.Prelude.{◌≡◌, ℕ, cond, ◌&&◌, List, [], eqb}
 use Rattle.kinds.specs.declared.answers.Refusal.{Refusal}
-use Rattle.kinds.specs.Given.{spoken_pair, Verdict}
+use Rattle.kinds.specs.Given.{spoken_pair, Verdict, verdict_gives}
 use Rattle.component.specs.declared.Record.{Record}
 use Rattle.component.specs.Record.{record_at}
 use Rattle.component.specs.Drawing.{earlier_of}
-use Rattle.flatten.specs.Verdict.{verdict, verdict_gives}
+use Rattle.flatten.specs.Verdict.{verdict}
 use Rattle.std.specs.Prelude.{Ok, Err}
 
 module _ (at : ℕ → Record) where

@@ -14,9 +14,9 @@ use Rattle.lists.specs.Lists.{within, overlay}
 use Rattle.lists.proofs.TestsLaws.{or_cases, or_left, or_right, and_both}
 use Rattle.lists.proofs.OverlayLaws.{overlay_front}
 use Rattle.kinds.specs.declared.answers.Refusal.{Refusal}
-use Rattle.kinds.specs.Given.{refused_by, Verdict}
+use Rattle.kinds.specs.Given.{refused_by, Verdict, verdict_gives}
 use Rattle.component.specs.Record.{record_count}
-use Rattle.flatten.specs.Verdict.{verdict_gives, list_by}
+use Rattle.flatten.specs.Verdict.{list_by}
 use Rattle.flatten.proofs.JudgementLaws.{verdict_gives-is}
 use Rattle.meeting.specs.Meeting.{judgement, Judges}
 use Rattle.mend.specs.Mend.{mended, dropped, mend_verdict, Mends}

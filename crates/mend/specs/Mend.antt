@@ -8,11 +8,11 @@
 use Rattle.std.specs.Prelude.{◌≡◌, ℕ, ◌%◌, Bool, cond, not, ◌&&◌, ◌||◌, length, get_or, eqb, leb}
 use mathlib.Core.List.{List, [], ◌∷◌, ◌++◌, foldl}
 use Rattle.lists.specs.Lists.{within, from, keep, any, joined, has}
-use Rattle.kinds.specs.Given.{Given, done, declined, Verdict}
+use Rattle.kinds.specs.Given.{Given, done, declined, Verdict, verdict_gives}
 use Rattle.component.specs.declared.Record.{Record}
 use Rattle.component.specs.Record.{part_at, loose_at, record_count, composite, entering, entering_as}
 use Rattle.component.specs.Drawing.{is_component, missing}
-use Rattle.flatten.specs.Verdict.{refused, verdict_gives, list_by}
+use Rattle.flatten.specs.Verdict.{refused, list_by}
 use Rattle.meeting.specs.Meeting.{judgement}
 use Rattle.mend.specs.declared.Mended.{Mended}
 use Rattle.std.specs.Prelude.{Result, Ok, Err}

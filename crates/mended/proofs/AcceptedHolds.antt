@@ -8,10 +8,10 @@ use lib.Dec.{leb}
 use lib.ListN.{length, take}
 use Rattle.lists.specs.Lists.{within, overlay}
 use Rattle.lists.proofs.OverlayLaws.{overlay_front}
-use Rattle.kinds.specs.Given.{done, Verdict}
+use Rattle.kinds.specs.Given.{done, Verdict, verdict_gives}
 use Rattle.kinds.proofs.GivenLaws.{done_values, done_declined}
 use Rattle.component.specs.Record.{record_count}
-use Rattle.flatten.specs.Verdict.{refused, verdict_gives, list_by}
+use Rattle.flatten.specs.Verdict.{refused, list_by}
 use Rattle.flatten.proofs.Accepted.{refused_not}
 use Rattle.meeting.specs.Meeting.{judgement}
 use Rattle.mend.specs.Mend.{mended, dropped, mend_verdict}

@@ -5,12 +5,12 @@ use Prim.Native.Nat.{ℕ, ◌*◌}
 use mathlib.Core.List.{List, [], ◌∷◌, ◌++◌}
 use lib.ListN.{length, take, drop, replicate}
 use Rattle.lists.specs.Lists.{overlay}
-use Rattle.kinds.specs.Given.{Given, done, declined}
+use Rattle.kinds.specs.Given.{Given, done, declined, verdict_gives}
 use Rattle.kinds.specs.Kinds.{obeys}
 use Rattle.component.specs.Drawing.{deepest}
 use Rattle.component.proofs.Drawings.{record_bytes, connection_bytes, input_map_bytes, output_map_bytes, lamp, lamp_twice}
 use Rattle.flatten.specs.Descent.{output_below, inputs_below, comes_from, goes_to}
-use Rattle.flatten.specs.Verdict.{verdict, verdict_gives, list_by}
+use Rattle.flatten.specs.Verdict.{verdict, list_by}
 use Rattle.meeting.specs.Meeting.{judgement}
 use Rattle.mend.specs.Mend.{refused12, kept_records, mended, dropped, mend_verdict}
 

@@ -16,12 +16,12 @@ use Rattle.lists.proofs.TestsLaws.{and_left, and_right, and_right_false}
 use Rattle.lists.proofs.MembersLaws.{any_none, has_complete}
 use Rattle.lists.proofs.MembersLaws.{from0_sound}
 use Rattle.lists.proofs.KeepLaws.{keep_all, keep_no, any_no}
-use Rattle.kinds.specs.Given.{done, Verdict}
+use Rattle.kinds.specs.Given.{done, Verdict, verdict_gives}
 use Rattle.component.specs.declared.Record.{Record}
 use Rattle.component.specs.Record.{record_at, loose_at, record_count, part_at, sized, entering, entering_as}
 use Rattle.component.specs.Reading.{form_of}
 use Rattle.component.proofs.EnteringLaws.{enters_as}
-use Rattle.flatten.specs.Verdict.{verdict, verdict_gives, list_by}
+use Rattle.flatten.specs.Verdict.{verdict, list_by}
 use Rattle.flatten.proofs.Accepted.{record_at-past, accepted_check, accepted_passed, accepted_sized, accepted_readable}
 use Rattle.flatten.proofs.Components.{components_first, owner_composite}
 use Rattle.meeting.specs.Meeting.{judgement}

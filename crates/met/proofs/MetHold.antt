@@ -3,12 +3,12 @@ use mathlib.Core.Path.{◌≡◌, refl}
 use Prim.Native.Nat.{ℕ, ◌+◌, ◌*◌}
 use mathlib.Core.List.{List, [], ◌∷◌, ◌++◌}
 use lib.ListN.{take, drop}
-use Rattle.kinds.specs.Given.{spoken, spoken_pair}
+use Rattle.kinds.specs.Given.{spoken, spoken_pair, verdict_gives}
 use Rattle.kinds.specs.Kinds.{obeys}
 use Rattle.component.specs.Drawing.{deepest}
 use Rattle.component.proofs.Drawings.{component_bytes, connection_bytes, input_map_bytes, output_map_bytes, lamp, lamp_twice}
 use Rattle.flatten.specs.Descent.{output_below, inputs_below, comes_from, goes_to}
-use Rattle.flatten.specs.Verdict.{verdict, verdict_gives}
+use Rattle.flatten.specs.Verdict.{verdict}
 use Rattle.meeting.specs.Meeting.{judgement}
 
 -- The lamp drawing with a second map into the Nor's input 0, as record 11.

@@ -13,7 +13,7 @@ use Rattle.kinds.specs.declared.answers.Refusal.{Refusal}
 use Rattle.kinds.specs.Kinds.{is}
 use Rattle.component.specs.declared.Record.{Record}
 use Rattle.component.specs.Record.{record_at, record_count}
-use Rattle.flatten.specs.Verdict.{verdict, verdict_gives, list_by}
+use Rattle.flatten.specs.Verdict.{verdict, list_by}
 use Rattle.tables.specs.declared.Counts.{Counts}
 use Rattle.tables.specs.Tables.{Tables, tables_of}
 use Rattle.tables.specs.Words.{uncounted}
@@ -37,7 +37,7 @@ use Rattle.slow.specs.Sending.{Drawing, IsPrepared}
 use Rattle.slow.proofs.DrawingLaws.{drawing_evaluates}
 use Rattle.slow.proofs.PreparingLaws.{SlowSizes, slow_full-sound}
 use Rattle.slow.proofs.WiredLaws.{SlowParts, right_sound}
-use Rattle.kinds.specs.Given.{Verdict}
+use Rattle.kinds.specs.Given.{Verdict, verdict_gives}
 use Rattle.std.specs.Prelude.{Ok, Err}
 
 -- A load.

@@ -15,11 +15,11 @@ use Rattle.lists.proofs.TestsLaws.{and_left}
 use Rattle.kinds.specs.declared.answers.Refusal.{Refusal}
 use Rattle.kinds.specs.declared.Kind.TheVariants.{Switch, Input}
 use Rattle.kinds.specs.Kinds.{is, input_width, output_width}
-use Rattle.kinds.specs.Given.{refusing, Verdict}
+use Rattle.kinds.specs.Given.{refusing, Verdict, verdict_gives}
 use Rattle.value.specs.Value.{fits, of_width}
 use Rattle.component.specs.declared.Record.{Record}
 use Rattle.component.specs.Record.{record_at, record_count}
-use Rattle.flatten.specs.Verdict.{verdict, verdict_gives, and_then}
+use Rattle.flatten.specs.Verdict.{verdict, and_then}
 use Rattle.flatten.proofs.WireTheorems.{accepted_primitives_bound}
 use Rattle.tables.specs.Tables.{Tables, fields_at}
 use Rattle.tables.specs.Words.{RowInside, uncounted, fields_fit, fields_in, first_input_in, first_output_in}

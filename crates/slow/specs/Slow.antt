@@ -6,13 +6,13 @@
 --   slow_right S             not 20
 use Rattle.std.specs.Prelude.{◌≡◌, ℕ, Bool, cond, not, ◌&&◌, List, [], ◌∷◌, map, length, replicate, eqb, leb}
 use Rattle.lists.specs.Lists.{from, any, joined, overlay, refusal, ◌if◌}
-use Rattle.kinds.specs.Given.{Given, done, declined, Verdict}
+use Rattle.kinds.specs.Given.{Given, done, declined, Verdict, verdict_gives}
 use Rattle.component.specs.declared.Record.{Record}
 use Rattle.component.specs.Record.{record_at, record_count, sized}
 use Rattle.component.specs.Drawing.{inputs_before, outputs_before}
 use Rattle.flatten.specs.declared.Pin.{Pin}
 use Rattle.flatten.specs.Descent.{comes_from, goes_to, flat}
-use Rattle.flatten.specs.Verdict.{refused, verdict_gives, and_then, list_by}
+use Rattle.flatten.specs.Verdict.{refused, and_then, list_by}
 use Rattle.meeting.specs.Meeting.{judgement}
 use Rattle.tables.specs.declared.Counts.{Counts}
 use Rattle.tables.specs.declared.Wire.{Wire}

@@ -133,7 +133,9 @@ pub(crate) fn prepare(
         × ((k : ℕ) → result ≡ Ok k
         → IsPrepared file.now index.new indexes.new components.new k lent) }
 {
-    judge_lent(file, long, index)?;
+    if let Err(refusal) = judge_lent(file, long, index) {
+        return Err(refusal);
+    }
     let all = lay_components(file, components);
     let count = all.components;
     if !counts_match(counts, all) {

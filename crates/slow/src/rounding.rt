@@ -155,9 +155,10 @@ pub fn run_until_calm(
         index: &index,
         indexes: &indexes,
     };
+    let mut kept = ();
     let made = run_over(
         &drawn,
-        &mut (),
+        &mut kept,
         &components,
         inputs,
         outputs,

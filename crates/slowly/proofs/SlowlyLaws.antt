@@ -14,10 +14,10 @@ use Rattle.lists.specs.Lists.{overlay, refusal, ◌if◌}
 use Rattle.lists.proofs.TestsLaws.{and_right_false, or_left, or_right}
 use Rattle.kinds.specs.declared.Kind.TheVariants.{Switch, Input}
 use Rattle.kinds.specs.Kinds.{is, input_width, output_width}
-use Rattle.kinds.specs.Given.{Given, done, spoken, refused_by, Verdict}
+use Rattle.kinds.specs.Given.{Given, done, spoken, refused_by, Verdict, verdict_gives}
 use Rattle.value.specs.Value.{fits, of_width}
 use Rattle.component.specs.Record.{record_at, record_count, sized}
-use Rattle.flatten.specs.Verdict.{refused, verdict_gives, and_then}
+use Rattle.flatten.specs.Verdict.{refused, and_then}
 use Rattle.meeting.specs.Meeting.{judgement}
 use Rattle.meeting.proofs.SpokenLaws.{spoken_of, judged_small, cond_small, by_verdict}
 use Rattle.tables.specs.Tables.{fields_at}

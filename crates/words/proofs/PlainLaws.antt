@@ -4,7 +4,7 @@
 use mathlib.Core.Path.{◌≡◌, refl, sym, subst}
 use mathlib.Core.Bool.{Bool, true, false, cond, not}
 use mathlib.Core.List.{List, [], ◌∷◌}
-use Prim.Native.Nat.{ℕ, ◌≤◌, ◌<◌}
+use Prim.Native.Nat.{ℕ, ◌*◌, ◌≤◌, ◌<◌}
 use native.Mathlib.Omega.{arith}
 use lib.Dec.{eqb}
 use Rattle.lists.specs.Lists.{refusal, ◌if◌}
@@ -42,8 +42,14 @@ pub record Plain (g : Given) : Type 0 where
   pub small : g.number ≤ 28
   pub at_0 : g.position ≡ 0
 
--- What the call says fits.
+-- Such a number times 65,536 fits, and is what the call says.
 module _ (g : Given) (p : Plain g) where
+  pub plain_fits : g.number < 65536
+  plain_fits = omega (arith, p.small)
+
+  pub plain_spoken : 65536 * g.number ≡ spoken g
+  plain_spoken = omega (arith, p.at_0)
+
   pub plain_small : spoken g < 4294967296
   plain_small = omega (arith, p.small, p.at_0)
 

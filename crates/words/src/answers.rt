@@ -43,8 +43,24 @@ fn lay_words<const N: usize>(lent: &mut [u64], words: [u64; N])
     }
 }
 
-// Lays the words of an answer at the front of lent ones, and says its number and position. A refusal lays nothing. Crates asking, host
-// and slowly call it with the words of their answers, where what is done has room.
+// Lays the words of an answer at the front of lent ones, and says its number. A refusal lays nothing, and its position is not said. `keep` and
+// `lay_run` call it, and any crate may whose answers have no position, where what is done has room.
+pub fn lay_number<const N: usize>(found: &mut [u64], answer: Result<[u64; N], Refusal>) -> u32
+    requires room { (words : List ℕ) → answer ≡ Ok words → N ≤ length found.old }
+    requires small { (words_give answer).number < 65536 }
+    ensures said { result ≡ 65536 * (words_give answer.entry).number }
+    ensures laid { found.new ≡ overlay (values_in (words_give answer.entry)) found.old }
+{
+    match answer {
+        Ok(words) => {
+            lay_words(found, words);
+            0
+        }
+        Err(refusal) => speak(refusal.number),
+    }
+}
+
+// The same with the position said beside the number. Crates asking, host and slowly call it with the words of their answers.
 pub fn lay<const N: usize>(found: &mut [u64], answer: Result<[u64; N], Refusal>) -> u32
     requires room { (words : List ℕ) → answer ≡ Ok words → N ≤ length found.old }
     requires small { spoken (words_give answer) < 4294967296 }
@@ -84,13 +100,13 @@ pub fn lay_ran<C: Copy>(found: &mut [u64], answer: Result<Ran<C>, Refusal>) -> u
     lay(found, answer.map(ran_words))
 }
 
-// The counts of a run, and its three words. Crate changing calls it likewise.
+// The counts of a run, and its three words; the answer says its number. Crate changing calls it likewise.
 pub fn lay_run(words: &mut [u64], found: &mut [u64], answer: Result<Ran<Counts>, Refusal>) -> u32
-    requires { (7 ≤ length words.old) × (3 ≤ length found.old) × (spoken (ran_gives answer) < 4294967296) }
-    ensures { (result ≡ spoken (ran_gives answer))
+    requires { (7 ≤ length words.old) × (3 ≤ length found.old) × ((ran_gives answer).number < 65536) }
+    ensures { (result ≡ 65536 * (ran_gives answer).number)
         × (words.new ≡ overlay (drop 3 (values_in (ran_gives answer))) words.old)
         × (found.new ≡ overlay (take 3 (values_in (ran_gives answer))) found.old) }
 {
-    lay(words, answer.map(ran_counts_words));
-    lay_ran(found, answer)
+    lay_number(words, answer.map(ran_counts_words));
+    lay_number(found, answer.map(ran_words))
 }

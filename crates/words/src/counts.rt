@@ -1,11 +1,11 @@
 // Counts as seven lent words.
-ghost use Rattle.std.specs.Prelude.{◌≡◌, ◌<◌, ◌≤◌, length, get_or};
+ghost use Rattle.std.specs.Prelude.{◌≡◌, ◌*◌, ◌<◌, ◌≤◌, length, get_or};
 ghost use Rattle.lists.specs.Lists.{overlay};
 ghost use Rattle.kinds.specs.Given.{spoken};
 ghost use Rattle.tables.specs.Tables.{count_words, answer_gives};
 ghost use Rattle.words.specs.Words.{counts_in, values_in};
 
-use crate::answers::lay;
+use crate::answers::{lay, lay_number};
 use kinds::Refusal;
 use tables::Counts;
 
@@ -50,9 +50,16 @@ pub(crate) fn counts_words(counts: Counts) -> [u64; 7]
     ]
 }
 
-// Lays the counts of an answer that changed the tables, and says its number and position. Crates changing and host call it where seven count
-// words are lent.
+// Lays the counts of an answer that changed the tables, and says its number. Crate changing calls it where seven count words are lent.
 pub fn keep(words: &mut [u64], answer: Result<Counts, Refusal>) -> u32
+    requires { (7 ≤ length words.old) × ((answer_gives answer).number < 65536) }
+    ensures { (result ≡ 65536 * (answer_gives answer).number) × (words.new ≡ overlay (values_in (answer_gives answer)) words.old) }
+{
+    lay_number(words, answer.map(counts_words))
+}
+
+// The same of a load, whose refusals have a position. Crate host calls it likewise.
+pub fn keep_loaded(words: &mut [u64], answer: Result<Counts, Refusal>) -> u32
     requires { (7 ≤ length words.old) × (spoken (answer_gives answer) < 4294967296) }
     ensures { (result ≡ spoken (answer_gives answer)) × (words.new ≡ overlay (values_in (answer_gives answer)) words.old) }
 {

@@ -5,5 +5,5 @@
 mod answers;
 mod counts;
 
-pub use answers::{lay, lay_ran, lay_run, side_of, speak};
-pub use counts::{count_at, counts_in, keep};
+pub use answers::{lay, lay_number, lay_ran, lay_run, side_of, speak};
+pub use counts::{count_at, counts_in, keep, keep_loaded};

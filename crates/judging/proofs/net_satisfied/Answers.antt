@@ -48,9 +48,9 @@ judge_list-requires-2 c =
     let T = c.args.lent.now in
     let r = c.judge_list in (
       omega (arith, r.auto.should),
-      rw (c.counts-counts.ensures, c.following.ensures) (omega (arith, following_in T c.requires)),
-      rw (c.counts-counts.ensures, c.components-components.ensures, c.inputs-inputs.ensures, c.outputs-outputs.ensures, c.following.ensures)
-          (λ j h. following_judge T c.requires j (omega (arith, h))),
+      rw c.following.ensures (omega (arith, following_in T c.requires, ap (λ (m : Counts). m.following) c.counts-counts.ensures)),
+      rw (c.components-components.ensures, c.inputs-inputs.ensures, c.outputs-outputs.ensures, c.following.ensures)
+          (λ j h. following_judge T c.requires j (omega (arith, h, ap (λ (m : Counts). m.following) c.counts-counts.ensures))),
       (r.ensures.1 (c.if-not-judge_list.false)).0,
     )
 
@@ -65,9 +65,9 @@ judge_list-requires-3 c =
     let T = c.args.lent.now in
     let r = c.judge_list-2 in (
       omega (arith, c.judge_list.auto.should, r.auto.should),
-      rw (c.counts-counts.ensures, c.standing.ensures) (omega (arith, standing_in T c.requires)),
-      rw (c.counts-counts.ensures, c.components-components.ensures, c.inputs-inputs.ensures, c.outputs-outputs.ensures, c.standing.ensures)
-          (λ j h. standing_judge T c.requires j (omega (arith, h))),
+      rw c.standing.ensures (omega (arith, standing_in T c.requires, ap (λ (m : Counts). m.standing) c.counts-counts.ensures)),
+      rw (c.components-components.ensures, c.inputs-inputs.ensures, c.outputs-outputs.ensures, c.standing.ensures)
+          (λ j h. standing_judge T c.requires j (omega (arith, h, ap (λ (m : Counts). m.standing) c.counts-counts.ensures))),
       (r.ensures.1 (c.if-not-judge_list-2.false)).0,
     )
 

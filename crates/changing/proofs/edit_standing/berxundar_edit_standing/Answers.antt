@@ -1,10 +1,11 @@
 -- `berxundar_edit_standing`: too few count words, or what the engine answers.
 -- Assumes nothing.
+use mathlib.Core.Path.{◌∙◌}
 use Rattle.tables.specs.declared.Counts.{Counts}
 use Rattle.tables.specs.Tables.{Tables, tables_of, answer_gives}
 use Rattle.simulator.specs.Edit.{stands}
 use Rattle.simulator.specs.Calls.{Edits}
-use Rattle.words.proofs.PlainLaws.{plain_small}
+use Rattle.words.proofs.PlainLaws.{plain_fits, plain_spoken}
 use Rattle.words.proofs.SaidLaws.{change_short, change_made}
 use Rattle.changing.proofs.ChangingLaws.{edited_plain}
 use Rattle.changing.proofs.edit_standing.berxundar_edit_standing.Goals as goal
@@ -30,7 +31,7 @@ pub keep-requires : goal.keep-requires
 keep-requires c =
     let r = c.edit_standing-answer in (
       c.if-counts-lt7.false,
-      plain_small (answer_gives r.result) (edited_plain (came c.before.before.before.before.before.before.before.before.before.before.before.before.before.before.before.before.before.before.before.before.before.before c.counts_in.result) c.args.index c.args.number (answer_gives r.result) _ r.ensures.0),
+      plain_fits (answer_gives r.result) (edited_plain (came c.before.before.before.before.before.before.before.before.before.before.before.before.before.before.before.before.before.before.before.before.before.before c.counts_in.result) c.args.index c.args.number (answer_gives r.result) _ r.ensures.0),
     )
 
 pub returns : goal.returns
@@ -38,6 +39,7 @@ returns c =
     let m = c.counts_in in
     let r = c.edit_standing-answer in
     let k = c.keep in
+    let p = edited_plain (came c.before.before.before.before.before.before.before.before.before.before.before.before.before.before.before.before.before.before.before.before.before.before.before.before.before m.result) c.args.index c.args.number (answer_gives r.result) _ r.ensures.0 in
     change_made (Edits stands c.args.index c.args.number) c.args.counts.now (came c.before.before.before.before.before.before.before.before.before.before.before.before.before.before.before.before.before.before.before.before.before.before.before.before.before) r.result m.result k.new.words _ k.result
     c.if-counts-lt7.false m.ensures
-    r.ensures k.ensures.0 k.ensures.1
+    r.ensures (k.ensures.0 ∙ plain_spoken (answer_gives r.result) p) k.ensures.1

@@ -1,10 +1,11 @@
 -- `berxundar_round`: too few count words, or what the engine answers.
 -- Assumes nothing.
 use native.Mathlib.Omega.{arith}
+use mathlib.Core.Path.{◌∙◌}
 use Rattle.tables.specs.declared.Counts.{Counts}
 use Rattle.tables.specs.Tables.{Tables, tables_of, answer_gives}
 use Rattle.simulator.specs.Calls.{Rounds}
-use Rattle.words.proofs.PlainLaws.{plain_small}
+use Rattle.words.proofs.PlainLaws.{plain_fits, plain_spoken}
 use Rattle.changing.proofs.ChangingLaws.{round_short, round_answered, rounded_plain}
 use Rattle.changing.proofs.round.berxundar_round.Goals as goal
 use Rattle.changing.proofs.round.berxundar_round.Lts as lts
@@ -28,12 +29,13 @@ returns-then-counts-lt7 c =
 pub keep-requires : goal.keep-requires
 keep-requires c =
     let p = rounded_plain (came c.before.before.before.before.before.before.before.before.before.before.before.before.before.before.before.before.before.before.before.before.before.before.before.before.before.before.before.before.before.before.before.before c.counts_in.result) c.args.moved.now (answer_gives c.round-answer.result) _ c.round-answer.ensures.0.0 in
-    (omega arith, plain_small (answer_gives c.round-answer.result) p)
+    (omega arith, plain_fits (answer_gives c.round-answer.result) p)
 
 pub returns : goal.returns
 returns c =
     let k = c.keep in
     let m = c.counts_in in
     let r = c.round-answer in
+    let p = rounded_plain (came c.before.before.before.before.before.before.before.before.before.before.before.before.before.before.before.before.before.before.before.before.before.before.before.before.before.before.before.before.before.before.before.before.before.before.before m.result) c.args.moved.now (answer_gives r.result) _ r.ensures.0.0 in
     round_answered (λ bs' T a U. Rounds c.args.time c.args.moved.now T a U bs') c.args.counts.now c.args.moved.now (came c.before.before.before.before.before.before.before.before.before.before.before.before.before.before.before.before.before.before.before.before.before.before.before.before.before.before.before.before.before.before.before.before.before.before.before)
-    r.result m.result k.new.words _ _ k.result c.if-counts-lt7.false m.ensures r.ensures k.ensures.0 k.ensures.1
+    r.result m.result k.new.words _ _ k.result c.if-counts-lt7.false m.ensures r.ensures (k.ensures.0 ∙ plain_spoken (answer_gives r.result) p) k.ensures.1

@@ -3,8 +3,7 @@
 use mathlib.Core.Path.{sym, ap, ◌∙◌}
 use native.Mathlib.Omega.{arith}
 use mathlib.Core.List.{[]}
-use Rattle.kinds.specs.Given.{spoken, Verdict}
-use Rattle.flatten.specs.Verdict.{verdict_gives}
+use Rattle.kinds.specs.Given.{spoken, Verdict, verdict_gives}
 use Rattle.flatten.proofs.JudgementLaws.{verdict_bound}
 use Rattle.host.proofs.judge.berxundar_judge.Goals as goal
 

@@ -3,8 +3,7 @@
 use mathlib.Core.Path.{sym, ap, ◌∙◌}
 use native.Mathlib.Omega.{arith}
 use mathlib.Core.List.{[]}
-use Rattle.kinds.specs.Given.{spoken_pair, Verdict}
-use Rattle.flatten.specs.Verdict.{verdict_gives}
+use Rattle.kinds.specs.Given.{spoken_pair, Verdict, verdict_gives}
 use Rattle.meeting.proofs.MeetingLaws.{judges_judgement, judgement_small}
 use Rattle.host.proofs.judge.berxundar_judge_pair.Goals as goal
 

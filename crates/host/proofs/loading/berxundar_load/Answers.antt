@@ -29,12 +29,12 @@ pub returns-then-counts-lt7 : goal.returns-then-counts-lt7
 returns-then-counts-lt7 c =
     load_short _ _ _ (sym c.is_sized.ensures ∙ c.if-not-is_sized.false) c.if-counts-lt7.true
 
-pub keep-requires : goal.keep-requires
-keep-requires c =
+pub keep_loaded-requires : goal.keep_loaded-requires
+keep_loaded-requires c =
     let m = counts_in c.args.counts.now in
     (c.if-counts-lt7.false, load_small c.args.file.now (came c.before.before.before.before.before.before.before.before.before.before.before.before.before.before.before.before.before.before.before.before.before.before.before.before.before.before.before.before.before.before.before.before.before.before.before.before m) (answer_gives c.load-answer.result) _ (c.load-answer.ensures m).0)
 
 pub returns : goal.returns
 returns c =
-    load_made c.args.file.now c.args.counts.now (came c.before.before.before.before.before.before.before.before.before.before.before.before.before.before.before.before.before.before.before.before.before.before.before.before.before.before.before.before.before.before.before.before.before.before.before.before.before.before.before) c.load-answer.result c.keep.new.words _ c.keep.result
-    (sym c.is_sized.ensures ∙ c.if-not-is_sized.false) c.if-counts-lt7.false c.load-answer.ensures c.keep.ensures.0 c.keep.ensures.1
+    load_made c.args.file.now c.args.counts.now (came c.before.before.before.before.before.before.before.before.before.before.before.before.before.before.before.before.before.before.before.before.before.before.before.before.before.before.before.before.before.before.before.before.before.before.before.before.before.before.before) c.load-answer.result c.keep_loaded.new.words _ c.keep_loaded.result
+    (sym c.is_sized.ensures ∙ c.if-not-is_sized.false) c.if-counts-lt7.false c.load-answer.ensures c.keep_loaded.ensures.0 c.keep_loaded.ensures.1

@@ -6,7 +6,6 @@ use mathlib.Core.List.{List}
 use Prim.Native.Nat.{ℕ}
 use native.Mathlib.Omega.{arith}
 use lib.ListN.{length}
-use Rattle.kinds.proofs.GivenLaws.{handed_on}
 use Rattle.flatten.proofs.Accepted.{accepted_readable}
 use Rattle.flatten.proofs.WireTheorems.{accepted_primitives_bound}
 use Rattle.laying.specs.declared.rows.Before.{Before}
@@ -14,19 +13,18 @@ use Rattle.slow.specs.Slow.{slow_tables_of}
 use Rattle.slow.proofs.PreparingLaws.{slow_full-sound, lent_refused, lent_long, lent_accepted, listed, right_counts, right_values, right_consts, right_lists, verdict_20, verdict_right, counts_as, found_lists, laid_words, row_given, values_as, consts_as, names_as, not_ready, ready_is}
 use Rattle.slow.proofs.preparing.prepare.Goals as goal
 
-pub returns-in_err-judge_lent : goal.returns-in_err-judge_lent
-returns-in_err-judge_lent c =
-    rw (handed_on c.from_residual.result _ c.from_residual.ensures.1)
-    (let a = c.args in (
-      lent_refused a.file.now a.long _ _ (sym c.in_err-judge_lent.was ∙ c.judge_lent.ensures.value),
+pub returns-in-Err : goal.returns-in-Err
+returns-in-Err c =
+    let a = c.args in (
+      lent_refused a.file.now a.long _ _ (sym c.in-Err.is ∙ c.judge_lent.ensures.value),
       λ k e. absurd (not_ready _ k e),
-    ))
+    )
 
 -- The load's own checks have passed, so that the file is accepted and the tables are of full size.
 pub lay_components-all-requires : goal.lay_components-all-requires
 lay_components-all-requires c =
     let a = c.args in
-    let passed = sym c.in_ok-judge_lent.was ∙ c.judge_lent.ensures.value in
+    let passed = sym c.in_default.is ∙ c.judge_lent.ensures.value in
     (lent_accepted a.file.now a.long passed, omega (arith, ap (λ (l : List ℕ). length l) c.requires.index_len.2))
 
 -- No way out but the last is ready.
@@ -34,7 +32,7 @@ pub returns-then-not-counts_match : goal.returns-then-not-counts_match
 returns-then-not-counts_match c =
     let a = c.args in
     let S = slow_tables_of a.inputs.now a.outputs.now a.current.now a.following.now a.standing.now a.counts in
-    let passed = sym c.in_ok-judge_lent.was ∙ c.judge_lent.ensures.value in
+    let passed = sym c.in_default.is ∙ c.judge_lent.ensures.value in
     let l = c.lay_components-all in
     let counted = c.counts_match.ensures ∙ counts_as a.file.now a.counts l.result l.ensures.value S refl in (
       rw c.refused_by.ensures (verdict_20 a.file.now S a.long passed (right_counts a.file.now S (sym counted ∙ c.if-not-counts_match.true))),
@@ -45,7 +43,7 @@ pub values_fit-requires : goal.values_fit-requires
 values_fit-requires c =
     let a = c.args in
     let S = slow_tables_of a.inputs.now a.outputs.now a.current.now a.following.now a.standing.now a.counts in
-    let passed = sym c.in_ok-judge_lent.was ∙ c.judge_lent.ensures.value in
+    let passed = sym c.in_default.is ∙ c.judge_lent.ensures.value in
     let l = c.lay_components-all in
     let sizes = slow_full-sound S (c.requires.counts_value (lent_long a.file.now a.long passed)) in
     row_given a.file.now _ a.inputs.now a.outputs.now (lent_accepted a.file.now a.long passed)
@@ -56,7 +54,7 @@ pub returns-then-not-values_fit : goal.returns-then-not-values_fit
 returns-then-not-values_fit c =
     let a = c.args in
     let S = slow_tables_of a.inputs.now a.outputs.now a.current.now a.following.now a.standing.now a.counts in
-    let passed = sym c.in_ok-judge_lent.was ∙ c.judge_lent.ensures.value in
+    let passed = sym c.in_default.is ∙ c.judge_lent.ensures.value in
     let l = c.lay_components-all in
     let words = laid_words a.file.now _ _ l.ensures.components_after c.requires.index_len.2 in
     let many = ap (λ (b : Before). b.components) l.ensures.value in
@@ -71,7 +69,7 @@ pub consts_held-requires : goal.consts_held-requires
 consts_held-requires c i h =
     let a = c.args in
     let S = slow_tables_of a.inputs.now a.outputs.now a.current.now a.following.now a.standing.now a.counts in
-    let passed = sym c.in_ok-judge_lent.was ∙ c.judge_lent.ensures.value in
+    let passed = sym c.in_default.is ∙ c.judge_lent.ensures.value in
     let l = c.lay_components-all in
     let sizes = slow_full-sound S (c.requires.counts_value (lent_long a.file.now a.long passed)) in
     let r = row_given a.file.now _ a.inputs.now a.outputs.now (lent_accepted a.file.now a.long passed)
@@ -83,7 +81,7 @@ pub returns-then-not-consts_held : goal.returns-then-not-consts_held
 returns-then-not-consts_held c =
     let a = c.args in
     let S = slow_tables_of a.inputs.now a.outputs.now a.current.now a.following.now a.standing.now a.counts in
-    let passed = sym c.in_ok-judge_lent.was ∙ c.judge_lent.ensures.value in
+    let passed = sym c.in_default.is ∙ c.judge_lent.ensures.value in
     let l = c.lay_components-all in
     let words = laid_words a.file.now _ _ l.ensures.components_after c.requires.index_len.2 in
     let many = ap (λ (b : Before). b.components) l.ensures.value in
@@ -101,7 +99,7 @@ pub names-requires : goal.names-requires
 names-requires c =
     let a = c.args in
     let S = slow_tables_of a.inputs.now a.outputs.now a.current.now a.following.now a.standing.now a.counts in
-    let passed = sym c.in_ok-judge_lent.was ∙ c.judge_lent.ensures.value in
+    let passed = sym c.in_default.is ∙ c.judge_lent.ensures.value in
     let l = c.lay_components-all in
     let sizes = slow_full-sound S (c.requires.counts_value (lent_long a.file.now a.long passed)) in
     let many = ap (λ (b : Before). b.components) l.ensures.value in
@@ -113,7 +111,7 @@ pub names-requires-2 : goal.names-requires-2
 names-requires-2 c =
     let a = c.args in
     let S = slow_tables_of a.inputs.now a.outputs.now a.current.now a.following.now a.standing.now a.counts in
-    let passed = sym c.in_ok-judge_lent.was ∙ c.judge_lent.ensures.value in
+    let passed = sym c.in_default.is ∙ c.judge_lent.ensures.value in
     let l = c.lay_components-all in
     let sizes = slow_full-sound S (c.requires.counts_value (lent_long a.file.now a.long passed)) in
     let many = ap (λ (b : Before). b.components) l.ensures.value in
@@ -125,7 +123,7 @@ pub names-requires-3 : goal.names-requires-3
 names-requires-3 c =
     let a = c.args in
     let S = slow_tables_of a.inputs.now a.outputs.now a.current.now a.following.now a.standing.now a.counts in
-    let passed = sym c.in_ok-judge_lent.was ∙ c.judge_lent.ensures.value in
+    let passed = sym c.in_default.is ∙ c.judge_lent.ensures.value in
     let l = c.lay_components-all in
     let sizes = slow_full-sound S (c.requires.counts_value (lent_long a.file.now a.long passed)) in
     let many = ap (λ (b : Before). b.components) l.ensures.value in
@@ -143,7 +141,7 @@ pub returns-then-not-names : goal.returns-then-not-names
 returns-then-not-names c =
     let a = c.args in
     let S = slow_tables_of a.inputs.now a.outputs.now a.current.now a.following.now a.standing.now a.counts in
-    let passed = sym c.in_ok-judge_lent.was ∙ c.judge_lent.ensures.value in
+    let passed = sym c.in_default.is ∙ c.judge_lent.ensures.value in
     let l = c.lay_components-all in
     let words = laid_words a.file.now _ _ l.ensures.components_after c.requires.index_len.2 in
     let many = ap (λ (b : Before). b.components) l.ensures.value in
@@ -162,7 +160,7 @@ returns-then-not-names c =
 pub index_flat-requires : goal.index_flat-requires
 index_flat-requires c =
     let a = c.args in
-    let passed = sym c.in_ok-judge_lent.was ∙ c.judge_lent.ensures.value in
+    let passed = sym c.in_default.is ∙ c.judge_lent.ensures.value in
     (accepted_readable a.file.now (lent_accepted a.file.now a.long passed), c.requires.index_len.1)
 
 pub shape_of-index : goal.shape_of-index
@@ -175,7 +173,7 @@ pub returns : goal.returns
 returns c =
     let a = c.args in
     let S = slow_tables_of a.inputs.now a.outputs.now a.current.now a.following.now a.standing.now a.counts in
-    let passed = sym c.in_ok-judge_lent.was ∙ c.judge_lent.ensures.value in
+    let passed = sym c.in_default.is ∙ c.judge_lent.ensures.value in
     let l = c.lay_components-all in
     let words = laid_words a.file.now _ _ l.ensures.components_after c.requires.index_len.2 in
     let many = ap (λ (b : Before). b.components) l.ensures.value in
@@ -192,7 +190,7 @@ returns c =
         ready =
             record {
               accepted = lent_accepted a.file.now a.long passed;
-              indexed = c.judge_lent.ensures.index c.in_ok-judge_lent.was;
+              indexed = c.judge_lent.ensures.index c.in_default.is;
               indexes = c.index_flat.ensures;
             };
         words = words;
